@@ -1,0 +1,8 @@
+-- Facts about regions of addresses, and about the digits of a rounding, over plain numbers.
+pub mod Regions
+pub mod SameRegion
+pub mod SameBounds
+pub mod Digits
+pub mod RoundedParts
+pub mod RoundedAtZero
+pub mod Masks

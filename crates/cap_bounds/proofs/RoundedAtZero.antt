@@ -1,0 +1,30 @@
+-- The rounding at base 0, which CRRL and CRAM show.
+use Rattle.std.proofs.Common.{◌≡◌, ℕ, ◌+◌, ◌-◌, ◌^◌, ◌≤◌, ◌≢◌, ◌*◌, ◌%◌, refl, inl, inr, ◌∙◌, arith}
+use Rattle.std.proofs.lemmas.Bool.{cases_lt}
+use Rattle.std.proofs.lemmas.Nat.Bits.{ones_shl}
+use Rattle.cheri_model.specs.Lengths.{internal_exponent}
+use Rattle.cheri_model.specs.Rounding.{rounding_exponent, rounded_top}
+use Rattle.cheri_model.specs.Alignment.{length_at_zero, alignment_mask}
+use Rattle.cheri_model.proofs.Exponents.{internal_exponent_small, internal_exponent_long}
+use Rattle.cheri_model.proofs.Roundings.{rounding_exponent_at_most, granule_of_rounding, rounding_granule_small, rounding_granule_long, rounded_base_at_most}
+
+pub length_is_top : (len : ℕ) → rounded_top 0 len ≡ length_at_zero len
+length_is_top len = omega (arith, rounded_base_at_most 0 len)
+
+pub mask_short : (len : ℕ) → len ≤ 2 ^ 64 → internal_exponent len ≡ 0 → 2 ^ 64 - 1 ≡ alignment_mask len
+unfolding alignment_mask
+mask_short len fits short =
+    elim (cases_lt len (2 ^ 12)) [
+      | inl small ↦ rw (granule_of_rounding 0 len fits, rounding_granule_small 0 len small) refl
+      | inr long ↦ absurd (omega (arith, internal_exponent_long len long))
+    ]
+
+pub mask_long : (len e : ℕ) → len ≤ 2 ^ 64 → internal_exponent len ≢ 0 → e ≡ rounding_exponent 0 len → (2 ^ 64 - 1) * 2 ^ (e + 3) % 2 ^ 64 ≡ alignment_mask len
+unfolding alignment_mask
+mask_long len e fits not_short same_e =
+    elim (cases_lt len (2 ^ 12)) [
+      | inl small ↦ absurd (not_short (internal_exponent_small len small))
+      | inr long ↦
+          ones_shl 64 (e + 3) (omega (arith, rounding_exponent_at_most 0 len fits)) ∙
+          rw (granule_of_rounding 0 len fits, rounding_granule_long 0 len long, ← same_e) refl
+    ]

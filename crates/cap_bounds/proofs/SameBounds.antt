@@ -1,0 +1,62 @@
+-- The bounds of a word are the same with two addresses exactly where the addresses' regions begin at the same
+-- place modulo 2^64.
+use Rattle.std.proofs.Common.{◌≡◌, ℕ, ◌+◌, ◌%◌, ◌^◌, ◌<◌, ◌≤◌, ◌==◌, arith, sym, ◌∙◌, ap, inl, inr}
+use Rattle.std.proofs.lemmas.Bool.{cases_lt, cases_Bool}
+use Rattle.cheri_model.specs.Fields.{word_ie, word_exponent, word_b, word_t14}
+use Rattle.cheri_model.specs.RawBounds.{region_start, region_offset, raw_base, uncorrected_top, corrected_top, raw_top}
+use Rattle.cap_bounds.proofs.SameRegion.{start_51, start_52, top_from_start}
+
+exponent_at_most : (meta : ℕ) → word_exponent meta ≤ 52
+unfolding word_exponent
+exponent_at_most meta =
+    elim (cases_Bool (word_ie meta == 0)) [
+      | inl none ↦ rw none (omega arith)
+      | inr some ↦ rw some (omega arith)
+    ]
+
+-- the same top from the same bases, where the regions begin at the same place modulo 2^64
+top_alike : (e b base old new more : ℕ) → e ≤ 52 → base < 2 ^ 64 →
+    region_start e b old % 2 ^ 64 ≡ region_start e b new % 2 ^ 64 →
+    corrected_top e base ((region_start e b new + more) % 2 ^ 65) ≡ corrected_top e base ((region_start e b old + more) % 2 ^ 65)
+top_alike e b base old new more most low same =
+    elim (cases_lt e 51) [
+      | inl small ↦ top_from_start e base (region_start e b old) (region_start e b new) more small low same
+      | inr large ↦
+          let fixed : region_start e b old % 2 ^ 65 ≡ region_start e b new % 2 ^ 65 = at_51_or_52 e b old new most large in
+          let equal : (region_start e b new + more) % 2 ^ 65 ≡ (region_start e b old + more) % 2 ^ 65 = omega arith in
+          ap (corrected_top e base) equal
+    ]
+  where
+    at_51_or_52 : (e b old new : ℕ) → e ≤ 52 → 51 ≤ e → region_start e b old % 2 ^ 65 ≡ region_start e b new % 2 ^ 65
+    at_51_or_52 e b old new most large =
+        elim (cases_lt e 52) [
+          | inl less ↦ let is : e ≡ 51 = omega arith in rw is (start_51 b old ∙ sym (start_51 b new))
+          | inr not_less ↦ let is : e ≡ 52 = omega arith in rw is (start_52 b old ∙ sym (start_52 b new))
+        ]
+
+-- equal bases come from regions that begin at the same place modulo 2^64
+pub start_from_base : (meta old new : ℕ) → raw_base meta new ≡ raw_base meta old →
+    region_start (word_exponent meta) (word_b meta) old % 2 ^ 64 ≡ region_start (word_exponent meta) (word_b meta) new % 2 ^ 64
+unfolding raw_base
+start_from_base meta old new equal = omega arith
+
+pub base_from_start : (meta old new : ℕ) →
+    region_start (word_exponent meta) (word_b meta) old % 2 ^ 64 ≡ region_start (word_exponent meta) (word_b meta) new % 2 ^ 64 →
+    raw_base meta new ≡ raw_base meta old
+unfolding raw_base
+base_from_start meta old new same = omega arith
+
+base_below : (meta addr : ℕ) → raw_base meta addr < 2 ^ 64
+unfolding raw_base
+base_below meta addr = omega arith
+
+pub top_from_start_of_word : (meta old new : ℕ) →
+    region_start (word_exponent meta) (word_b meta) old % 2 ^ 64 ≡ region_start (word_exponent meta) (word_b meta) new % 2 ^ 64 →
+    raw_top meta new ≡ raw_top meta old
+unfolding raw_top uncorrected_top
+top_from_start_of_word meta old new same =
+    let equal : raw_base meta new ≡ raw_base meta old = base_from_start meta old new same in
+    rw equal
+    (top_alike (word_exponent meta) (word_b meta) (raw_base meta old) old new
+    (region_offset (word_exponent meta) (word_b meta) (word_t14 meta))
+    (exponent_at_most meta) (base_below meta old) same)

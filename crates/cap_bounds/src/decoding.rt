@@ -1,0 +1,216 @@
+//! The bounds of every 128-bit word (CHERI Concentrate, section 3.2; CHERI ISA version 9, section 3.5.4).
+//!
+//! All is counted in steps of 2^E: where the address's region begins, and how far into it each bound lies. The
+//! one shift by E comes last, so that no size of a region is computed and no shift is too far.
+
+ghost use Rattle.std.specs.Prelude.{◌≡◌, ◌+◌, ◌-◌, ◌*◌, ◌%◌, ◌^◌, ◌≤◌, ◌<◌};
+ghost use Rattle.cheri_model.specs.Fields.{word_exponent, word_b};
+ghost use Rattle.cheri_model.specs.RawBounds.{region_floor, region_start, raw_base, raw_top, corrected_top};
+
+use crate::word::{b_digits, exponent_field, full_t_digits};
+
+/// The length of a region in steps of 2^E.
+const REGION_STEPS: u64 = 1 << 14;
+
+/// From this exponent on, the top's bit 64 stays as it is.
+const FIRST_UNCORRECTED_EXPONENT: u8 = 51;
+
+/// The base and the top of the word with this upper half and this address, tagged or not.
+///
+/// The base is below 2^64 and the top below 2^65. The top of a word that no instruction makes may lie below its
+/// base.
+#[tactic(auto, using(crate::proofs::Regions::same_below_64, crate::proofs::Regions::same_below_65), unfolding(cheri_model::specs::RawBounds::raw_base, cheri_model::specs::RawBounds::raw_top, cheri_model::specs::RawBounds::uncorrected_top, cheri_model::specs::RawBounds::region_offset))]
+pub fn decode(meta: u64, addr: u64) -> (u64, u128)
+    ensures base { result.0 ≡ raw_base meta addr }
+    ensures top { result.1 ≡ raw_top meta addr }
+{
+    let e = exponent_field(meta);
+    let b = b_digits(meta);
+    let start = region_steps(e, b, addr);
+    let base = address_of_steps(e, start + offset_steps(b, b));
+    let top = top_of_steps(e, start + offset_steps(b, full_t_digits(meta)));
+    (base, with_top_bit(e, base, top))
+}
+
+/// Where the region of the address begins, modulo 2^64.
+#[tactic(auto, using(crate::proofs::Regions::start_below_64))]
+pub(crate) fn region_origin(meta: u64, addr: u64) -> u64
+    ensures { result ≡ region_start (word_exponent meta) (word_b meta) addr % 2 ^ 64 }
+{
+    let e = exponent_field(meta);
+    address_of_steps(e, region_steps(e, b_digits(meta), addr))
+}
+
+/// Where regions begin, modulo their size, in steps of 2^E: one step of the top three bits of B below them.
+#[tactic(auto, unfolding(cheri_model::specs::RawBounds::region_floor))]
+fn floor_steps(b: u16) -> u64
+    requires { b < 2 ^ 14 }
+    ensures value { result ≡ region_floor b }
+    ensures below { result < 2 ^ 14 }
+{
+    u64::from(((b >> 11) + 7) % 8) << 11
+}
+
+/// Where the region of the address begins, in steps of 2^E. It is counted from 2^66 steps below 0, as it may lie
+/// below 0; the model counts it from 2^66 below 0. Either is 0 modulo 2^65.
+#[tactic(auto, using(crate::proofs::Regions::steps_of_start), unfolding(cheri_model::specs::RawBounds::region_start))]
+fn region_steps(e: u8, b: u16, addr: u64) -> u128
+    requires exponent { e ≤ 52 }
+    requires digits { b < 2 ^ 14 }
+    ensures value { result * 2 ^ e + 2 ^ 66 ≡ region_start e b addr + 2 ^ 66 * 2 ^ e }
+    ensures below { result < 2 ^ 67 }
+{
+    let place = addr >> e;
+    let beyond = (place % REGION_STEPS + REGION_STEPS - floor_steps(b)) % REGION_STEPS;
+    (1 << 66) + u128::from(place) - u128::from(beyond)
+}
+
+/// How far into its region the bound with these fourteen digits lies, in steps of 2^E.
+fn offset_steps(b: u16, digits: u16) -> u128
+    requires b_below { b < 2 ^ 14 }
+    requires digits_below { digits < 2 ^ 14 }
+    ensures value { result ≡ (digits + 2 ^ 14 - region_floor b) % 2 ^ 14 }
+    ensures below { result < 2 ^ 14 }
+{
+    u128::from((u64::from(digits) + REGION_STEPS - floor_steps(b)) % REGION_STEPS)
+}
+
+/// The address that lies this many steps up, going round at 2^64.
+fn address_of_steps(e: u8, steps: u128) -> u64
+    requires exponent { e ≤ 52 }
+    requires fit { steps < 2 ^ 68 }
+    ensures { result ≡ steps * 2 ^ e % 2 ^ 64 }
+{
+    ((steps << e) % (1 << 64)) as u64
+}
+
+/// The top that lies this many steps up, going round at 2^65. Its bit 64 may still be wrong.
+fn top_of_steps(e: u8, steps: u128) -> u128
+    requires exponent { e ≤ 52 }
+    requires fit { steps < 2 ^ 68 }
+    ensures value { result ≡ steps * 2 ^ e % 2 ^ 65 }
+    ensures below { result < 2 ^ 65 }
+{
+    (steps << e) % (1 << 65)
+}
+
+/// The top with its bit 64 inverted where base and top would else lie too far apart.
+#[tactic(auto, unfolding(cheri_model::specs::RawBounds::corrected_top))]
+fn with_top_bit(e: u8, base: u64, top: u128) -> u128
+    requires { top < 2 ^ 65 }
+    ensures { result ≡ corrected_top e base top }
+{
+    if e >= FIRST_UNCORRECTED_EXPONENT {
+        return top;
+    }
+    let apart = ((top >> 63) + 4 - u128::from(base >> 63)) % 4;
+    if apart > 1 { top ^ (1 << 64) } else { top }
+}
+
+#[cfg(test)]
+mod tests {
+    use super::*;
+    use cheri_plain::raw_bounds::{base_of_word, top_of_word};
+
+    /// Words as upper half and address, with their bases and tops.
+    const DECODED: [(u64, u64, u64, u128); 19] = [
+        // The root capability, and one of sixteen bytes with addresses at both ends of its window and beyond.
+        (0xffff_0000_0000_0000, 0, 0, 0x1_0000_0000_0000_0000),
+        (0xffff_0000_0405_8004, 0x8000_0000, 0x8000_0000, 0x8000_0010),
+        (0xffff_0000_0405_8004, 0x7fff_f800, 0x8000_0000, 0x8000_0010),
+        (0xffff_0000_0405_8004, 0x8000_37ff, 0x8000_0000, 0x8000_0010),
+        (0xffff_0000_0405_8004, 0x7fff_f7ff, 0x7fff_c000, 0x7fff_c010),
+        (0xffff_0000_0405_8004, 0x8000_3800, 0x8000_4000, 0x8000_4010),
+        // A window that begins below address 0.
+        (0xffff_0000_0405_8004, 0xffff_ffff_ffff_f800, 0, 0x10),
+        (
+            0xffff_0000_0405_8004,
+            0xffff_ffff_ffff_f7ff,
+            0xffff_ffff_ffff_c000,
+            0xffff_ffff_ffff_c010,
+        ),
+        // The last sixteen bytes of the address space: at address 0 the top's bit 64 is inverted.
+        (
+            0xffff_0000_0401_bff4,
+            0xffff_ffff_ffff_fff0,
+            0xffff_ffff_ffff_fff0,
+            0x1_0000_0000_0000_0000,
+        ),
+        (
+            0xffff_0000_0401_bff4,
+            0,
+            0xffff_ffff_ffff_fff0,
+            0x1_0000_0000_0000_0000,
+        ),
+        (
+            0xffff_0000_0401_bff4,
+            0x2fff,
+            0xffff_ffff_ffff_fff0,
+            0x1_0000_0000_0000_0000,
+        ),
+        (0xffff_0000_0401_bff4, 0x3000, 0x3ff0, 0x4000),
+        // Words that no instruction makes: exponent 60, null's word, and two with other fields.
+        (0x4000, 0, 0, 0x1_0000_0000_0000_0000),
+        (0, 0, 0, 0x1_0000_0000_0000_0000),
+        (0x1000, 0, 0, 0),
+        (0x1000_0000, 0, 0, 0x1_0000_0000_0000_0000),
+        // Lengths of 17, 100 and 4096 bytes.
+        (0xffff_0000_0405_c004, 0x8000_0000, 0x8000_0000, 0x8000_0011),
+        (0x000c_0000_0418_8004, 0x8000_0000, 0x8000_0000, 0x8000_0064),
+        (0x000c_0000_0001_8004, 0x8000_0000, 0x8000_0000, 0x8000_1000),
+    ];
+
+    #[test]
+    fn decodes_known_words(rt: HostRuntime) {
+        for (meta, addr, base, top) in DECODED {
+            assert_eq!(rt;
+                decode(meta, addr),
+                (base, top),
+                "upper half {meta:x}, address {addr:x}"
+            );
+        }
+    }
+
+    #[test]
+    fn caps_the_exponent(rt: HostRuntime) {
+        for exponent in 0..64_u64 {
+            let meta = ((exponent / 8 ^ 6) << 14) + (exponent % 8 ^ 4);
+            let capped = if exponent < 52 { exponent } else { 52 };
+            assert_eq!(rt;
+                decode(meta, 0),
+                (0, 1 << capped + 12),
+                "exponent {exponent}"
+            );
+        }
+    }
+
+    /// The next number of a xorshift generator.
+    fn next(state: u64) -> u64 {
+        let a = state ^ (state << 13);
+        let b = a ^ (a >> 7);
+        b ^ (b << 17)
+    }
+
+    #[test]
+    fn decodes_as_the_plain_program(rt: HostRuntime) {
+        let mut state = 0x9e37_79b9_7f4a_7c15;
+        for _ in 0..10_000 {
+            let meta = next(state);
+            let wide = next(meta);
+            let shift = next(wide);
+            state = shift;
+            let addr = wide >> (shift & 63);
+            let (base, top) = decode(meta, addr);
+            assert_eq!(rt;
+                u128::from(base),
+                base_of_word(meta, addr),
+                "upper half {meta:x}, address {addr:x}"
+            );
+            assert_eq!(rt;
+                top,
+                top_of_word(meta, addr),
+                "upper half {meta:x}, address {addr:x}"
+            );
+        }
+    }
+}

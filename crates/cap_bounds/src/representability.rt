@@ -1,0 +1,49 @@
+//! Which change of the address keeps a word's bounds (CHERI Concentrate, section 3.2).
+
+ghost use Rattle.std.specs.Prelude.{◌≡◌, ◌↔◌, IsTrue};
+ghost use Rattle.cheri_model.specs.RawBounds.{raw_base, raw_top};
+
+use crate::decoding::region_origin;
+
+/// Whether the bounds are the same with both addresses.
+///
+/// That is so exactly where the regions of both addresses begin at the same place modulo 2^64: where two tops then
+/// differ in bit 64, the last correction takes them to one.
+#[tactic(auto, using(crate::proofs::SameBounds::start_from_base, crate::proofs::SameBounds::base_from_start, crate::proofs::SameBounds::top_from_start_of_word))]
+pub fn representable(meta: u64, old: u64, new: u64) -> bool
+    ensures { IsTrue result ↔ ((raw_base meta new ≡ raw_base meta old) × (raw_top meta new ≡ raw_top meta old)) }
+{
+    region_origin(meta, old) == region_origin(meta, new)
+}
+
+#[cfg(test)]
+mod tests {
+    use super::*;
+
+    /// Upper halves with an address, another address, and whether the bounds stay.
+    const MOVED: [(u64, u64, u64, bool); 12] = [
+        (0xffff_0000_0405_8004, 0x8000_0000, 0x7fff_f800, true),
+        (0xffff_0000_0405_8004, 0x8000_0000, 0x8000_37ff, true),
+        (0xffff_0000_0405_8004, 0x8000_0000, 0x7fff_f7ff, false),
+        (0xffff_0000_0405_8004, 0x8000_0000, 0x8000_3800, false),
+        (0xffff_0000_0405_8004, 0, 0xffff_ffff_ffff_f800, true),
+        (0xffff_0000_0405_8004, 0, 0xffff_ffff_ffff_f7ff, false),
+        (0xffff_0000_0401_bff4, 0xffff_ffff_ffff_fff0, 0, true),
+        (0xffff_0000_0401_bff4, 0xffff_ffff_ffff_fff0, 0x2fff, true),
+        (0xffff_0000_0401_bff4, 0xffff_ffff_ffff_fff0, 0x3000, false),
+        (0xffff_0000_0000_0000, 0, 0xffff_ffff_ffff_ffff, true),
+        (0, 0x1234, 0xffff_ffff_ffff_ffff, true),
+        (0x1_8004, 0, 0x4000, false),
+    ];
+
+    #[test]
+    fn keeps_bounds_inside_the_window(rt: HostRuntime) {
+        for (meta, old, new, kept) in MOVED {
+            assert_eq!(rt;
+                representable(meta, old, new),
+                kept,
+                "upper half {meta:x}, from {old:x} to {new:x}"
+            );
+        }
+    }
+}

@@ -1,0 +1,200 @@
+//! The fields of a 128-bit word, taken out of its upper half (CHERI ISA version 9, section 3.5).
+
+ghost use Rattle.std.specs.Prelude.{◌≡◌, ◌≤◌, ◌<◌, ◌^◌};
+ghost use Rattle.cheri_model.specs.Fields.{with_null_fields, word_perms, word_otype, word_flag, word_reserved, word_ie, stored_t, stored_b, word_exponent, word_b, word_t, word_t14};
+
+use crate::parts::Fields;
+
+/// The upper half of the null capability's fields, with which every word in memory is exclusive-or'ed.
+const NULL_FIELDS: u64 = 0x0000_1FFF_FC01_8004;
+
+/// The greatest exponent: a greater one in a word counts as this one.
+const MAX_EXPONENT: u8 = 52;
+
+/// The fields of the word with this upper half.
+pub fn fields(meta: u64) -> Fields
+    ensures perms { result.perms ≡ word_perms meta }
+    ensures otype { result.otype ≡ word_otype meta }
+    ensures flag { result.flag ≡ word_flag meta }
+    ensures reserved { result.reserved ≡ word_reserved meta }
+    ensures ie { result.ie ≡ word_ie meta }
+    ensures e { result.e ≡ word_exponent meta }
+{
+    Fields {
+        perms: perms_field(meta),
+        otype: otype_field(meta),
+        flag: flag_field(meta),
+        reserved: reserved_field(meta),
+        ie: ie_field(meta),
+        e: exponent_field(meta),
+    }
+}
+
+/// The fields as they stand, without the exclusive-or.
+#[tactic(auto, unfolding(cheri_model::specs::Fields::with_null_fields))]
+fn plain_fields(meta: u64) -> u64
+    ensures { result ≡ with_null_fields meta }
+{
+    meta ^ NULL_FIELDS
+}
+
+#[tactic(auto, unfolding(cheri_model::specs::Fields::word_perms))]
+fn perms_field(meta: u64) -> u32
+    ensures { result ≡ word_perms meta }
+{
+    let field = (plain_fields(meta) >> 48) as u32;
+    (field >> 12 << 15) | (field & 0xfff)
+}
+
+#[tactic(auto, unfolding(cheri_model::specs::Fields::word_otype))]
+fn otype_field(meta: u64) -> u32
+    ensures { result ≡ word_otype meta }
+{
+    ((plain_fields(meta) >> 27) & 0x3_ffff) as u32
+}
+
+#[tactic(auto, unfolding(cheri_model::specs::Fields::word_flag))]
+fn flag_field(meta: u64) -> u8
+    ensures { result ≡ word_flag meta }
+{
+    ((plain_fields(meta) >> 45) & 1) as u8
+}
+
+#[tactic(auto, unfolding(cheri_model::specs::Fields::word_reserved))]
+fn reserved_field(meta: u64) -> u8
+    ensures { result ≡ word_reserved meta }
+{
+    ((plain_fields(meta) >> 46) & 3) as u8
+}
+
+#[tactic(auto, unfolding(cheri_model::specs::Fields::word_ie))]
+fn ie_field(meta: u64) -> u8
+    ensures value { result ≡ word_ie meta }
+    ensures below { result < 2 }
+{
+    ((plain_fields(meta) >> 26) & 1) as u8
+}
+
+/// T as it stands: with IE 1 its low three bits are the exponent's high ones.
+#[tactic(auto, unfolding(cheri_model::specs::Fields::stored_t))]
+fn stored_t_field(meta: u64) -> u16
+    ensures value { result ≡ stored_t meta }
+    ensures below { result < 2 ^ 12 }
+{
+    ((plain_fields(meta) >> 14) & 0xfff) as u16
+}
+
+/// B as it stands: with IE 1 its low three bits are the exponent's low ones.
+#[tactic(auto, unfolding(cheri_model::specs::Fields::stored_b))]
+fn stored_b_field(meta: u64) -> u16
+    ensures value { result ≡ stored_b meta }
+    ensures below { result < 2 ^ 14 }
+{
+    (plain_fields(meta) & 0x3fff) as u16
+}
+
+/// The exponent E, at most 52.
+#[tactic(auto, unfolding(cheri_model::specs::Fields::word_exponent))]
+pub(crate) fn exponent_field(meta: u64) -> u8
+    ensures value { result ≡ word_exponent meta }
+    ensures at_most { result ≤ 52 }
+{
+    if ie_field(meta) == 0 {
+        return 0;
+    }
+    let high = (stored_t_field(meta) & 7) as u8;
+    let low = (stored_b_field(meta) & 7) as u8;
+    (8 * high + low).min(MAX_EXPONENT)
+}
+
+/// B, in which the bits of the exponent count as 0.
+#[tactic(auto, unfolding(cheri_model::specs::Fields::word_b))]
+pub(crate) fn b_digits(meta: u64) -> u16
+    ensures value { result ≡ word_b meta }
+    ensures below { result < 2 ^ 14 }
+{
+    let stored = stored_b_field(meta);
+    if ie_field(meta) == 0 {
+        stored
+    } else {
+        stored >> 3 << 3
+    }
+}
+
+/// The twelve stored bits of T, in which the bits of the exponent count as 0.
+#[tactic(auto, unfolding(cheri_model::specs::Fields::word_t))]
+fn t_digits(meta: u64) -> u16
+    ensures value { result ≡ word_t meta }
+    ensures below { result < 2 ^ 12 }
+{
+    let stored = stored_t_field(meta);
+    if ie_field(meta) == 0 {
+        stored
+    } else {
+        stored >> 3 << 3
+    }
+}
+
+/// T of fourteen bits: the two that are not stored follow from B, from a carry where T's stored bits lie below
+/// B's, and from IE (CHERI Concentrate, section 3.2).
+#[tactic(auto, unfolding(cheri_model::specs::Fields::word_t14))]
+pub(crate) fn full_t_digits(meta: u64) -> u16
+    ensures value { result ≡ word_t14 meta }
+    ensures below { result < 2 ^ 14 }
+{
+    let b = b_digits(meta);
+    let t = t_digits(meta);
+    let carry = u16::from(t < (b & 0xfff));
+    let high = ((b >> 12) + carry + u16::from(ie_field(meta))) % 4;
+    (high << 12) | t
+}
+
+#[cfg(test)]
+mod tests {
+    use super::*;
+
+    const UNSEALED: u32 = 0x3_ffff;
+
+    fn of_word(perms: u32, otype: u32, flag: u8, reserved: u8, ie: u8, e: u8) -> Fields {
+        Fields {
+            perms,
+            otype,
+            flag,
+            reserved,
+            ie,
+            e,
+        }
+    }
+
+    #[test]
+    fn takes_known_words_apart(rt: HostRuntime) {
+        let table = [
+            (0, of_word(0, UNSEALED, 0, 0, 1, 52)),
+            (0x1000, of_word(0, UNSEALED, 0, 0, 1, 52)),
+            (0x4000, of_word(0, UNSEALED, 0, 0, 1, 52)),
+            (0x1_8004, of_word(0, UNSEALED, 0, 0, 1, 0)),
+            (0x1000_0000, of_word(0, 262_141, 0, 0, 1, 52)),
+            (
+                0xffff_0000_0000_0000,
+                of_word(0x7_8fff, UNSEALED, 0, 0, 1, 52),
+            ),
+            (
+                0xffff_0000_0405_8004,
+                of_word(0x7_8fff, UNSEALED, 0, 0, 0, 0),
+            ),
+            (
+                0xffff_2000_0405_8004,
+                of_word(0x7_8fff, UNSEALED, 1, 0, 0, 0),
+            ),
+            (
+                0xffff_0000_2405_8004,
+                of_word(0x7_8fff, 262_139, 0, 0, 0, 0),
+            ),
+            (0x1005_0000_0405_8004, of_word(0x8005, UNSEALED, 0, 0, 0, 0)),
+            (0x000c_c000_0418_8004, of_word(0xc, UNSEALED, 0, 3, 0, 0)),
+        ];
+        for (meta, parts) in table {
+            assert_eq!(rt; fields(meta), parts, "upper half {meta:x}");
+        }
+    }
+}

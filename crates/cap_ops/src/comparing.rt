@@ -1,0 +1,47 @@
+//! Comparisons of two values, tagged or not (CHERI ISA version 9, chapter 7).
+
+ghost use Rattle.std.specs.Prelude.{◌≡◌};
+ghost use Rattle.cheri_model.specs.Readings.{same_tag, is_subset, is_equal_exact};
+
+use crate::cap::Cap;
+
+/// Whether two tags are equal.
+fn same_tag(first: bool, second: bool) -> bool
+    ensures { result ≡ same_tag first second }
+{
+    if first { second } else { !second }
+}
+
+impl Cap {
+    /// Whether the tags are equal, and the other's bounds and permissions lie in this one's (CTestSubset). Object
+    /// types are not compared.
+    #[tactic(auto, unfolding(cheri_model::specs::Readings::is_subset))]
+    pub fn test_subset(self, other: Cap) -> bool
+        ensures { result ≡ is_subset self other }
+    {
+        if !same_tag(self.tag(), other.tag()) {
+            return false;
+        }
+        let (base, top) = self.bounds();
+        let (other_base, other_top) = other.bounds();
+        if base > other_base {
+            return false;
+        }
+        if other_top > top {
+            return false;
+        }
+        let perms = other.permission_bits();
+        perms & self.permission_bits() == perms
+    }
+
+    /// Whether the tags and the words are equal (CSetEqualExact).
+    #[tactic(auto, unfolding(cheri_model::specs::Readings::is_equal_exact))]
+    pub fn equal_exact(self, other: Cap) -> bool
+        ensures { result ≡ is_equal_exact self other }
+    {
+        if !same_tag(self.tag(), other.tag()) {
+            return false;
+        }
+        self.bits() == other.bits()
+    }
+}

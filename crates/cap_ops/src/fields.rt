@@ -1,0 +1,72 @@
+//! Upper halves with one field replaced.
+
+ghost use Rattle.std.specs.Prelude.{◌≡◌, ◌^◌, ◌<◌, ◌≤◌};
+ghost use Rattle.cheri_model.specs.Fields.{with_null_fields};
+ghost use Rattle.cheri_model.specs.EditedWords.{with_perms, with_flag, with_otype, with_bounds_fields, with_rounded_fields};
+ghost use Rattle.cheri_model.specs.Results.{is_exact};
+
+use cap_bounds::set_bounds;
+
+/// The upper half of the null capability's fields, with which every word in memory is exclusive-or'ed.
+const NULL_FIELDS: u64 = 0x0000_1FFF_FC01_8004;
+
+/// The fields of an upper half, or the upper half with these fields.
+#[tactic(auto, unfolding(cheri_model::specs::Fields::with_null_fields))]
+fn exclusive_or_null(upper: u64) -> u64
+    ensures { result ≡ with_null_fields upper }
+{
+    upper ^ NULL_FIELDS
+}
+
+/// The upper half with other permissions, which are its high 16 bits.
+#[tactic(auto, unfolding(cheri_model::specs::EditedWords::with_perms))]
+pub(crate) fn with_perms(upper: u64, perms: u32) -> u64
+    requires { perms < 2 ^ 19 }
+    ensures { result ≡ with_perms upper perms }
+{
+    let field = u64::from(perms >> 15 << 12 | perms & 0xfff);
+    exclusive_or_null(field << 48 | exclusive_or_null(upper) & 0xffff_ffff_ffff)
+}
+
+/// The upper half with another flag, which is its bit 45.
+#[tactic(auto, unfolding(cheri_model::specs::EditedWords::with_flag))]
+pub(crate) fn with_flag(upper: u64, flag: u8) -> u64
+    requires { flag < 2 }
+    ensures { result ≡ with_flag upper flag }
+{
+    let fields = exclusive_or_null(upper);
+    exclusive_or_null((fields >> 46 << 46) + (u64::from(flag) << 45) + fields % (1 << 45))
+}
+
+/// The upper half with another object type, which is its 18 bits from bit 27 on.
+#[tactic(auto, unfolding(cheri_model::specs::EditedWords::with_otype))]
+pub(crate) fn with_otype(upper: u64, otype: u32) -> u64
+    requires { otype < 2 ^ 18 }
+    ensures { result ≡ with_otype upper otype }
+{
+    let fields = exclusive_or_null(upper);
+    exclusive_or_null((fields >> 45 << 45) + (u64::from(otype) << 27) + fields % (1 << 27))
+}
+
+/// The upper half with other fields IE, T and B, which are its low 27 bits.
+#[tactic(auto, unfolding(cheri_model::specs::EditedWords::with_bounds_fields))]
+pub(crate) fn with_bounds_fields(upper: u64, ie: u8, t: u16, b: u16) -> u64
+    requires ie { ie < 2 }
+    requires t { t < 2 ^ 12 }
+    requires b { b < 2 ^ 14 }
+    ensures { result ≡ with_bounds_fields upper ie t b }
+{
+    let high = exclusive_or_null(upper) >> 27 << 27;
+    exclusive_or_null(high + (u64::from(ie) << 26) + (u64::from(t) << 14) + u64::from(b))
+}
+
+/// The upper half whose bounds fields are those of the rounding of base and length, and whether that is exact.
+#[tactic(auto, using(crate::proofs::Tests::exact_test, cheri_model::proofs::AddressResults::internal_exponent_lt), unfolding(cheri_model::specs::EditedWords::with_rounded_fields))]
+pub(crate) fn with_rounded_fields(upper: u64, base: u64, len: u128) -> (u64, bool)
+    requires { len ≤ 2 ^ 64 }
+    ensures fields { result.0 ≡ with_rounded_fields upper base len }
+    ensures exact { result.1 ≡ is_exact base len }
+{
+    let rounded = set_bounds(base, len);
+    (with_bounds_fields(upper, rounded.ie, rounded.t, rounded.b), rounded.exact)
+}

@@ -1,0 +1,63 @@
+//! Making capabilities from their parts (CHERI ISA version 9, section 2.3).
+
+ghost use Rattle.std.specs.Prelude.{◌≡◌, ◌^◌, ◌≤◌, ◌<◌};
+ghost use Rattle.cheri_model.specs.Capability.{IsPermissionSet, IsLawfulType, unsealed_type};
+ghost use Rattle.cap_ops.specs.Making.{made, root_with};
+
+use bitflags::Flags;
+use cap_bounds::representable;
+use cheri_model::{OType, Perms};
+
+use crate::cap::Cap;
+use crate::fields::{with_otype, with_perms, with_rounded_fields};
+
+/// Why no capability has the asked parts. The first that holds is answered.
+#[derive(Clone, Copy, Debug, PartialEq, Eq)]
+pub enum MakeFault {
+    /// 1: base and length together exceed 2^64.
+    PastEnd,
+    /// 2: rounding would change a bound.
+    Inexact,
+    /// 3: the address is not in the window.
+    Unrepresentable,
+}
+
+impl Cap {
+    /// The capability that reaches the whole address space with these permissions, unsealed, at address 0.
+    pub fn root(perms: Perms) -> Cap
+        requires { IsPermissionSet perms.0 }
+        ensures { result ≡ root_with perms.0 }
+    {
+        // The bounds fields of a word 0 say the whole address space, and its object type is unsealed.
+        Cap::from_halves(true, with_perms(0, perms.bits()), 0)
+    }
+
+    /// The unsealed capability of just the `len` addresses from `base` on, with this address and these permissions.
+    pub fn make(base: u64, len: u128, addr: u64, perms: Perms) -> Result<Cap, MakeFault>
+        requires { IsPermissionSet perms.0 }
+        ensures { result ≡ made base len addr perms.0 unsealed_type }
+    {
+        Cap::make_sealed(base, len, addr, perms, OType::unsealed())
+    }
+
+    /// The same, sealed with an object type: a sealable one, or sentry. (With unsealed it is what `make` gives.)
+    pub fn make_sealed(base: u64, len: u128, addr: u64, perms: Perms, otype: OType) -> Result<Cap, MakeFault>
+        requires perms { IsPermissionSet perms.0 }
+        requires otype { IsLawfulType otype }
+        ensures { result ≡ made base len addr perms.0 otype }
+    {
+        if len > (1 << 64) - u128::from(base) {
+            return Err(MakeFault::PastEnd);
+        }
+        let unbounded = with_otype(with_perms(0, perms.bits()), otype.number());
+        let (upper, exact) = with_rounded_fields(unbounded, base, len);
+        if !exact {
+            return Err(MakeFault::Inexact);
+        }
+        // The base itself is always in the window of exact bounds.
+        if !representable(upper, base, addr) {
+            return Err(MakeFault::Unrepresentable);
+        }
+        Ok(Cap::from_halves(true, upper, addr))
+    }
+}

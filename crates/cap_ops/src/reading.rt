@@ -1,0 +1,134 @@
+//! What instructions read off a value, tagged or not. Nothing here decodes the bounds more than once.
+
+ghost use Rattle.std.specs.Prelude.{◌≡◌, ◌+◌, ◌^◌, ◌<◌, ◌≤◌, ◌&&◌};
+ghost use Rattle.cheri_model.specs.CapValue.{tag_of, parts_of, IsLawfulValue};
+ghost use Rattle.cheri_model.specs.Capability.{IsPermissionSet};
+ghost use Rattle.cheri_model.specs.Results.{is_open, has_permission, length_of};
+ghost use Rattle.cheri_model.specs.Readings.{permissions_of, object_type_of, type_number_of, base_of, top_of, flags_of, offset_of, is_sealed};
+
+use bitflags::Flags;
+use cap_bounds::{decode, fields};
+use cheri_model::{OType, Perms};
+
+use crate::cap::Cap;
+
+/// The greatest object type that CSeal can give.
+pub(crate) const LAST_SEALABLE_TYPE: u64 = 0x3_fffb;
+
+/// The object type of what is not sealed.
+pub(crate) const UNSEALED_TYPE: u32 = 0x3_ffff;
+
+impl Cap {
+    /// The bounds: the base, and the top, which is the first address above them. The top of a word that no
+    /// instruction makes may lie below its base.
+    #[tactic(auto, using(cheri_model::proofs::Values::top_lt), unfolding(cheri_model::specs::Capability::capability_at))]
+    pub fn bounds(self) -> (u64, u128)
+        ensures base { result.0 ≡ base_of self }
+        ensures top { result.1 ≡ top_of self }
+        ensures top_below { result.1 < 2 ^ 65 }
+        ensures lawful { IsLawfulValue self }
+    {
+        let _tag = self.tag();
+        decode(self.high(), self.addr())
+    }
+
+    /// The base (CGetBase).
+    pub fn base(self) -> u64
+        ensures { result ≡ base_of self }
+    {
+        self.bounds().0
+    }
+
+    /// The length (CGetLen): the top less the base modulo 2^65, and 2^64 - 1 where that is more.
+    #[tactic(auto, unfolding(cheri_model::specs::Results::length_of))]
+    pub fn len(self) -> u64
+        ensures { result ≡ length_of self }
+    {
+        let (base, top) = self.bounds();
+        let len = (top + (1 << 65) - u128::from(base)) % (1 << 65);
+        len.min(0xffff_ffff_ffff_ffff) as u64
+    }
+
+    /// The address less the base, modulo 2^64 (CGetOffset).
+    #[tactic(auto, unfolding(cheri_model::specs::Readings::offset_of))]
+    pub fn offset(self) -> u64
+        ensures { result ≡ offset_of self }
+    {
+        self.addr().wrapping_sub(self.base())
+    }
+
+    /// The permissions (CGetPerm).
+    pub fn perm(self) -> Perms
+        ensures value { result.0 ≡ permissions_of self }
+        ensures known { IsPermissionSet result.0 }
+    {
+        Perms::from_bits_retain(self.permission_bits())
+    }
+
+    /// The permissions as the bits that CGetPerm shows.
+    #[tactic(auto, using(cheri_model::proofs::Values::perms_known), unfolding(cheri_model::specs::Capability::capability_at))]
+    pub(crate) fn permission_bits(self) -> u32
+        ensures value { result ≡ permissions_of self }
+        ensures known { IsPermissionSet result }
+    {
+        let _tag = self.tag();
+        fields(self.high()).perms
+    }
+
+    /// The object type, of 18 bits.
+    #[tactic(auto, unfolding(cheri_model::specs::Capability::capability_at, cheri_model::specs::Fields::word_otype))]
+    pub fn object_type(self) -> OType
+        ensures { result ≡ object_type_of self }
+    {
+        OType::new(fields(self.high()).otype)
+    }
+
+    /// The object type as an integer register has it (CGetType): a type above the sealable ones is sign-extended
+    /// from 18 bits, so that unsealed is 2^64 - 1.
+    #[tactic(auto, unfolding(cheri_model::specs::Readings::type_number_of))]
+    pub fn otype(self) -> u64
+        ensures { result ≡ type_number_of self }
+    {
+        let number = u64::from(self.object_type().number());
+        if number > LAST_SEALABLE_TYPE {
+            0xffff_ffff_fffc_0000 + number
+        } else {
+            number
+        }
+    }
+
+    /// The flag, 0 or 1 (CGetFlags).
+    #[tactic(auto, unfolding(cheri_model::specs::Capability::capability_at))]
+    pub fn flags(self) -> u8
+        ensures { result ≡ flags_of self }
+    {
+        fields(self.high()).flag
+    }
+
+    /// Whether the object type is any but unsealed (CGetSealed); a sentry is sealed too.
+    pub fn sealed(self) -> bool
+        ensures { result ≡ is_sealed self }
+    {
+        self.object_type().number() != UNSEALED_TYPE
+    }
+
+    /// Whether this is open: tagged and not sealed. Most changes keep the tag of such a value alone.
+    pub fn is_open(self) -> bool
+        ensures value { result ≡ is_open self }
+        ensures lawful { IsLawfulValue self }
+    {
+        if !self.tag() {
+            return false;
+        }
+        self.object_type().number() == UNSEALED_TYPE
+    }
+
+    /// Whether the permission with this number is there, as CGetPerm numbers them: 0 to 11, and the software
+    /// permissions from 15 to 18.
+    pub fn has_permission(self, number: u32) -> bool
+        requires { number < 19 }
+        ensures { result ≡ has_permission self number }
+    {
+        self.permission_bits() >> number & 1 == 1
+    }
+}

@@ -1,0 +1,127 @@
+//! Sealing and unsealing by object type (CHERI ISA version 9, section 2.3.7 and chapter 7).
+
+ghost use Rattle.std.specs.Prelude.{◌≡◌, ◌%◌, ◌^◌, ◌<◌, ◌==◌, ◌&&◌};
+ghost use Rattle.cheri_model.specs.CapValue.{tag_of, parts_of, IsLawfulValue};
+ghost use Rattle.cheri_model.specs.Capability.{IsPermissionSet};
+ghost use Rattle.cheri_model.specs.Results.{address_of, is_open, has_permission};
+ghost use Rattle.cheri_model.specs.SealResults.{seal_permission, unseal_permission, execute_permission, is_sealable, has_type_authority, seal, unsealed_perms, unseal, seal_entry};
+
+
+use crate::cap::Cap;
+use crate::fields::{with_otype, with_perms};
+use crate::reading::{LAST_SEALABLE_TYPE, UNSEALED_TYPE};
+
+/// The numbers of the permissions that sealing asks for.
+const GLOBAL_PERMISSION: u32 = 0;
+const EXECUTE_PERMISSION: u32 = 1;
+const SEAL_PERMISSION: u32 = 7;
+const UNSEAL_PERMISSION: u32 = 9;
+
+/// The object type of a sealed entry.
+const SENTRY_TYPE: u32 = 0x3_fffe;
+
+impl Cap {
+    /// Sealed with the authority's address as its object type (CSeal). The tag stays where this is open, the
+    /// authority is open, has Seal and its address in its bounds, and the type is a sealable one.
+    pub fn seal(self, authority: Cap) -> Cap
+        ensures { result ≡ seal self authority }
+    {
+        let otype = authority.addr();
+        let kept = self.may_seal(authority);
+        Cap::from_halves(kept, with_otype(self.high(), (otype % (1 << 18)) as u32), self.addr())
+    }
+
+    /// Unsealed (CUnseal). Global stays only where both have it. The tag stays where this is tagged with a sealable
+    /// type, and the authority is open, has Unseal and this type as its address, in its bounds.
+    pub fn unseal(self, authority: Cap) -> Cap
+        ensures { result ≡ unseal self authority }
+    {
+        let perms = self.unsealed_perms(authority);
+        let kept = self.may_unseal(authority);
+        let upper = with_perms(with_otype(self.high(), UNSEALED_TYPE), perms);
+        Cap::from_halves(kept, upper, self.addr())
+    }
+
+    /// Sealed as a sentry, which can only be jumped to (CSealEntry). The tag stays where this is open and has
+    /// Execute.
+    pub fn seal_entry(self) -> Cap
+        ensures { result ≡ seal_entry self }
+    {
+        let kept = self.may_seal_entry();
+        Cap::from_halves(kept, with_otype(self.high(), SENTRY_TYPE), self.addr())
+    }
+
+    /// Whether this may be sealed under the authority.
+    #[tactic(auto, unfolding(cheri_model::specs::Results::address_of))]
+    fn may_seal(self, authority: Cap) -> bool
+        ensures value { result ≡ (is_open self && has_type_authority authority seal_permission && is_sealable (address_of authority)) }
+        ensures lawful { IsLawfulValue self }
+    {
+        if !self.is_open() {
+            return false;
+        }
+        if !authority.has_type_authority(SEAL_PERMISSION) {
+            return false;
+        }
+        authority.addr() <= LAST_SEALABLE_TYPE
+    }
+
+    /// Whether this may be unsealed under the authority.
+    #[tactic(auto, unfolding(cheri_model::specs::Results::address_of))]
+    fn may_unseal(self, authority: Cap) -> bool
+        ensures value { result ≡ (tag_of self && is_sealable (parts_of self).otype && has_type_authority authority unseal_permission && (address_of authority == (parts_of self).otype)) }
+        ensures lawful { IsLawfulValue self }
+    {
+        let tagged = self.tag();
+        let otype = u64::from(self.object_type().number());
+        if !tagged {
+            return false;
+        }
+        if otype > LAST_SEALABLE_TYPE {
+            return false;
+        }
+        if !authority.has_type_authority(UNSEAL_PERMISSION) {
+            return false;
+        }
+        authority.addr() == otype
+    }
+
+    /// Whether this may be sealed as a sentry.
+    fn may_seal_entry(self) -> bool
+        ensures value { result ≡ (is_open self && has_permission self execute_permission) }
+        ensures lawful { IsLawfulValue self }
+    {
+        if !self.is_open() {
+            return false;
+        }
+        self.has_permission(EXECUTE_PERMISSION)
+    }
+
+    /// Whether this has authority, by the permission with this number, over the object type that is its address.
+    #[tactic(auto, unfolding(cheri_model::specs::Results::address_of))]
+    fn has_type_authority(self, permission: u32) -> bool
+        requires { permission < 19 }
+        ensures { result ≡ has_type_authority self permission }
+    {
+        if !self.is_open() {
+            return false;
+        }
+        if !self.has_permission(permission) {
+            return false;
+        }
+        let (base, top) = self.bounds();
+        let addr = self.addr();
+        base <= addr && u128::from(addr) + 1 <= top
+    }
+
+    /// The permissions after unsealing under the authority.
+    #[tactic(auto, using(cheri_model::proofs::FieldResultsMade::unsealed_perms_known))]
+    fn unsealed_perms(self, authority: Cap) -> u32
+        ensures value { result ≡ unsealed_perms self authority }
+        ensures known { IsPermissionSet result }
+    {
+        let _tag = self.tag();
+        let perms = self.permission_bits();
+        if authority.has_permission(GLOBAL_PERMISSION) { perms } else { perms / 2 * 2 }
+    }
+}

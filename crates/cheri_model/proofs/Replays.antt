@@ -1,0 +1,62 @@
+-- One more legal operation: what it does to the state, the entries and the legality of an order.
+use Rattle.std.proofs.Common.{◌≡◌, ◌==◌, ℕ, Bool, true, false, ◌&&◌, List, [], ◌∷◌, ◌++◌, map, refl, sym, ap, ◌∙◌, append_assoc, rules, arith, IsTrue}
+use Rattle.std.proofs.lemmas.Grind.{common_steps}
+use Rattle.cheri_model.specs.declared.trace.Entry.{Entry}
+use Rattle.cheri_model.specs.Image.{ImageParts}
+use Rattle.cheri_model.specs.Machine.{MachineState, Operation, opening_state, may_take, state_after_one, entry_of}
+use Rattle.cheri_model.specs.Replay.{state_after, entries_of, is_legal, operations_of, replayed_state, replayed_entries, IsReplay}
+
+module _ (image : ImageParts) where
+  pub state_after_push : (state : MachineState) (order : List Operation) (op : Operation) →
+    state_after image state (order ++ op ∷ []) ≡ state_after_one image (state_after image state order) op
+  unfolding state_after
+  state_after_push state [] op = refl
+  state_after_push state (first ∷ order) op = state_after_push (state_after_one image state first) order op
+
+  pub entries_of_push : (state : MachineState) (order : List Operation) (op : Operation) →
+    entries_of image state (order ++ op ∷ []) ≡ entries_of image state order ++ entry_of image (state_after image state order) op ∷ []
+  unfolding state_after entries_of
+  entries_of_push state [] op = refl
+  entries_of_push state (first ∷ order) op =
+      ap (λ es. entry_of image state first ∷ es) (entries_of_push (state_after_one image state first) order op)
+
+  pub is_legal_push : (state : MachineState) (order : List Operation) (op : Operation) →
+    is_legal image state (order ++ op ∷ []) ≡ (is_legal image state order && may_take (state_after image state order) op)
+  unfolding state_after is_legal
+  is_legal_push state [] op = grind (arith, common_steps)
+  is_legal_push state (first ∷ order) op =
+      let rest = is_legal_push (state_after_one image state first) order op in grind (arith, common_steps)
+
+pub operations_of_push : (trace : List Entry) (entry : Entry) →
+  operations_of (trace ++ entry ∷ []) ≡ operations_of trace ++ entry.hart ∷ []
+unfolding operations_of
+operations_of_push trace entry = grind (arith, common_steps)
+
+pub hart-entry_of : (image : ImageParts) (state : MachineState) (op : Operation) → (entry_of image state op).hart ≡ op
+unfolding entry_of
+hart-entry_of image state op = refl
+
+-- A legal operation keeps the replay: the trace grows by its entry, and the state is the one after it.
+module _ (image : ImageParts) (trace : List Entry) (state : MachineState) (op : Operation) where
+  operations_grown : operations_of (trace ++ entry_of image state op ∷ []) ≡ operations_of trace ++ op ∷ []
+  operations_grown =
+      operations_of_push trace (entry_of image state op) ∙ ap (λ n. operations_of trace ++ n ∷ []) (hart-entry_of image state op)
+
+  pub IsReplay_push : IsReplay image trace state → may_take state op ≡ true →
+    IsReplay image (trace ++ entry_of image state op ∷ []) (state_after_one image state op)
+  unfolding replayed_state replayed_entries
+  IsReplay_push replay legal =
+      let order = operations_of trace in
+      let start = opening_state image in
+      record {
+        state = ap (λ s. state_after_one image s op) replay.state ∙ sym (state_after_push image start order op)
+            ∙ ap (state_after image start) (sym operations_grown);
+        entries = ap (λ es. es ++ entry_of image state op ∷ []) replay.entries
+            ∙ ap (λ s. entries_of image start order ++ entry_of image s op ∷ []) replay.state
+            ∙ sym (entries_of_push image start order op) ∙ ap (entries_of image start) (sym operations_grown);
+        legal = rw (operations_grown, is_legal_push image start order op, ← replay.state) (grind (arith, common_steps))
+      }
+
+pub IsReplay-opening : (image : ImageParts) → IsReplay image [] (opening_state image)
+unfolding replayed_state replayed_entries operations_of state_after entries_of is_legal
+IsReplay-opening image = record { state = refl; entries = refl; legal = refl }

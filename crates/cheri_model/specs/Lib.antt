@@ -1,0 +1,26 @@
+-- The definitions, in reading order: numbers, bounds, words, capabilities, values, the machine, its runs.
+pub mod Numbers
+pub mod Lengths
+pub mod Window
+pub mod Rounding
+pub mod Alignment
+pub mod PermissionNames
+pub mod Fields
+pub mod RawBounds
+pub mod Capability
+pub mod CapValue
+pub mod ValueFacts
+pub mod WordLaws
+pub mod Memory
+pub mod EditedWords
+pub mod Results
+pub mod FieldResults
+pub mod SealResults
+pub mod Readings
+pub mod Checks
+pub mod HartStep
+pub mod Image
+pub mod ImageForm
+pub mod Machine
+pub mod Replay
+pub mod Authority

@@ -1,0 +1,150 @@
+//! Images: a program, and what the machine holds before its first step.
+
+ghost use Rattle.std.specs.Prelude.{◌≡◌, IfOk, true};
+ghost use Rattle.cheri_model.specs.ImageForm.{image_of, is_image, are_granules, is_granule};
+ghost use Rattle.cheri_model.specs.Memory.{ram_base};
+
+use crate::instr::Instr;
+use crate::value::Value;
+use std::alloc::{AllocError, Global};
+use std::marker::Model;
+
+/// A refused growth of memory.
+pub type NoMemory = AllocError;
+
+/// Where RAM begins.
+const RAM_BASE: u64 = 0x8000_0000;
+
+/// What a hart holds before its first step: PCC and the registers c1 to c31.
+#[derive(Clone, Copy, Debug, PartialEq, Eq)]
+pub struct HartImage {
+    pub pcc: Value,
+    pub regs: [Value; 31],
+}
+
+/// A program of 1 to 16,384 instructions, the size of RAM (a multiple of 16 bytes, from 16 to 1,048,576), the
+/// granules that are tagged or not all 0, each with its address, in rising order, and 1 to 8 harts.
+#[derive(Debug, Drop)]
+pub struct Image {
+    program: Vec<Instr>,
+    ram: u32,
+    granules: Vec<(u64, Value)>,
+    harts: Vec<HartImage>,
+}
+
+impl Model for Image {
+    ghost use Rattle.std.specs.Prelude.{◌≡◌, true};
+    ghost use Rattle.cheri_model.specs.Image.{ImageParts};
+
+    ghost Value = { ImageParts };
+
+    ghost use Rattle.cheri_model.specs.ImageForm.{is_image};
+
+    ghost view = { λ i. record {
+        program = i.program.items;
+        ram = i.ram;
+        granules = i.granules.items;
+        harts = i.harts.items
+    } };
+
+    ghost invariant = { λ i. is_image (record {
+        program = i.program.items;
+        ram = i.ram;
+        granules = i.granules.items;
+        harts = i.harts.items
+    }) ≡ true };
+}
+
+/// Whether a granule may be listed in an image with this RAM, behind granules below `from`.
+fn is_granule(ram: u32, from: u64, addr: u64, value: Value) -> bool
+    ensures { result ≡ is_granule ram from addr value }
+{
+    from <= addr
+        && addr % 16 == 0
+        && u128::from(addr) + 16 <= u128::from(RAM_BASE) + u128::from(ram)
+        && (value.tag() || value.bits() != 0)
+}
+
+/// Whether these granules, in this order, may be those of an image with this RAM.
+#[tactic(auto, unfolding(crate::specs::ImageForm::are_granules))]
+fn are_granules(ram: u32, granules: &[(u64, Value)]) -> bool
+    ensures { result ≡ are_granules ram ram_base granules.now }
+{
+    let mut from = RAM_BASE;
+    for (addr, value) in granules {
+        if !is_granule(ram, from, *addr, *value) {
+            return false;
+        }
+        from = *addr + 1;
+    }
+    true
+}
+
+impl Image {
+    /// The image of these parts; none exactly where a size is out of its limits or a granule cannot be listed
+    /// where it stands. Takes no memory.
+    #[tactic(auto, unfolding(crate::specs::ImageForm::image_of, crate::specs::ImageForm::is_image))]
+    pub fn new(
+        program: Vec<Instr>,
+        ram: u32,
+        granules: Vec<(u64, Value)>,
+        harts: Vec<HartImage>,
+    ) -> Option<Image>
+        ensures { result ≡ image_of program.items ram granules.items harts.items }
+    {
+        let sizes = (1..=16_384).contains(&program.len())
+            && (16..=1_048_576).contains(&ram)
+            && ram % 16 == 0
+            && (1..=8).contains(&harts.len());
+        if !sizes || !are_granules(ram, granules.as_slice()) {
+            return None;
+        }
+        Some(Image {
+            program,
+            ram,
+            granules,
+            harts,
+        })
+    }
+
+    /// The program, instruction 0 first.
+    pub fn program(&self) -> &[Instr]
+        ensures { result.now ≡ self.now.program }
+    {
+        self.program.as_slice()
+    }
+
+    /// The size of RAM in bytes.
+    pub fn ram(&self) -> u32
+        ensures { result ≡ self.now.ram }
+    {
+        self.ram
+    }
+
+    /// The granules that are tagged or not all 0, each with its address.
+    pub fn granules(&self) -> &[(u64, Value)]
+        ensures value { result.now ≡ self.now.granules }
+        ensures formed { is_image self.now ≡ true }
+    {
+        self.granules.as_slice()
+    }
+
+    /// What each hart holds, in hart order.
+    pub fn harts(&self) -> &[HartImage]
+        ensures { result.now ≡ self.now.harts }
+    {
+        self.harts.as_slice()
+    }
+
+    /// An image with the same parts. Only want of memory is refused.
+    pub fn copy(&self, alloc: Global) -> Result<Image, NoMemory>
+        ensures { IfOk result (λ copy. copy ≡ self.now) }
+    {
+        Ok(Image {
+            program: Vec::from_slice(alloc, self.program.as_slice())?,
+            ram: self.ram,
+            granules: Vec::from_slice(alloc, self.granules.as_slice())?,
+            harts: Vec::from_slice(alloc, self.harts.as_slice())?,
+        })
+    }
+}

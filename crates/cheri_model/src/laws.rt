@@ -1,0 +1,7 @@
+//! The laws over the definitions: each function's contract is one law, and the function does nothing.
+
+pub mod alignment;
+pub mod lengths;
+pub mod rounding;
+pub mod runs;
+pub mod words;

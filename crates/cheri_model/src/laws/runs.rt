@@ -1,0 +1,25 @@
+//! The laws of runs: a legal operation keeps the replay, and no run makes authority.
+
+ghost use Rattle.std.specs.Prelude.{◌≡◌, List, [], ◌∷◌, ◌++◌, true};
+ghost use Rattle.cheri_model.specs.declared.trace.Entry.{Entry};
+ghost use Rattle.cheri_model.specs.Image.{ImageParts};
+ghost use Rattle.cheri_model.specs.Machine.{MachineState, Operation, opening_state, may_take, entry_of, state_after_one};
+ghost use Rattle.cheri_model.specs.Replay.{IsReplay, replayed_state};
+ghost use Rattle.cheri_model.specs.Authority.{IsLawfulState, IsConfined};
+
+/// The empty trace with the image's opening state is a replay, and a legal operation makes a longer one.
+pub fn replay_grows()
+    ensures opening { (image : ImageParts) → IsReplay image [] (opening_state image) }
+    ensures one_more { (image : ImageParts) (trace : List Entry) (state : MachineState) (op : Operation)
+        → IsReplay image trace state → may_take state op ≡ true
+        → IsReplay image (trace ++ entry_of image state op ∷ []) (state_after_one image state op) }
+{}
+
+/// Where the opening state's values are lawful, each state of a run has lawful values alone, and every tagged one
+/// lies within an initial capability: authority is never made (CHERI ISA version 9, section 2.4).
+pub fn runs_are_confined()
+    ensures lawful { (image : ImageParts) (order : List Operation)
+        → IsLawfulState (opening_state image) → IsLawfulState (replayed_state image order) }
+    ensures confined { (image : ImageParts) (order : List Operation)
+        → IsLawfulState (opening_state image) → IsConfined image (replayed_state image order) }
+{}

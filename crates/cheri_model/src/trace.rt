@@ -1,0 +1,50 @@
+//! What a step leaves behind: its outcome, the trap if there was one, and its entry in the trace.
+
+/// Why a hart trapped: the number of the cause, and the register that it speaks of. The causes' numbers are this
+/// project's own.
+#[derive(Clone, Copy, Debug, PartialEq, Eq)]
+pub struct Trap {
+    pub cause: u8,
+    pub reg: u8,
+}
+
+impl Trap {
+    /// The capability is untagged.
+    pub const TAG: u8 = 1;
+    /// The capability is sealed.
+    pub const SEAL: u8 = 2;
+    /// The permission Execute is missing, or there where it may not be.
+    pub const EXECUTE: u8 = 3;
+    /// The bytes are not in the capability's bounds.
+    pub const LENGTH: u8 = 8;
+    /// The address is not a multiple of the access's size.
+    pub const ALIGNMENT: u8 = 9;
+    /// PCC's address is not the place of an instruction.
+    pub const FETCH: u8 = 11;
+    /// The register number that means PCC.
+    pub const PCC: u8 = 32;
+}
+
+/// How one step of a hart ended.
+#[derive(Clone, Copy, Debug, PartialEq, Eq)]
+pub enum Outcome {
+    Done,
+    Halt,
+    Trap(Trap),
+}
+
+/// Whether a hart may still step, and if not, why it stopped. A stopped hart never runs again.
+#[derive(Clone, Copy, Debug, PartialEq, Eq)]
+pub enum Status {
+    Running,
+    Halted,
+    Trapped(Trap),
+}
+
+/// One entry of the trace: which hart stepped, the address of its PCC before the step, and how the step ended.
+#[derive(Clone, Copy, Debug, PartialEq, Eq)]
+pub struct Entry {
+    pub hart: u8,
+    pub pc: u64,
+    pub outcome: Outcome,
+}

@@ -1,0 +1,2 @@
+pub mod OpenedHarts
+pub mod Cores

@@ -1,0 +1,2 @@
+pub mod HartForm
+pub mod CoreForm

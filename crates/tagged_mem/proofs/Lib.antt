@@ -1,0 +1,3 @@
+pub mod ClearedMemory
+pub mod EncodedWord
+pub mod WordBytes

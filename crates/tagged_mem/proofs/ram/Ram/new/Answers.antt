@@ -1,0 +1,10 @@
+use Rattle.std.proofs.Common.{◌≡◌, arith, rules, sym}
+use Rattle.std.proofs.lemmas.Bool.Decides.{nat_tests}
+use Rattle.cheri_model.specs.Memory.{cleared_memory, IsMemory}
+use Rattle.tagged_mem.proofs.ClearedMemory.{IsMemory-cleared_memory}
+use Rattle.tagged_mem.proofs.ram.Ram.new.Goals as goal
+
+pub invariant_of-result : goal.invariant_of-result
+invariant_of-result c =
+    let items : c.in_ok-granules.granules.items ≡ cleared_memory c.args.bytes = search rules in
+    rw items (IsMemory-cleared_memory c.args.bytes (search rules) (search rules) (search rules))
