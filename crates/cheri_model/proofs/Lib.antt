@@ -29,6 +29,8 @@ pub mod Values
 pub mod BoundsRounded
 pub mod AddressResults
 pub mod FieldResultsMade
+pub mod StoredBytes
+pub mod LoadsAfterStores
 pub mod ImageGranules
 pub mod Fetches
 pub mod Advances

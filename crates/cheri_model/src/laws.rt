@@ -2,6 +2,7 @@
 
 pub mod alignment;
 pub mod lengths;
+pub mod memory;
 pub mod rounding;
 pub mod runs;
 pub mod words;

@@ -13,7 +13,7 @@ use Rattle.cheri_model.specs.Image.{ImageParts, opening_hart, opening_memory}
 use Rattle.cheri_model.specs.Machine.{MachineState, Operation, opening_state, is_running, hart_at, no_hart, may_take, entry_of, state_after_one}
 use Rattle.cheri_model.specs.Replay.{IsReplay, operations_of}
 use Rattle.cheri_model.specs.Authority.{EachOfHart, EachOfState, IsLawfulState, IsConfined}
-use Rattle.cheri_model.proofs.Replays.{IsReplay-opening, IsReplay_push}
+use Rattle.cheri_model.proofs.Replays.{IsReplay-opening, IsReplay_push, operations_of_push, hart-entry_of}
 use Rattle.cheri_model.proofs.Confined.{run_lawful}
 use Rattle.cheri_sim.specs.declared.faults.StepFault.{StepFault}
 use Rattle.cheri_sim.specs.declared.faults.StepFault.TheVariants.{NoSuchHart, TraceFull, HartStopped}
@@ -140,3 +140,10 @@ took core hart number program before after entry is none same same_program read 
           ∙ core_taken core hart after entry stepped;
       keeps = stepped_core core hart is can
     }
+
+-- one more operation stands at the end of the trace's
+pub operations_after : (core : CoreParts) (hart : Operation) → operations_of (core_after core hart).trace ≡ operations_of core.trace ++ hart ∷ []
+unfolding core_after
+operations_after core hart =
+    operations_of_push core.trace (entry_of core.image core.state hart)
+      ∙ ap (λ n. operations_of core.trace ++ n ∷ []) (hart-entry_of core.image core.state hart)

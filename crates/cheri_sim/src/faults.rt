@@ -20,6 +20,11 @@ pub enum StepFault {
 }
 
 impl fmt::Display for StepFault {
+    ghost use Rattle.std.specs.Prelude.{Some};
+    ghost use Rattle.cheri_sim.specs.StepFaults.{step_fault_text};
+
+    ghost output = { λ fault. Some (step_fault_text fault) };
+
     fn fmt<W: fmt::Write>(&self, f: &mut fmt::Formatter<W>) -> fmt::Result {
         match self {
             StepFault::NoSuchHart => write!(f, "1 NoSuchHart"),

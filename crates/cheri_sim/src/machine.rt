@@ -4,12 +4,14 @@ ghost use Rattle.std.specs.Prelude.{◌≡◌, ◌↔◌, ◌<◌, ◌≤◌, []
 ghost use Rattle.cheri_model.specs.Authority.{IsConfined};
 ghost use Rattle.cheri_model.specs.Machine.{opening_state, entry_of};
 ghost use Rattle.cheri_model.specs.Replay.{IsReplay};
+ghost use Rattle.cheri_sim.specs.ViewForm.{state_of};
 ghost use Rattle.cheri_sim.specs.CoreForm.{CoreParts, IsCore, IsHartStep, answered, core_after, is_limit, refused};
 
 use crate::execute::execute;
 use crate::faults::{BootFault, StepFault};
 use crate::hart::Hart;
 use crate::opening::{opening_harts, opening_ram};
+use crate::view::View;
 use cheri_model::{Entry, Image, Instr, Status};
 use std::alloc::Global;
 use std::marker::Model;
@@ -27,12 +29,14 @@ pub struct Core {
 }
 
 impl Model for Core {
-    ghost use Rattle.cheri_sim.specs.CoreForm.{CoreParts};
+    ghost use Rattle.cheri_sim.specs.ViewForm.{state_of};
+ghost use Rattle.cheri_sim.specs.CoreForm.{CoreParts};
 
     ghost Value = { CoreParts };
 
     ghost use Rattle.std.specs.Prelude.{◌≤◌, vec_capacity};
-    ghost use Rattle.cheri_sim.specs.CoreForm.{IsCore, parts_of_core};
+    ghost use Rattle.cheri_sim.specs.ViewForm.{state_of};
+ghost use Rattle.cheri_sim.specs.CoreForm.{IsCore, parts_of_core};
 
     ghost view = { λ c. parts_of_core c.image c.limit c.trace.items c.harts.items c.ram };
 
@@ -83,6 +87,24 @@ impl Core {
         match self.refusal(hart) {
             Some(fault) => Err(fault),
             None => Ok(self.take(hart)),
+        }
+    }
+
+    /// What is shown of the machine now. This is the headline, for whoever looks: the registers, memory and tags shown
+    /// are those of the replay of the trace shown from the stored image, the trace is the replay's entries, and every
+    /// tagged capability lies within an initial one. Takes no memory.
+    pub fn view(&self) -> View<'_>
+        ensures image { result.image.now ≡ self.now.image }
+        ensures entries { result.entries.now ≡ self.now.trace }
+        ensures state { state_of result ≡ self.now.state }
+        ensures replay { IsReplay self.now.image self.now.trace self.now.state }
+        ensures confined { IsConfined self.now.image self.now.state }
+    {
+        View {
+            image: &self.image,
+            entries: self.trace.as_slice(),
+            harts: self.harts.as_slice(),
+            ram: &self.ram,
         }
     }
 

@@ -1,15 +1,43 @@
 //! `cheri_sim`: a simulator of a CHERI-RISC-V capability machine of several harts.
 #![tactic(auto)]
 
-mod fetch;
-mod hart;
+mod command_line;
 mod execute;
 mod faults;
+mod fetch;
+mod files;
+mod hart;
+mod listing;
 mod machine;
 mod opening;
+mod orders;
+mod program;
+mod report;
+mod run;
+mod view;
 
-use std::io;
+use crate::files::SystemFiles;
+use crate::program::{Fault, perform, tell};
+use std::process::ExitCode;
+use std::{env, io, rt};
 
-fn main(rt: HostRuntime) -> io::Result<()> {
-    println!(rt; "")
+/// The words after the program's name.
+fn words_given<R: rt::Env + AllocGlobal>(rt: &R) -> io::Result<Vec<String>> {
+    Ok(env::args(rt)?.skip(1).collect(rt.alloc())?)
+}
+
+fn main(rt: HostRuntime) -> ExitCode {
+    let mut err = rt.stderr();
+    let status = match words_given(&rt) {
+        Ok(words) => perform(
+            rt.alloc(),
+            words.as_slice(),
+            &mut SystemFiles(&rt),
+            &mut rt.stdout(),
+            &mut err,
+        ),
+        Err(error) if error.kind() == io::ErrorKind::OutOfMemory => tell(&mut err, Fault::NoMemory),
+        Err(_) => tell(&mut err, Fault::Usage),
+    };
+    ExitCode::from(status)
 }

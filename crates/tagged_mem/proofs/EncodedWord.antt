@@ -1,5 +1,5 @@
 -- The word of the tests' capability is an encoding.
-use Rattle.std.proofs.Common.{◌≡◌, ℕ, refl, lit<, lit≤, arith}
+use Rattle.std.proofs.Common.{refl, lit<, lit≤, arith}
 use Rattle.cheri_model.specs.Numbers.{first_from}
 use Rattle.cheri_model.specs.Lengths.{exponent, internal_exponent, granule}
 use Rattle.cheri_model.specs.Window.{IsInWindow}
@@ -22,7 +22,7 @@ IsEncoding-readable_granule = record {
     base_fits = refl;
     top_fits = refl;
     addr_below = lit< tt;
-    in_window = λ small. lit< tt
+    in_window = λ small. lit< tt;
   };
-  same = refl
+  same = refl;
 }

@@ -1,7 +1,7 @@
 -- Masks, and a word put together from its parts.
-use Rattle.std.proofs.Common.{◌≡◌, ℕ, ◌+◌, ◌-◌, ◌*◌, ◌/◌, ◌%◌, ◌^◌, ◌<◌, ◌≤◌, refl, sym, ◌∙◌, ap, arith}
+use Rattle.std.proofs.Common.{◌≡◌, ℕ, ◌+◌, ◌-◌, ◌*◌, ◌/◌, ◌%◌, ◌^◌, ◌<◌, ◌≤◌, arith}
 use Rattle.std.specs.Prelude.{bit_and, bit_or}
-use Rattle.std.proofs.lemmas.Nat.{and_mask, or_shifted, one_shl, shl_whole, shr_below, shl_below, pow-add, mod_below, pow_pos}
+use Rattle.std.proofs.lemmas.Nat.{and_mask, or_shifted, one_shl, shl_whole, shr_below, pow-add, mod_below, pow_pos}
 use Rattle.std.proofs.Math.Nat.{mul-le-mul_right}
 use Rattle.cheri_model.specs.declared.width.Width.{Width}
 use Rattle.cheri_model.specs.declared.width.Width.TheVariants.{Byte, Half, Word, Double}
@@ -39,9 +39,9 @@ joined_by_shifts word s b field in_word in_s in_all in_field =
     let middle : bit_or (q * 2 ^ b) field ≡ q * 2 ^ b + field = or_shifted q b field in_field in
     let in_middle : q * 2 ^ b + field < 2 ^ (j + b) = field_below q field j b in_q in_field in
     let placed : (q * 2 ^ b + field) * 2 ^ s % 2 ^ 128 ≡ (q * 2 ^ b + field) * 2 ^ s =
-        shl_whole (q * 2 ^ b + field) (j + b) s 128 in_middle (omega arith) in
+    shl_whole (q * 2 ^ b + field) (j + b) s 128 in_middle (omega arith) in
     let one : 1 * 2 ^ s % 2 ^ 128 ≡ 2 ^ s = one_shl s 128 in_s in
     let below : bit_and word (2 ^ s - 1) ≡ word % 2 ^ s = and_mask word s in
     let all : bit_or ((q * 2 ^ b + field) * 2 ^ s) (word % 2 ^ s) ≡ (q * 2 ^ b + field) * 2 ^ s + word % 2 ^ s =
-        or_shifted (q * 2 ^ b + field) s (word % 2 ^ s) (mod_below word (2 ^ s) (pow_pos s)) in
+    or_shifted (q * 2 ^ b + field) s (word % 2 ^ s) (mod_below word (2 ^ s) (pow_pos s)) in
     rw (above, middle, placed, one, below) all

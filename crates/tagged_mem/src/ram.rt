@@ -96,10 +96,9 @@ impl Ram {
     pub fn fits(&self, addr: u64, bytes: u64) -> bool
         ensures { result ≡ fits self.now addr bytes }
     {
-        bytes > 0
-            && addr % bytes == 0
-            && addr >= RAM_BASE
-            && u128::from(addr) + u128::from(bytes) <= u128::from(RAM_BASE) + u128::from(self.size())
+        let end = u128::from(addr) + u128::from(bytes);
+        let ram_end = u128::from(RAM_BASE) + u128::from(self.size());
+        bytes > 0 && addr % bytes == 0 && addr >= RAM_BASE && end <= ram_end
     }
 
     /// The number that the bytes from `addr` on are, the least significant first, whatever the tag.

@@ -57,7 +57,11 @@ fn store_cap_at(rt: &impl Abort, ram: &mut Ram, addr: u64, value: Cap) {
 #[test]
 fn sizes(rt: HostRuntime) -> Result<(), Fail> {
     for bytes in [0, 8, 24, 1_048_592] {
-        assert_eq!(rt; Ram::new(rt.alloc(), bytes).err(), Some(MemFault::Size), "{bytes} bytes");
+        assert_eq!(rt;
+            Ram::new(rt.alloc(), bytes).err(),
+            Some(MemFault::Size),
+            "{bytes} bytes"
+        );
     }
     for bytes in [16, 32, 1_048_576] {
         let ram = Ram::new(rt.alloc(), bytes)?;
@@ -93,7 +97,10 @@ fn loads_at_each_offset(rt: HostRuntime) -> Result<(), Fail> {
     let mut ram = Ram::new(rt.alloc(), 16)?;
     store_cap_at(&rt, &mut ram, 0x8000_0000, Cap::from_word(COUNTED));
     for offset in 0..16 {
-        assert_eq!(rt; load_at(&rt, &ram, 0x8000_0000 + offset, Width::Byte), 0x11 * offset);
+        assert_eq!(rt;
+            load_at(&rt, &ram, 0x8000_0000 + offset, Width::Byte),
+            0x11 * offset
+        );
     }
     let rows = [
         (0x8000_0000, Width::Half, 0x1100),
@@ -112,7 +119,11 @@ fn loads_at_each_offset(rt: HostRuntime) -> Result<(), Fail> {
         (0x8000_0008, Width::Double, 0xFFEE_DDCC_BBAA_9988),
     ];
     for (addr, width, want) in rows {
-        assert_eq!(rt; load_at(&rt, &ram, addr, width), want, "{width:?} at {addr:x}");
+        assert_eq!(rt;
+            load_at(&rt, &ram, addr, width),
+            want,
+            "{width:?} at {addr:x}"
+        );
     }
     Ok(())
 }
@@ -121,7 +132,11 @@ fn loads_at_each_offset(rt: HostRuntime) -> Result<(), Fail> {
 fn has_stored_bytes(rt: &impl Abort, ram: &Ram, offset: u64, count: u64) -> bool {
     for place in 0..16 {
         let inside = place >= offset && place - offset < count;
-        let want = if inside { 0x11 * (place - offset + 1) } else { 0xFF };
+        let want = if inside {
+            0x11 * (place - offset + 1)
+        } else {
+            0xFF
+        };
         if load_at(rt, ram, 0x8000_0000 + place, Width::Byte) != want {
             return false;
         }
@@ -136,8 +151,17 @@ fn stores_at_each_offset(rt: HostRuntime) -> Result<(), Fail> {
         for k in 0..16 / width.bytes() {
             let offset = k * width.bytes();
             store_cap_at(&rt, &mut ram, 0x8000_0000, Cap::from_word(u128::MAX));
-            store_at(&rt, &mut ram, 0x8000_0000 + offset, width, 0x8877_6655_4433_2211);
-            assert!(rt; has_stored_bytes(&rt, &ram, offset, width.bytes()), "{width:?} at {offset}");
+            store_at(
+                &rt,
+                &mut ram,
+                0x8000_0000 + offset,
+                width,
+                0x8877_6655_4433_2211,
+            );
+            assert!(rt;
+                has_stored_bytes(&rt, &ram, offset, width.bytes()),
+                "{width:?} at {offset}"
+            );
         }
     }
     Ok(())
@@ -148,11 +172,17 @@ fn stores_at_each_offset(rt: HostRuntime) -> Result<(), Fail> {
 fn byte_store_clears_the_tag(rt: HostRuntime) -> Result<(), Fail> {
     let mut ram = Ram::new(rt.alloc(), 16)?;
     store_cap_at(&rt, &mut ram, 0x8000_0000, readable());
-    assert_eq!(rt; load_at(&rt, &ram, 0x8000_0008, Width::Double), 0x0005_0000_0405_8004);
+    assert_eq!(rt;
+        load_at(&rt, &ram, 0x8000_0008, Width::Double),
+        0x0005_0000_0405_8004
+    );
     assert!(rt; ram.fits(0x8000_0000, 16));
     assert!(rt; ram.load_cap(0x8000_0000).tag());
     store_at(&rt, &mut ram, 0x8000_0009, Width::Byte, 0xAA);
-    assert_eq!(rt; load_at(&rt, &ram, 0x8000_0008, Width::Double), 0x0005_0000_0405_AA04);
+    assert_eq!(rt;
+        load_at(&rt, &ram, 0x8000_0008, Width::Double),
+        0x0005_0000_0405_AA04
+    );
     assert!(rt; ram.fits(0x8000_0000, 16));
     let value = ram.load_cap(0x8000_0000);
     assert!(rt; !value.tag());
@@ -167,7 +197,10 @@ fn swaps_the_last_granule(rt: HostRuntime) -> Result<(), Fail> {
     assert!(rt; ram.fits(0x800F_FFF0, 16));
     assert_eq!(rt; ram.swap_cap(0x800F_FFF0, readable()), Cap::null());
     assert!(rt; ram.fits(0x800F_FFF0, 16));
-    assert_eq!(rt; ram.swap_cap(0x800F_FFF0, Cap::from_word(COUNTED)), readable());
+    assert_eq!(rt;
+        ram.swap_cap(0x800F_FFF0, Cap::from_word(COUNTED)),
+        readable()
+    );
     assert_eq!(rt; load_at(&rt, &ram, 0x800F_FFFF, Width::Byte), 0xFF);
     assert!(rt; !ram.fits(0x8010_0000, 1));
     for k in 0..65_535 {

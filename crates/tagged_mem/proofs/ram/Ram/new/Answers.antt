@@ -1,6 +1,5 @@
-use Rattle.std.proofs.Common.{◌≡◌, arith, rules, sym}
-use Rattle.std.proofs.lemmas.Bool.Decides.{nat_tests}
-use Rattle.cheri_model.specs.Memory.{cleared_memory, IsMemory}
+use Rattle.std.proofs.Common.{◌≡◌, rules}
+use Rattle.cheri_model.specs.Memory.{cleared_memory}
 use Rattle.tagged_mem.proofs.ClearedMemory.{IsMemory-cleared_memory}
 use Rattle.tagged_mem.proofs.ram.Ram.new.Goals as goal
 

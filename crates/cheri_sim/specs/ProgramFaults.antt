@@ -1,0 +1,53 @@
+-- The lines of standard error, and the exit statuses.
+use Rattle.std.specs.Prelude.{ℕ, List, ◌++◌, codes, decimal}
+use Rattle.cheri_sim.specs.declared.program.fault.Fault.{Fault}
+use Rattle.cheri_sim.specs.declared.program.fault.Fault.TheVariants.{Usage, NoMemory, CannotReadListing, CannotReadOrder, CannotWrite, Listing, Order, Step}
+use Rattle.cheri_sim.specs.declared.command_line.CommandFault.{CommandFault}
+use Rattle.cheri_sim.specs.declared.command_line.CommandFault.TheVariants as commands
+use Rattle.cheri_sim.specs.declared.listing.fault.ListingFault.{ListingFault}
+use Rattle.cheri_sim.specs.declared.listing.fault.ListingFaultKind.{ListingFaultKind}
+use Rattle.cheri_sim.specs.declared.listing.fault.ListingFaultKind.TheVariants as listing_kinds
+use Rattle.cheri_sim.specs.declared.orders.OrderFault.{OrderFault}
+use Rattle.cheri_sim.specs.declared.orders.OrderFaultKind.{OrderFaultKind}
+use Rattle.cheri_sim.specs.declared.orders.OrderFaultKind.TheVariants as order_kinds
+use Rattle.cheri_sim.specs.ListingFaults as listings
+use Rattle.cheri_sim.specs.Orders as orders
+use Rattle.cheri_sim.specs.StepFaults.{step_fault_text}
+
+-- what standard error says of a fault
+abbrev pub fault_text : Fault → List ℕ
+fault_text Usage = codes "usage"
+fault_text NoMemory = codes "memory"
+fault_text CannotReadListing = codes "cannot read listing"
+fault_text CannotReadOrder = codes "cannot read order"
+fault_text CannotWrite = codes "cannot write"
+fault_text (Listing fault) = codes "listing line " ++ (decimal fault.line ++ (codes ": " ++ listings.text_of_kind fault.kind))
+fault_text (Order fault) = codes "order byte " ++ (decimal fault.offset ++ (codes ": " ++ orders.text_of_kind fault.kind))
+fault_text (Step place fault) = codes "order step " ++ (decimal place ++ (codes ": " ++ step_fault_text fault))
+
+-- The exit status: 1 where a text or a step was refused, 2 where the command line was, 3 for all else.
+abbrev pub status_of : Fault → ℕ
+status_of Usage = 2
+status_of (Listing fault) = 1
+status_of (Order fault) = 1
+status_of (Step place fault) = 1
+status_of _ = 3
+
+-- Refusals as faults of the program. Want of memory says nothing of a text, so it has no line of that text.
+abbrev pub command_fault : CommandFault → Fault
+command_fault commands.Usage = Usage
+command_fault commands.NoMemory = NoMemory
+
+abbrev pub listing_fault_of_kind : ListingFaultKind → ListingFault → Fault
+listing_fault_of_kind listing_kinds.NoMemory fault = NoMemory
+listing_fault_of_kind _ fault = Listing fault
+
+abbrev pub listing_fault : ListingFault → Fault
+listing_fault fault = listing_fault_of_kind fault.kind fault
+
+abbrev pub order_fault_of_kind : OrderFaultKind → OrderFault → Fault
+order_fault_of_kind order_kinds.NoMemory fault = NoMemory
+order_fault_of_kind _ fault = Order fault
+
+abbrev pub order_fault : OrderFault → Fault
+order_fault fault = order_fault_of_kind fault.kind fault

@@ -1,0 +1,126 @@
+//! The program: what a command line asks for is done, or the fault that stands in its way is told.
+
+ghost use Rattle.std.specs.Prelude.{◌≡◌, ◌≤◌};
+ghost use Rattle.cheri_sim.specs.ProgramFaults.{status_of};
+
+mod fault;
+
+use crate::command_line::{Request, parse};
+use crate::faults::{BootFault, StepFault};
+use crate::files::{FileFault, Files};
+use crate::listing::read_listing;
+use crate::run::run_order;
+use crate::orders::read_order;
+use crate::report::report_text;
+use cheri_model::NoMemory;
+pub use fault::Fault;
+use std::alloc::Global;
+use std::io::Write;
+
+/// The most steps that a machine of this program takes.
+const TRACE_LIMIT: u32 = 100_000;
+
+/// What a run shows: the report, and the step that was refused, with its place in the order.
+#[derive(Drop)]
+struct Ran {
+    report: String,
+    refused: Option<(usize, StepFault)>,
+}
+
+/// Runs the machine of a listing in an order, and reports it. Nothing of the report is made before both texts are
+/// good; the listing is judged first.
+fn run_texts(alloc: Global, listing: &[u8], order: &[u8]) -> Result<Ran, Fault> {
+    let image = read_listing(alloc, listing)?;
+    let order = read_order(alloc, order)?;
+    let (core, refused) = match run_order(alloc, image, order.as_slice(), TRACE_LIMIT) {
+        Ok(ran) => ran,
+        Err(BootFault::Limit | BootFault::NoMemory) => return Err(Fault::NoMemory),
+    };
+    let report = report_text(alloc, core.view())?;
+    Ok(Ran { report, refused })
+}
+
+/// The bytes of a file, or this fault where it cannot be read.
+fn read<F: Files>(files: &mut F, name: &str, cannot_read: Fault) -> Result<Vec<u8>, Fault> {
+    match files.read(name) {
+        Ok(bytes) => Ok(bytes),
+        Err(FileFault::CannotRead) => Err(cannot_read),
+        Err(FileFault::NoMemory) => Err(Fault::NoMemory),
+    }
+}
+
+/// Writes all of a text.
+fn print<O: Write>(out: &mut O, text: &str) -> Result<(), Fault> {
+    let written = out.write_all(text.as_bytes()).and_then(|_| out.flush());
+    written.map_err(|_| Fault::CannotWrite)
+}
+
+/// `run LISTING --order FILE`: both files are read before either is judged.
+fn run<F: Files, O: Write>(
+    alloc: Global,
+    listing: &str,
+    order: &str,
+    files: &mut F,
+    out: &mut O,
+) -> Result<(), Fault> {
+    let listing = read(files, listing, Fault::CannotReadListing)?;
+    let order = read(files, order, Fault::CannotReadOrder)?;
+    let ran = run_texts(alloc, listing.as_slice(), order.as_slice())?;
+    print(out, ran.report.as_str())?;
+    match ran.refused {
+        None => Ok(()),
+        Some((place, fault)) => Err(Fault::Step(place, fault)),
+    }
+}
+
+/// The words of a command line, behind the program's name.
+fn with_program_name<'a>(alloc: Global, words: &'a [String]) -> Result<Vec<&'a str>, NoMemory> {
+    let mut all = Vec::new(alloc);
+    all.push("cheri_sim")?;
+    for word in words {
+        all.push(word.as_str())?;
+    }
+    Ok(all)
+}
+
+/// Does what the words ask for. The command line is judged first.
+fn answer<F: Files, O: Write>(
+    alloc: Global,
+    words: &[String],
+    files: &mut F,
+    out: &mut O,
+) -> Result<(), Fault> {
+    let words = with_program_name(alloc, words)?;
+    match parse(alloc, words.as_slice())? {
+        Request::Run { listing, order } => run(alloc, listing, order, files, out),
+    }
+}
+
+/// Tells of a fault in one line, and gives its status, whether the line was taken or not.
+pub fn tell<E: Write>(err: &mut E, fault: Fault) -> u8
+    ensures { result ≡ status_of fault }
+{
+    let _ = writeln!(err, "{fault}");
+    fault.status()
+}
+
+/// Does what the words of a command line ask for, which are those after the program's name, and gives the exit
+/// status: 0 where it was done, 1 where a text or a step was refused, 2 where the command line was, and 3 for every
+/// other fault. A fault has one line of `err`, and that `err` takes no line changes nothing of the status.
+pub fn perform<F: Files, O: Write, E: Write>(
+    alloc: Global,
+    words: &[String],
+    files: &mut F,
+    out: &mut O,
+    err: &mut E,
+) -> u8
+    ensures { result ≤ 3 }
+{
+    match answer(alloc, words, files, out) {
+        Ok(()) => 0,
+        Err(fault) => tell(err, fault),
+    }
+}
+
+#[cfg(test)]
+mod tests;

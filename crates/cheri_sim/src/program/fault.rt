@@ -1,0 +1,116 @@
+//! Why the program does not end with status 0.
+
+ghost use Rattle.std.specs.Prelude.{◌≡◌};
+ghost use Rattle.cheri_sim.specs.ProgramFaults.{fault_text, status_of};
+
+use crate::command_line::CommandFault;
+use crate::faults::StepFault;
+use crate::listing::{ListingFault, ListingFaultKind};
+use crate::orders::{OrderFault, OrderFaultKind};
+use std::alloc::AllocError;
+use std::fmt;
+
+/// Why the program does not end with status 0.
+#[derive(Clone, Copy, Debug, PartialEq, Eq)]
+pub enum Fault {
+    /// The words are no command of this program.
+    Usage,
+    /// A growth of memory was refused.
+    NoMemory,
+    /// The listing's file cannot be read.
+    CannotReadListing,
+    /// The order's file cannot be read.
+    CannotReadOrder,
+    /// Standard output takes no more.
+    CannotWrite,
+    /// The listing was refused.
+    Listing(ListingFault),
+    /// The order was refused.
+    Order(OrderFault),
+    /// The step at this place of the order, counted from 0, was refused.
+    Step(usize, StepFault),
+}
+
+impl Fault {
+    /// The exit status.
+    pub fn status(self) -> u8
+        ensures { result ≡ status_of self }
+    {
+        match self {
+            Fault::Usage => 2,
+            Fault::Listing(_) | Fault::Order(_) | Fault::Step(_, _) => 1,
+            Fault::NoMemory
+            | Fault::CannotReadListing
+            | Fault::CannotReadOrder
+            | Fault::CannotWrite => 3,
+        }
+    }
+}
+
+impl fmt::Display for Fault {
+    ghost use Rattle.std.specs.Prelude.{Some};
+
+    ghost output = { λ fault. Some (fault_text fault) };
+
+    fn fmt<W: fmt::Write>(&self, f: &mut fmt::Formatter<W>) -> fmt::Result {
+        match *self {
+            Fault::Usage => f.write_str("usage"),
+            Fault::NoMemory => f.write_str("memory"),
+            Fault::CannotReadListing => f.write_str("cannot read listing"),
+            Fault::CannotReadOrder => f.write_str("cannot read order"),
+            Fault::CannotWrite => f.write_str("cannot write"),
+            Fault::Listing(ListingFault { line, kind }) => write!(f, "listing line {line}: {kind}"),
+            Fault::Order(OrderFault { offset, kind }) => write!(f, "order byte {offset}: {kind}"),
+            Fault::Step(place, fault) => write!(f, "order step {place}: {fault}"),
+        }
+    }
+}
+
+impl From<AllocError> for Fault {
+    ghost use Rattle.cheri_sim.specs.declared.program.fault.Fault.TheVariants.{NoMemory};
+
+    ghost from_gives = { λ _ fault. fault ≡ NoMemory };
+
+    fn from(_: AllocError) -> Fault {
+        Fault::NoMemory
+    }
+}
+
+impl From<CommandFault> for Fault {
+    ghost use Rattle.cheri_sim.specs.ProgramFaults.{command_fault};
+
+    ghost from_gives = { λ refused fault. fault ≡ command_fault refused };
+
+    fn from(refused: CommandFault) -> Fault {
+        match refused {
+            CommandFault::Usage => Fault::Usage,
+            CommandFault::NoMemory => Fault::NoMemory,
+        }
+    }
+}
+
+impl From<ListingFault> for Fault {
+    ghost use Rattle.cheri_sim.specs.ProgramFaults.{listing_fault};
+
+    ghost from_gives = { λ refused fault. fault ≡ listing_fault refused };
+
+    fn from(refused: ListingFault) -> Fault {
+        match refused.kind {
+            ListingFaultKind::NoMemory => Fault::NoMemory,
+            _ => Fault::Listing(refused),
+        }
+    }
+}
+
+impl From<OrderFault> for Fault {
+    ghost use Rattle.cheri_sim.specs.ProgramFaults.{order_fault};
+
+    ghost from_gives = { λ refused fault. fault ≡ order_fault refused };
+
+    fn from(refused: OrderFault) -> Fault {
+        match refused.kind {
+            OrderFaultKind::NoMemory => Fault::NoMemory,
+            _ => Fault::Order(refused),
+        }
+    }
+}
