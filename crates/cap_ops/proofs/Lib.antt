@@ -1,3 +1,3 @@
-pub mod Tests
+pub mod Exactness
 pub mod Made
 pub mod Makings

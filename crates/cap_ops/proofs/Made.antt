@@ -1,5 +1,5 @@
 -- A value that is put together of a tag and halves that are those of a result.
-use Rattle.std.proofs.Common.{◌≡◌, ℕ, ◌+◌, ◌*◌, ◌/◌, ◌%◌, ◌^◌, Bool, arith, refl, ap, sym, ◌∙◌}
+use Rattle.std.proofs.Common.{◌≡◌, ℕ, ◌/◌, ◌%◌, ◌^◌, Bool, refl}
 use Rattle.cheri_model.specs.CapValue.{CapValue, value_at, IsTaggedWord}
 use Rattle.cheri_model.specs.EditedWords.{word_of_halves, word_with_address, word_with_upper, with_rounded_fields, with_rounded_bounds}
 use Rattle.cheri_model.proofs.Values.{IsResult}

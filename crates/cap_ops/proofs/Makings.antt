@@ -1,15 +1,15 @@
 -- Capabilities that are made from parts: their upper half is that of the null word with these fields.
-use Rattle.std.proofs.Common.{◌≡◌, ℕ, ◌+◌, ◌-◌, ◌*◌, ◌/◌, ◌%◌, ◌^◌, ◌<◌, ◌≤◌, Bool, true, false, not, nat_lt, ◌==◌, ◌&&◌, ◌↔◌, IsTrue, Result, Ok, Err, if◌then◌else◌, arith, refl, ap, sym, ◌∙◌, eqb-true, lt-ltb, le-ltb, subst}
-use Rattle.std.proofs.lemmas.Bool.{and_parts, true_from_ne_false, false_from_ne_true}
+use Rattle.std.proofs.Common.{◌≡◌, ℕ, ◌+◌, ◌-◌, ◌^◌, ◌<◌, ◌≤◌, true, false, ◌==◌, ◌↔◌, Ok, Err, arith, refl, ap, ◌∙◌, eqb-true, lt-ltb, le-ltb, subst}
+use Rattle.std.proofs.lemmas.Bool.{and_parts, false_from_ne_true}
 use Rattle.cheri_model.specs.Numbers.{first_from}
 use Rattle.cheri_model.specs.Lengths.{exponent, internal_exponent, granule}
 use Rattle.cheri_model.specs.Window.{IsInWindow, is_in_window}
 use Rattle.cheri_model.specs.Rounding.{rounded_base, rounded_top}
 use Rattle.cheri_model.specs.RawBounds.{raw_base, raw_top}
 use Rattle.cheri_model.specs.Fields.{with_null_fields}
-use Rattle.cheri_model.specs.Capability.{Capability, IsPermissionSet, IsLawfulType, IsLawful, unsealed_type, b_field, t_field, upper_of_fields, upper_of, word_of}
-use Rattle.cheri_model.specs.CapValue.{CapValue, valid}
-use Rattle.cheri_model.specs.EditedWords.{word_of_halves, with_perms, with_otype, with_bounds_fields, with_rounded_fields}
+use Rattle.cheri_model.specs.Capability.{IsPermissionSet, IsLawfulType, IsLawful, unsealed_type, b_field, t_field, upper_of_fields, upper_of, word_of}
+use Rattle.cheri_model.specs.CapValue.{valid}
+use Rattle.cheri_model.specs.EditedWords.{word_of_halves, with_perms, with_otype, with_rounded_fields}
 use Rattle.cheri_model.specs.Results.{is_exact}
 use Rattle.cheri_model.proofs.Roundings.{rounded_length, rounded_base_multiple, rounded_top_multiple}
 use Rattle.cheri_model.proofs.RoundingsWithin.{asked_base_in_window}
@@ -18,11 +18,9 @@ use Rattle.cheri_model.proofs.WordsBack.{word_lt}
 use Rattle.cheri_model.proofs.WindowsEnd.{same_bounds_in_window}
 use Rattle.cheri_model.proofs.AddressesMoved.{moved_lawful, moved_word}
 use Rattle.cheri_model.proofs.FieldsEdited.{edited_perms, edited_otype, edited_bounds}
-use Rattle.cheri_model.proofs.WordsEdited.{IsWordOf}
 use Rattle.cheri_model.proofs.BoundsRounded.{rounded_fields}
 use Rattle.cheri_model.proofs.Values.{IsResult, result_of}
 use Rattle.cheri_model.proofs.AddressResults.{window_test, test_of_window}
-use Rattle.cap_ops.specs.declared.making.MakeFault.{MakeFault}
 use Rattle.cap_ops.specs.declared.making.MakeFault.TheVariants.{PastEnd, Inexact, Unrepresentable}
 use Rattle.cap_ops.specs.Making.{capability_with, made, root_with}
 
@@ -36,7 +34,7 @@ null_has_fields = record {
   otype_below = omega arith;
   ie_below = omega arith;
   t_below = omega arith;
-  b_below = omega arith
+  b_below = omega arith;
 }
 
 -- the null word's upper half with permissions
@@ -52,7 +50,7 @@ perms_have_fields perms known = record {
   otype_below = omega arith;
   ie_below = omega arith;
   t_below = omega arith;
-  b_below = omega arith
+  b_below = omega arith;
 }
 
 -- the same with an object type
@@ -68,7 +66,7 @@ unbounded_has_fields perms otype known below = record {
   otype_below = below;
   ie_below = omega arith;
   t_below = omega arith;
-  b_below = omega arith
+  b_below = omega arith;
 }
 
 -- what is asked for can be made but for the address
@@ -94,7 +92,7 @@ makeable base len perms otype known lawful below ends exact =
       base_below = below;
       ends = ends;
       base_exact = parts.0;
-      top_exact = parts.1
+      top_exact = parts.1;
     }
 
 module _ (base len perms otype : ℕ) (m : IsMakeable base len perms otype) where
@@ -109,48 +107,48 @@ module _ (base len perms otype : ℕ) (m : IsMakeable base len perms otype) wher
   pub made_upper : (addr : ℕ) → with_rounded_fields (unbounded perms otype) base len ≡ upper_of (capability_with base len addr perms otype)
   unfolding upper_of
   made_upper addr =
-    let fits : len ≤ 2 ^ 64 = omega (arith, m.ends) in
-    let fields = unbounded_has_fields perms otype m.perms_known m.otype_lawful.below in
-    rounded_fields (unbounded perms otype) base len fits
-    ∙ edited_bounds (unbounded perms otype) perms 0 otype 1 6 4 fields _ _ _
-    ∙ rw (m.base_exact, m.top_exact) refl
+      let fits : len ≤ 2 ^ 64 = omega (arith, m.ends) in
+      let fields = unbounded_has_fields perms otype m.perms_known m.otype_lawful.below in
+      rounded_fields (unbounded perms otype) base len fits
+      ∙ edited_bounds (unbounded perms otype) perms 0 otype 1 6 4 fields _ _ _
+      ∙ rw (m.base_exact, m.top_exact) refl
 
   -- at its base it is lawful
   pub lawful_at_base : IsLawful (capability_with base len base perms otype)
   lawful_at_base =
-    let fits : len ≤ 2 ^ 64 = omega (arith, m.ends) in
-    record {
-      perms = m.perms_known;
-      flag = omega arith;
-      otype = m.otype_lawful;
-      base_below = m.base_below;
-      ordered = omega arith;
-      top_at_most = m.ends;
-      base_fits = rw (m.base_exact, m.top_exact) at (rounded_base_multiple base len fits);
-      top_fits = rw (m.base_exact, m.top_exact) at (rounded_top_multiple base len fits);
-      addr_below = m.base_below;
-      in_window = rw (m.base_exact, m.top_exact) at (asked_base_in_window base len fits)
-    }
+      let fits : len ≤ 2 ^ 64 = omega (arith, m.ends) in
+      record {
+        perms = m.perms_known;
+        flag = omega arith;
+        otype = m.otype_lawful;
+        base_below = m.base_below;
+        ordered = omega arith;
+        top_at_most = m.ends;
+        base_fits = rw (m.base_exact, m.top_exact) at (rounded_base_multiple base len fits);
+        top_fits = rw (m.base_exact, m.top_exact) at (rounded_top_multiple base len fits);
+        addr_below = m.base_below;
+        in_window = rw (m.base_exact, m.top_exact) at (asked_base_in_window base len fits);
+      }
 
   -- the bounds are decoded to the same just at the addresses of the window
   pub made_window : (upper addr : ℕ) → upper ≡ with_rounded_fields (unbounded perms otype) base len →
-    ((raw_base upper addr ≡ raw_base upper base) × (raw_top upper addr ≡ raw_top upper base)) ↔ IsInWindow base len addr
+      ((raw_base upper addr ≡ raw_base upper base) × (raw_top upper addr ≡ raw_top upper base)) ↔ IsInWindow base len addr
   made_window upper addr e =
-    let window = same_bounds_in_window (capability_with base len base perms otype) lawful_at_base addr in
-    rw (e, made_upper base) (rw length_is at window)
+      let window = same_bounds_in_window (capability_with base len base perms otype) lawful_at_base addr in
+      rw (e, made_upper base) (rw length_is at window)
 
   -- at an address of the window it is the result of its halves
   pub made_result : (upper addr : ℕ) → upper ≡ with_rounded_fields (unbounded perms otype) base len → addr < 2 ^ 64 → IsInWindow base len addr →
-    IsResult (valid (capability_with base len addr perms otype)) true (word_of_halves upper addr)
+      IsResult (valid (capability_with base len addr perms otype)) true (word_of_halves upper addr)
   made_result upper addr e below inside =
-    let there : IsInWindow base (base + len - base) addr = rw length_is inside in
-    let lawful : IsLawful (capability_with base len addr perms otype) =
+      let there : IsInWindow base (base + len - base) addr = rw length_is inside in
+      let lawful : IsLawful (capability_with base len addr perms otype) =
       moved_lawful (capability_with base len base perms otype) lawful_at_base addr below there in
-    let word : word_of (capability_with base len addr perms otype) ≡ word_of_halves upper addr =
+      let word : word_of (capability_with base len addr perms otype) ≡ word_of_halves upper addr =
       rw (e, made_upper base) (moved_word (capability_with base len base perms otype) addr) in
-    result_of true (capability_with base len addr perms otype) (word_of_halves upper addr)
-    (subst (λ (w : ℕ). w < 2 ^ 128) word (word_lt (capability_with base len addr perms otype) lawful))
-    (λ t. record { lawful = lawful; same = word })
+      result_of true (capability_with base len addr perms otype) (word_of_halves upper addr)
+      (subst (λ (w : ℕ). w < 2 ^ 128) word (word_lt (capability_with base len addr perms otype) lawful))
+      (λ t. record { lawful = lawful; same = word })
 
 -- when each answer comes
 pub made-past_end : (base len addr perms otype : ℕ) → 2 ^ 64 < base + len → made base len addr perms otype ≡ Err PastEnd
@@ -187,7 +185,7 @@ root_lawful perms known = record {
   base_fits = refl;
   top_fits = refl;
   addr_below = omega arith;
-  in_window = λ low. absurd (omega arith)
+  in_window = λ low. absurd (omega arith);
 }
 
 root_upper : (perms : ℕ) → with_perms 0 perms ≡ upper_of (capability_with 0 (2 ^ 64) 0 perms unsealed_type)

@@ -4,6 +4,7 @@ ghost use Rattle.std.specs.Prelude.{◌≡◌, ◌+◌, ◌*◌, ◌/◌, ◌%�
 ghost use Rattle.cheri_model.specs.CapValue.{raw, bits_of, tag_of, parts_of, value_at, IsLawfulValue, IsTaggedWord};
 ghost use Rattle.cheri_model.specs.Capability.{capability_at};
 ghost use Rattle.cheri_model.specs.EditedWords.{word_of_halves};
+ghost use Rattle.cheri_model.specs.Results.{address_of};
 
 use cheri_model::Value;
 use std::marker::Model;
@@ -65,8 +66,9 @@ impl Cap {
         ensures value { result ≡ self }
         ensures lawful { IsLawfulValue self }
     {
-        let _bits = self.value.bits();
-        self.value
+        let value = self.value;
+        let _bits = value.bits();
+        value
     }
 
     /// The 128 bits as they stand in memory.
@@ -94,9 +96,10 @@ impl Cap {
     }
 
     /// The address (CGetAddr), which is also what the register is as an integer.
-    #[tactic(auto, unfolding(cheri_model::specs::Capability::capability_at))]
+    #[tactic(auto, unfolding(cheri_model::specs::Capability::capability_at, cheri_model::specs::Results::address_of))]
     pub fn addr(self) -> u64
         ensures value { result ≡ (parts_of self).addr }
+        ensures integer { result ≡ address_of self }
         ensures bits { result ≡ bits_of self % 2 ^ 64 }
         ensures parts { parts_of self ≡ capability_at (bits_of self) }
     {
@@ -109,7 +112,10 @@ impl Cap {
         ensures { result ≡ value_at tag (word_of_halves upper addr) }
     {
         let bits = u128::from(upper) << 64 | u128::from(addr);
-        let value = if tag { Value::tagged(bits) } else { Value::raw(bits) };
-        Cap { value }
+        if tag {
+            Cap::of_value(Value::tagged(bits))
+        } else {
+            Cap::from_word(bits)
+        }
     }
 }

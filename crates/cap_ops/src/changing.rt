@@ -6,10 +6,9 @@ ghost use Rattle.cheri_model.specs.CapValue.{parts_of, IsLawfulValue};
 ghost use Rattle.cheri_model.specs.Results.{address_of, is_open, in_bounds, keeps_bounds, is_exact, clear_tag, set_address, inc_offset, set_bounds, set_bounds_exact};
 ghost use Rattle.cheri_model.specs.FieldResults.{and_perm, set_flags, set_high};
 
-use cap_bounds::representable;
-
 use crate::cap::Cap;
 use crate::fields::{with_flag, with_perms, with_rounded_fields};
+use cap_bounds::representable;
 
 impl Cap {
     /// The same word without a tag (CClearTag).
@@ -71,12 +70,10 @@ impl Cap {
         ensures value { result ≡ (is_open self && in_bounds self (address_of self) len) }
         ensures lawful { IsLawfulValue self }
     {
-        if !self.is_open() {
-            return false;
-        }
         let (base, top) = self.bounds();
         let addr = self.addr();
-        base <= addr && u128::from(addr) + u128::from(len) <= top
+        let inside = base <= addr && u128::from(addr) + u128::from(len) <= top;
+        self.is_open() && inside
     }
 
     /// The same, and that nothing is rounded.

@@ -14,3 +14,6 @@ mod sealing;
 
 pub use cap::Cap;
 pub use making::MakeFault;
+
+#[cfg(test)]
+mod tests;

@@ -4,12 +4,11 @@ ghost use Rattle.std.specs.Prelude.{◌≡◌, ◌^◌, ◌≤◌, ◌<◌};
 ghost use Rattle.cheri_model.specs.Capability.{IsPermissionSet, IsLawfulType, unsealed_type};
 ghost use Rattle.cap_ops.specs.Making.{made, root_with};
 
+use crate::cap::Cap;
+use crate::fields::{with_otype, with_perms, with_rounded_fields};
 use bitflags::Flags;
 use cap_bounds::representable;
 use cheri_model::{OType, Perms};
-
-use crate::cap::Cap;
-use crate::fields::{with_otype, with_perms, with_rounded_fields};
 
 /// Why no capability has the asked parts. The first that holds is answered.
 #[derive(Clone, Copy, Debug, PartialEq, Eq)]
@@ -41,7 +40,13 @@ impl Cap {
     }
 
     /// The same, sealed with an object type: a sealable one, or sentry. (With unsealed it is what `make` gives.)
-    pub fn make_sealed(base: u64, len: u128, addr: u64, perms: Perms, otype: OType) -> Result<Cap, MakeFault>
+    pub fn make_sealed(
+        base: u64,
+        len: u128,
+        addr: u64,
+        perms: Perms,
+        otype: OType,
+    ) -> Result<Cap, MakeFault>
         requires perms { IsPermissionSet perms.0 }
         requires otype { IsLawfulType otype }
         ensures { result ≡ made base len addr perms.0 otype }

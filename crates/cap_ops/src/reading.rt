@@ -6,11 +6,10 @@ ghost use Rattle.cheri_model.specs.Capability.{IsPermissionSet};
 ghost use Rattle.cheri_model.specs.Results.{is_open, has_permission, length_of};
 ghost use Rattle.cheri_model.specs.Readings.{permissions_of, object_type_of, type_number_of, base_of, top_of, flags_of, offset_of, is_sealed};
 
+use crate::cap::Cap;
 use bitflags::Flags;
 use cap_bounds::{decode, fields};
 use cheri_model::{OType, Perms};
-
-use crate::cap::Cap;
 
 /// The greatest object type that CSeal can give.
 pub(crate) const LAST_SEALABLE_TYPE: u64 = 0x3_fffb;

@@ -4,8 +4,7 @@ ghost use Rattle.std.specs.Prelude.{◌≡◌, ◌%◌, ◌^◌, ◌<◌, ◌==�
 ghost use Rattle.cheri_model.specs.CapValue.{tag_of, parts_of, IsLawfulValue};
 ghost use Rattle.cheri_model.specs.Capability.{IsPermissionSet};
 ghost use Rattle.cheri_model.specs.Results.{address_of, is_open, has_permission};
-ghost use Rattle.cheri_model.specs.SealResults.{seal_permission, unseal_permission, execute_permission, is_sealable, has_type_authority, seal, unsealed_perms, unseal, seal_entry};
-
+ghost use Rattle.cheri_model.specs.SealResults.{seal_permission, unseal_permission, execute_permission, is_sealable, has_type_authority, seal, unsealed_perms, unseal, seal_entry, unsealed};
 
 use crate::cap::Cap;
 use crate::fields::{with_otype, with_perms};
@@ -13,8 +12,11 @@ use crate::reading::{LAST_SEALABLE_TYPE, UNSEALED_TYPE};
 
 /// The numbers of the permissions that sealing asks for.
 const GLOBAL_PERMISSION: u32 = 0;
+
 const EXECUTE_PERMISSION: u32 = 1;
+
 const SEAL_PERMISSION: u32 = 7;
+
 const UNSEAL_PERMISSION: u32 = 9;
 
 /// The object type of a sealed entry.
@@ -28,7 +30,11 @@ impl Cap {
     {
         let otype = authority.addr();
         let kept = self.may_seal(authority);
-        Cap::from_halves(kept, with_otype(self.high(), (otype % (1 << 18)) as u32), self.addr())
+        Cap::from_halves(
+            kept,
+            with_otype(self.high(), (otype % (1 << 18)) as u32),
+            self.addr(),
+        )
     }
 
     /// Unsealed (CUnseal). Global stays only where both have it. The tag stays where this is tagged with a sealable
@@ -49,6 +55,18 @@ impl Cap {
     {
         let kept = self.may_seal_entry();
         Cap::from_halves(kept, with_otype(self.high(), SENTRY_TYPE), self.addr())
+    }
+
+    /// Unsealed, with the tag as it is: what a jump makes of a sentry, and of a sealed pair (CJALR, CInvoke). No
+    /// authority is asked for; the jump's own checks stand in its place.
+    pub fn unsealed(self) -> Cap
+        ensures { result ≡ unsealed self }
+    {
+        Cap::from_halves(
+            self.tag(),
+            with_otype(self.high(), UNSEALED_TYPE),
+            self.addr(),
+        )
     }
 
     /// Whether this may be sealed under the authority.
@@ -122,6 +140,10 @@ impl Cap {
     {
         let _tag = self.tag();
         let perms = self.permission_bits();
-        if authority.has_permission(GLOBAL_PERMISSION) { perms } else { perms / 2 * 2 }
+        if authority.has_permission(GLOBAL_PERMISSION) {
+            perms
+        } else {
+            perms / 2 * 2
+        }
     }
 }

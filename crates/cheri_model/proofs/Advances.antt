@@ -1,16 +1,14 @@
 -- PCC goes on: behind a fetch that passed, PCC with another address four bytes on keeps its tag, also where that is the
 -- end of its bounds.
-use Rattle.std.proofs.Common.{◌≡◌, ℕ, ◌+◌, ◌-◌, ◌%◌, ◌^◌, ◌<◌, ◌≤◌, ◌==◌, Bool, true, false, ◌&&◌, arith, refl, leb-true}
+use Rattle.std.proofs.Common.{◌≡◌, ℕ, ◌+◌, ◌%◌, ◌^◌, true, arith, refl, leb-true}
 use Rattle.std.specs.Prelude.{nat_le, Ok}
 use Rattle.std.proofs.lemmas.Bool.{and_parts, false≢true}
-use Rattle.cheri_model.specs.Capability.{Capability}
-use Rattle.cheri_model.specs.CapValue.{CapValue, valid, raw, bits_of, tag_of, tagged_where, IsLawfulValue}
-use Rattle.cheri_model.specs.EditedWords.{word_with_address}
+use Rattle.cheri_model.specs.CapValue.{CapValue, valid, raw, tag_of, IsLawfulValue}
 use Rattle.cheri_model.specs.Results.{address_of, is_open, keeps_bounds, in_bounds, with_address, set_address}
 use Rattle.cheri_model.specs.Checks.{first_failing, fetch_table}
 use Rattle.cheri_model.proofs.WindowsHold.{lawful_bounds_in_window}
 use Rattle.cheri_model.proofs.AddressResults.{test_of_window}
-use Rattle.cheri_model.proofs.Fetches.{IsFetched, fetched_is}
+use Rattle.cheri_model.proofs.Fetches.{fetched_is}
 
 moved_is : (pcc : CapValue) → IsLawfulValue pcc → tag_of pcc ≡ true → is_open pcc ≡ true → in_bounds pcc (address_of pcc) 4 ≡ true →
     set_address pcc ((address_of pcc + 4) % 2 ^ 64) ≡ with_address pcc ((address_of pcc + 4) % 2 ^ 64)

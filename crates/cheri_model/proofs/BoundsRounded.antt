@@ -1,6 +1,6 @@
 -- A lawful capability whose bounds are replaced by the rounding of a range inside them.
-use Rattle.std.specs.Prelude.{◌≡◌, ℕ, ◌+◌, ◌-◌, ◌*◌, ◌/◌, ◌%◌, ◌^◌, ◌<◌, ◌≤◌}
-use Rattle.std.proofs.Common.{arith, refl, ap, sym, ◌∙◌}
+use Rattle.std.specs.Prelude.{◌≡◌, ℕ, ◌+◌, ◌^◌, ◌≤◌}
+use Rattle.std.proofs.Common.{arith, refl, ◌∙◌}
 use Rattle.cheri_model.specs.Lengths.{exponent, internal_exponent}
 use Rattle.cheri_model.specs.Rounding.{rounded_base, rounded_top}
 use Rattle.cheri_model.specs.Capability.{Capability, IsLawful, b_field, t_field, upper_of, word_of}
@@ -15,8 +15,8 @@ use Rattle.cheri_model.proofs.WordsEdited.{IsWordOf, word_from_upper}
 pub rounded_fields : (upper base len : ℕ) → len ≤ 2 ^ 64 →
     with_rounded_fields upper base len
     ≡ with_bounds_fields upper (internal_exponent (rounded_length base len))
-        (t_field (internal_exponent (rounded_length base len)) (exponent (rounded_length base len)) (rounded_top base len))
-        (b_field (internal_exponent (rounded_length base len)) (exponent (rounded_length base len)) (rounded_base base len))
+    (t_field (internal_exponent (rounded_length base len)) (exponent (rounded_length base len)) (rounded_top base len))
+    (b_field (internal_exponent (rounded_length base len)) (exponent (rounded_length base len)) (rounded_base base len))
 unfolding with_rounded_fields
 rounded_fields upper base len fits = rw (internal_exponent_of_rounding base len, exponent_of_rounding base len fits) refl
 
@@ -45,7 +45,7 @@ lawful_with_rounding c len h from to =
       base_fits = rounded_base_multiple c.addr len fits;
       top_fits = rounded_top_multiple c.addr len fits;
       addr_below = h.addr_below;
-      in_window = asked_base_in_window c.addr len fits
+      in_window = asked_base_in_window c.addr len fits;
     }
 
 pub word_with_rounded_bounds : (c : Capability) (len : ℕ) → IsLawful c → c.base ≤ c.addr → c.addr + len ≤ c.top →
@@ -57,6 +57,6 @@ word_with_rounded_bounds c len h from to =
     record {
       lawful = lawful_with_rounding c len h from to;
       same =
-        word_from_upper c (record c { base = rounded_base c.addr len; top = rounded_top c.addr len }) _ h refl
-        (rounded_fields (upper_of c) c.addr len fits ∙ upper_with_bounds c (rounded_base c.addr len) (rounded_top c.addr len) h)
+          word_from_upper c (record c { base = rounded_base c.addr len; top = rounded_top c.addr len }) _ h refl
+          (rounded_fields (upper_of c) c.addr len fits ∙ upper_with_bounds c (rounded_base c.addr len) (rounded_top c.addr len) h);
     }

@@ -1,9 +1,8 @@
 -- What a passed check of a fetch says: that no line of its table fails.
-use Rattle.std.proofs.Common.{◌≡◌, ◌+◌, ◌-◌, ◌/◌, ◌%◌, ◌<◌, ◌≤◌, ◌==◌, ℕ, arith, Bool, true, false, List, ◌∷◌, refl, sym, cond}
-use Rattle.std.specs.Prelude.{Result, Option, Some, Ok, Err, not, find}
+use Rattle.std.proofs.Common.{◌≡◌, ◌-◌, ◌/◌, ◌%◌, ◌<◌, ◌≤◌, ◌==◌, ℕ, arith, Bool, true, false, List, ◌∷◌, refl, sym, cond}
+use Rattle.std.specs.Prelude.{Some, Ok, not, find}
 use Rattle.std.proofs.lemmas.Bool.{false≢true}
 use Rattle.std.proofs.lemmas.Bool.Decides.{nat_tests}
-use Rattle.cheri_model.specs.declared.trace.Trap.{Trap}
 use Rattle.cheri_model.specs.Capability.{unsealed_type}
 use Rattle.cheri_model.specs.CapValue.{CapValue, tag_of, parts_of}
 use Rattle.cheri_model.specs.Results.{address_of, has_permission, in_bounds}
@@ -11,13 +10,13 @@ use Rattle.cheri_model.specs.Checks.{CheckLine, verdict_of, first_failing, fetch
 
 -- a table passes where its first line does not fail and the others pass
 pub passes_cons : (line : CheckLine) (table : List CheckLine) → first_failing (line ∷ table) ≡ Ok tt →
-  (line.fails ≡ false) × (first_failing table ≡ Ok tt)
+    (line.fails ≡ false) × (first_failing table ≡ Ok tt)
 unfolding first_failing
 passes_cons line table = by_fails line.fails
   where
-  by_fails : (b : Bool) → verdict_of (cond b (Some line) (find (λ l. l.fails) table)) ≡ Ok tt → (b ≡ false) × (verdict_of (find (λ l. l.fails) table) ≡ Ok tt)
-  by_fails true passed = cc
-  by_fails false passed = (refl, passed)
+    by_fails : (b : Bool) → verdict_of (cond b (Some line) (find (λ l. l.fails) table)) ≡ Ok tt → (b ≡ false) × (verdict_of (find (λ l. l.fails) table) ≡ Ok tt)
+    by_fails true passed = cc
+    by_fails false passed = (refl, passed)
 
 not_false : (b : Bool) → not b ≡ false → b ≡ true
 not_false true same = refl
@@ -47,7 +46,7 @@ fetched_is pcc count passed =
       executes = not_false _ c.0;
       within = not_false _ d.0;
       aligned = not_false _ e.0;
-      placed = not_false _ f.0
+      placed = not_false _ f.0;
     }
 
 -- the place of an instruction, as numbers

@@ -1,13 +1,13 @@
 -- Where the granules of an image lie: aligned and wholly in its RAM.
-use Rattle.std.proofs.Common.{◌≡◌, ◌==◌, ℕ, ◌+◌, ◌*◌, ◌/◌, ◌%◌, ◌<◌, ◌≤◌, Bool, true, ◌&&◌, List, [], ◌∷◌, length, refl, arith, eqb-true, leb-true}
-use Rattle.std.specs.Prelude.{All, IsTrue, nat_le, nat_lt}
+use Rattle.std.proofs.Common.{◌≡◌, ◌==◌, ℕ, ◌+◌, ◌*◌, ◌%◌, ◌≤◌, true, ◌&&◌, List, [], ◌∷◌, length, arith, eqb-true, leb-true}
+use Rattle.std.specs.Prelude.{All, IsTrue, nat_le}
 use Rattle.std.proofs.lemmas.Bool.{and_parts}
 use Rattle.std.proofs.lemmas.Bool.Decides.{nat_tests}
 use Rattle.std.proofs.lemmas.List.Elements.{All-nil, All-cons}
 use Rattle.cheri_model.specs.CapValue.{CapValue}
 use Rattle.cheri_model.specs.Memory.{ram_base, fits}
 use Rattle.cheri_model.specs.Image.{ImageParts}
-use Rattle.cheri_model.specs.ImageForm.{is_granule, is_listed, are_granules, are_sizes, is_image}
+use Rattle.cheri_model.specs.ImageForm.{is_granule, are_granules, are_sizes, is_image}
 
 pub record IsPlaced (ram : ℕ) (entry : ℕ × CapValue) : Type 0 where
   pub aligned : entry.0 % 16 ≡ 0

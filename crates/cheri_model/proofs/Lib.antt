@@ -29,6 +29,7 @@ pub mod Values
 pub mod BoundsRounded
 pub mod AddressResults
 pub mod FieldResultsMade
+pub mod Derivations
 pub mod StoredBytes
 pub mod LoadsAfterStores
 pub mod ImageGranules

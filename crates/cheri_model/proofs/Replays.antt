@@ -1,5 +1,5 @@
 -- One more legal operation: what it does to the state, the entries and the legality of an order.
-use Rattle.std.proofs.Common.{◌≡◌, ◌==◌, ℕ, Bool, true, false, ◌&&◌, List, [], ◌∷◌, ◌++◌, map, refl, sym, ap, ◌∙◌, append_assoc, rules, arith, IsTrue}
+use Rattle.std.proofs.Common.{◌≡◌, true, ◌&&◌, List, [], ◌∷◌, ◌++◌, refl, sym, ap, ◌∙◌, arith}
 use Rattle.std.proofs.lemmas.Grind.{common_steps}
 use Rattle.cheri_model.specs.declared.trace.Entry.{Entry}
 use Rattle.cheri_model.specs.Image.{ImageParts}
@@ -8,27 +8,27 @@ use Rattle.cheri_model.specs.Replay.{state_after, entries_of, is_legal, operatio
 
 module _ (image : ImageParts) where
   pub state_after_push : (state : MachineState) (order : List Operation) (op : Operation) →
-    state_after image state (order ++ op ∷ []) ≡ state_after_one image (state_after image state order) op
+      state_after image state (order ++ op ∷ []) ≡ state_after_one image (state_after image state order) op
   unfolding state_after
   state_after_push state [] op = refl
   state_after_push state (first ∷ order) op = state_after_push (state_after_one image state first) order op
 
   pub entries_of_push : (state : MachineState) (order : List Operation) (op : Operation) →
-    entries_of image state (order ++ op ∷ []) ≡ entries_of image state order ++ entry_of image (state_after image state order) op ∷ []
+      entries_of image state (order ++ op ∷ []) ≡ entries_of image state order ++ entry_of image (state_after image state order) op ∷ []
   unfolding state_after entries_of
   entries_of_push state [] op = refl
   entries_of_push state (first ∷ order) op =
       ap (λ es. entry_of image state first ∷ es) (entries_of_push (state_after_one image state first) order op)
 
   pub is_legal_push : (state : MachineState) (order : List Operation) (op : Operation) →
-    is_legal image state (order ++ op ∷ []) ≡ (is_legal image state order && may_take (state_after image state order) op)
+      is_legal image state (order ++ op ∷ []) ≡ (is_legal image state order && may_take (state_after image state order) op)
   unfolding state_after is_legal
   is_legal_push state [] op = grind (arith, common_steps)
   is_legal_push state (first ∷ order) op =
       let rest = is_legal_push (state_after_one image state first) order op in grind (arith, common_steps)
 
 pub operations_of_push : (trace : List Entry) (entry : Entry) →
-  operations_of (trace ++ entry ∷ []) ≡ operations_of trace ++ entry.hart ∷ []
+    operations_of (trace ++ entry ∷ []) ≡ operations_of trace ++ entry.hart ∷ []
 unfolding operations_of
 operations_of_push trace entry = grind (arith, common_steps)
 
@@ -43,7 +43,7 @@ module _ (image : ImageParts) (trace : List Entry) (state : MachineState) (op : 
       operations_of_push trace (entry_of image state op) ∙ ap (λ n. operations_of trace ++ n ∷ []) (hart-entry_of image state op)
 
   pub IsReplay_push : IsReplay image trace state → may_take state op ≡ true →
-    IsReplay image (trace ++ entry_of image state op ∷ []) (state_after_one image state op)
+      IsReplay image (trace ++ entry_of image state op ∷ []) (state_after_one image state op)
   unfolding replayed_state replayed_entries
   IsReplay_push replay legal =
       let order = operations_of trace in
@@ -54,7 +54,7 @@ module _ (image : ImageParts) (trace : List Entry) (state : MachineState) (op : 
         entries = ap (λ es. es ++ entry_of image state op ∷ []) replay.entries
             ∙ ap (λ s. entries_of image start order ++ entry_of image s op ∷ []) replay.state
             ∙ sym (entries_of_push image start order op) ∙ ap (entries_of image start) (sym operations_grown);
-        legal = rw (operations_grown, is_legal_push image start order op, ← replay.state) (grind (arith, common_steps))
+        legal = rw (operations_grown, is_legal_push image start order op, ← replay.state) (grind (arith, common_steps));
       }
 
 pub IsReplay-opening : (image : ImageParts) → IsReplay image [] (opening_state image)

@@ -1,8 +1,8 @@
 -- Values: what is known of a lawful one, and when a result is lawful.
-use Rattle.std.specs.Prelude.{◌≡◌, ℕ, ◌+◌, ◌-◌, ◌*◌, ◌/◌, ◌%◌, ◌^◌, ◌<◌, ◌≤◌, ◌==◌, nat_lt, Bool, true, false, ◌&&◌, if◌then◌else◌}
+use Rattle.std.specs.Prelude.{◌≡◌, ℕ, ◌+◌, ◌-◌, ◌/◌, ◌%◌, ◌^◌, ◌<◌, nat_lt, Bool, true, false}
 use Rattle.std.proofs.Common.{arith, refl, ap, sym, ◌∙◌, subst, eqb-true, inl, inr}
 use Rattle.std.proofs.lemmas.Bool.{and_parts, cases_Bool, false≢true}
-use Rattle.cheri_model.specs.Fields.{word_perms, word_otype, word_flag, with_null_fields}
+use Rattle.cheri_model.specs.Fields.{word_perms}
 use Rattle.cheri_model.specs.RawBounds.{corrected_top, uncorrected_top, raw_top}
 use Rattle.cheri_model.specs.Capability.{Capability, IsPermissionSet, IsLawful, unsealed_type, word_of, capability_at}
 use Rattle.cheri_model.specs.CapValue.{CapValue, valid, raw, bits_of, tag_of, parts_of, value_at, tagged_where, IsLawfulValue, IsEncoding, IsTaggedWord}
@@ -25,7 +25,7 @@ result_of true c word below made =
     let back : capability_at word ≡ c = ap capability_at (sym m.same) ∙ capability_at_word_of c m.lawful in
     record {
       same = ap valid back;
-      tagged = record { below = below; encoded = λ _. subst IsEncoding m.same (encoding_of c m.lawful) }
+      tagged = record { below = below; encoded = λ _. subst IsEncoding m.same (encoding_of c m.lawful) };
     }
 result_of false c word below made =
     record { same = refl; tagged = record { below = below; encoded = λ h. absurd (false≢true h) } }
@@ -73,9 +73,9 @@ word_with_address_lt word a h p = omega arith
 corrected_top_lt : (e base top : ℕ) → top < 2 ^ 65 → corrected_top e base top < 2 ^ 65
 unfolding corrected_top
 corrected_top_lt e base top h = elim (cases_Bool (nat_lt e 51)) [
-    inl low ↦ rw low (elim (cases_Bool (nat_lt 1 ((top / 2 ^ 63 + 4 - base / 2 ^ 63) % 4))) [ inl apart ↦ rw apart (omega arith) | inr near ↦ rw near h ])
+  | inl low ↦ rw low (elim (cases_Bool (nat_lt 1 ((top / 2 ^ 63 + 4 - base / 2 ^ 63) % 4))) [ inl apart ↦ rw apart (omega arith) | inr near ↦ rw near h ])
   | inr high ↦ rw high h
-  ]
+]
 
 raw_top_lt : (upper addr : ℕ) → raw_top upper addr < 2 ^ 65
 unfolding raw_top uncorrected_top

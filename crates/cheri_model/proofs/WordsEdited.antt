@@ -1,10 +1,10 @@
 -- An edited word of a lawful capability is the word of the capability with that part replaced, and this one is lawful.
-use Rattle.std.specs.Prelude.{◌≡◌, ℕ, ◌+◌, ◌-◌, ◌*◌, ◌/◌, ◌%◌, ◌^◌, ◌<◌}
+use Rattle.std.specs.Prelude.{◌≡◌, ℕ, ◌-◌, ◌/◌, ◌^◌, ◌<◌}
 use Rattle.std.proofs.Common.{arith, refl, ap, ◌∙◌}
 use Rattle.cheri_model.specs.Window.{IsInWindow}
 use Rattle.cheri_model.specs.Capability.{Capability, IsPermissionSet, IsLawfulType, IsLawful, upper_of, word_of}
 use Rattle.cheri_model.specs.EditedWords.{with_perms, with_flag, with_otype, word_with_address, word_with_upper}
-use Rattle.cheri_model.proofs.WordsBack.{upper_of_word, addr_of_word}
+use Rattle.cheri_model.proofs.WordsBack.{upper_of_word}
 use Rattle.cheri_model.proofs.AddressesMoved.{moved_lawful, moved_word}
 use Rattle.cheri_model.proofs.FieldsEdited.{upper_with_perms, upper_with_flag, upper_with_otype}
 
@@ -25,7 +25,7 @@ lawful_with_otype c n h fits = record {
   base_fits = h.base_fits;
   top_fits = h.top_fits;
   addr_below = h.addr_below;
-  in_window = h.in_window
+  in_window = h.in_window;
 }
 
 pub lawful_with_flag : (c : Capability) (n : ℕ) → IsLawful c → n < 2 → IsLawful (record c { flag = n })
@@ -39,7 +39,7 @@ lawful_with_flag c n h fits = record {
   base_fits = h.base_fits;
   top_fits = h.top_fits;
   addr_below = h.addr_below;
-  in_window = h.in_window
+  in_window = h.in_window;
 }
 
 pub lawful_with_perms : (c : Capability) (n : ℕ) → IsLawful c → IsPermissionSet n → IsLawful (record c { perms = n })
@@ -53,7 +53,7 @@ lawful_with_perms c n h fits = record {
   base_fits = h.base_fits;
   top_fits = h.top_fits;
   addr_below = h.addr_below;
-  in_window = h.in_window
+  in_window = h.in_window;
 }
 
 -- the word with the upper half of another capability with the same address
@@ -67,7 +67,7 @@ word_with_another_otype c n h fits =
     rw (upper_of_word c h)
     record {
       lawful = lawful_with_otype c n h fits;
-      same = word_from_upper c (record c { otype = n }) _ h refl (upper_with_otype c n h)
+      same = word_from_upper c (record c { otype = n }) _ h refl (upper_with_otype c n h);
     }
 
 pub word_with_another_flag : (c : Capability) (n : ℕ) → IsLawful c → n < 2 →
@@ -76,7 +76,7 @@ word_with_another_flag c n h fits =
     rw (upper_of_word c h)
     record {
       lawful = lawful_with_flag c n h fits;
-      same = word_from_upper c (record c { flag = n }) _ h refl (upper_with_flag c n h)
+      same = word_from_upper c (record c { flag = n }) _ h refl (upper_with_flag c n h);
     }
 
 pub word_with_other_perms : (c : Capability) (n : ℕ) → IsLawful c → IsPermissionSet n →
@@ -85,7 +85,7 @@ word_with_other_perms c n h fits =
     rw (upper_of_word c h)
     record {
       lawful = lawful_with_perms c n h fits;
-      same = word_from_upper c (record c { perms = n }) _ h refl (upper_with_perms c n h)
+      same = word_from_upper c (record c { perms = n }) _ h refl (upper_with_perms c n h);
     }
 
 pub word_with_perms_and_otype : (c : Capability) (n t : ℕ) → IsLawful c → IsPermissionSet n → IsLawfulType t →
@@ -96,8 +96,8 @@ word_with_perms_and_otype c n t h fits fits_too =
     record {
       lawful = lawful_with_perms (record c { otype = t }) n retyped fits;
       same =
-        word_from_upper c (record c { perms = n; otype = t }) _ h refl
-        (ap (λ (u : ℕ). with_perms u n) (upper_with_otype c t h) ∙ upper_with_perms (record c { otype = t }) n retyped)
+          word_from_upper c (record c { perms = n; otype = t }) _ h refl
+          (ap (λ (u : ℕ). with_perms u n) (upper_with_otype c t h) ∙ upper_with_perms (record c { otype = t }) n retyped);
     }
 
 pub word_with_another_address : (c : Capability) (a : ℕ) → IsLawful c → a < 2 ^ 64 → IsInWindow c.base (c.top - c.base) a →

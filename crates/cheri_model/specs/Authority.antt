@@ -1,13 +1,13 @@
 -- Authority: what a tagged capability can reach, and that every one of a run lies within one that the image gave
 -- (CHERI ISA version 9, section 2.4, "capability monotonicity").
-use Rattle.std.specs.Prelude.{◌≡◌, ℕ, ◌≤◌, List, ◌∷◌, ◌++◌, map, bit_and, All, Contains, ⊤}
+use Rattle.std.specs.Prelude.{◌≡◌, ◌≤◌, List, ◌∷◌, ◌++◌, map, bit_and, All, Contains, ⊤}
 use Rattle.std.specs.List.{flat_map}
 use Rattle.cheri_model.specs.declared.image.HartImage.{HartImage}
 use Rattle.cheri_model.specs.Capability.{Capability}
 use Rattle.cheri_model.specs.CapValue.{CapValue, valid, raw, IsLawfulValue}
 use Rattle.cheri_model.specs.HartStep.{HartState}
 use Rattle.cheri_model.specs.Image.{ImageParts}
-use Rattle.cheri_model.specs.Machine.{MachineState, opening_state}
+use Rattle.cheri_model.specs.Machine.{MachineState}
 
 -- one capability lies within another: its bounds do, and its permissions are among the other's
 pub record IsWithin (c d : Capability) : Type 0 where

@@ -86,5 +86,5 @@ capability_at word =
       addr = addr;
       perms = word_perms upper;
       flag = word_flag upper;
-      otype = word_otype upper
+      otype = word_otype upper;
     }

@@ -1,7 +1,7 @@
 -- Checks before an instruction acts. A table of checks is a list of lines in order; the first that fails is the trap.
 -- The causes' numbers and the order of the checks are this project's own (CHERI ISA version 9, section 3.10,
 -- leaves the order to the implementation).
-use Rattle.std.specs.Prelude.{ℕ, ◌+◌, ◌-◌, ◌*◌, ◌/◌, ◌%◌, ◌==◌, nat_le, nat_lt, Bool, not, ◌&&◌, List, [], ◌∷◌, Option, Some, None, Result, Ok, Err, find}
+use Rattle.std.specs.Prelude.{ℕ, ◌-◌, ◌/◌, ◌%◌, ◌==◌, nat_le, nat_lt, Bool, not, ◌&&◌, List, [], ◌∷◌, Option, Some, None, Result, Ok, Err, find}
 use Rattle.cheri_model.specs.declared.trace.Trap.{Trap}
 use Rattle.cheri_model.specs.Capability.{unsealed_type}
 use Rattle.cheri_model.specs.CapValue.{CapValue, tag_of, parts_of}

@@ -1,6 +1,5 @@
 -- The results of instructions that replace one field of a capability (CHERI ISA version 9, chapter 7).
-use Rattle.std.specs.Prelude.{ℕ, ◌*◌, ◌/◌, ◌%◌, ◌^◌, bit_and}
-use Rattle.cheri_model.specs.Capability.{Capability}
+use Rattle.std.specs.Prelude.{ℕ, ◌/◌, ◌%◌, ◌^◌, bit_and}
 use Rattle.cheri_model.specs.CapValue.{CapValue, raw, bits_of, parts_of, tagged_where}
 use Rattle.cheri_model.specs.EditedWords.{with_perms, with_flag, word_with_upper}
 use Rattle.cheri_model.specs.Results.{is_open}
@@ -10,14 +9,14 @@ unfoldable pub and_perm : CapValue → ℕ → CapValue
 and_perm v mask =
     let perms = bit_and (parts_of v).perms mask in
     tagged_where (is_open v) (record (parts_of v) { perms = perms })
-        (word_with_upper (bits_of v) (with_perms (bits_of v / 2 ^ 64) perms))
+    (word_with_upper (bits_of v) (with_perms (bits_of v / 2 ^ 64) perms))
 
 -- CSetFlags: the flag becomes the lowest bit of a number
 unfoldable pub set_flags : CapValue → ℕ → CapValue
 set_flags v flags =
     let flag = flags % 2 in
     tagged_where (is_open v) (record (parts_of v) { flag = flag })
-        (word_with_upper (bits_of v) (with_flag (bits_of v / 2 ^ 64) flag))
+    (word_with_upper (bits_of v) (with_flag (bits_of v / 2 ^ 64) flag))
 
 -- CSetHigh: another upper half, never with a tag
 unfoldable pub set_high : CapValue → ℕ → CapValue

@@ -1,6 +1,6 @@
 -- The fields of the upper half of a 128-bit word in memory. The places of the fields and null's fields are
 -- this project's own profile; the fields are those of CHERI ISA version 9, section 3.5.
-use Rattle.std.specs.Prelude.{ℕ, ◌+◌, ◌-◌, ◌*◌, ◌/◌, ◌%◌, ◌^◌, ◌==◌, nat_lt, min, bit_xor, if◌then◌else◌}
+use Rattle.std.specs.Prelude.{ℕ, ◌+◌, ◌*◌, ◌/◌, ◌%◌, ◌^◌, ◌==◌, nat_lt, min, bit_xor, if◌then◌else◌}
 use Rattle.cheri_model.specs.Numbers.{round_down}
 
 -- the upper half of the null capability's fields: unsealed, IE 1, T 0x006, B 0x0004, all others 0

@@ -1,6 +1,6 @@
 -- One step of one hart: the fetch check, then the instruction at PCC. An instruction is one line of `action`,
 -- which says what it asks for; `perform` does it.
-use Rattle.std.specs.Prelude.{ℕ, ℤ, ◌+◌, ◌-◌, ◌/◌, ◌%◌, ◌^◌, ◌==◌, if◌then◌else◌, List, length, slice_index_or, slice_set, Result, Ok, Err}
+use Rattle.std.specs.Prelude.{ℕ, ◌+◌, ◌-◌, ◌/◌, ◌%◌, ◌^◌, ◌==◌, if◌then◌else◌, List, length, slice_index_or, slice_set, Result, Ok, Err}
 use Rattle.cheri_model.specs.declared.trace.Trap.{Trap}
 use Rattle.cheri_model.specs.declared.trace.Outcome.{Outcome}
 use Rattle.cheri_model.specs.declared.trace.Outcome.TheVariants as outcome
@@ -74,4 +74,4 @@ instruction_at program addr = slice_index_or program ((addr - code_base) / 4) Ec
 unfoldable pub hart_step : List Instr → HartState → List CapValue → Stepped
 hart_step program hart memory =
     unless_trapped (first_failing (fetch_table hart.pcc (length program))) hart memory
-        (perform (action (instruction_at program (address_of hart.pcc)) hart) hart memory)
+    (perform (action (instruction_at program (address_of hart.pcc)) hart) hart memory)

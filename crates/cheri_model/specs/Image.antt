@@ -1,5 +1,5 @@
 -- An image: the program and what the machine holds before its first step.
-use Rattle.std.specs.Prelude.{ℕ, ◌-◌, ◌*◌, ◌/◌, List, ◌∷◌, map, fold, replicate, slice_set}
+use Rattle.std.specs.Prelude.{ℕ, List, ◌∷◌, fold}
 use Rattle.cheri_model.specs.declared.instr.Instr.{Instr}
 use Rattle.cheri_model.specs.declared.image.HartImage.{HartImage}
 use Rattle.cheri_model.specs.declared.trace.Status.TheVariants as status

@@ -17,6 +17,7 @@ pub mod Results
 pub mod FieldResults
 pub mod SealResults
 pub mod Readings
+pub mod CapInstructions
 pub mod Checks
 pub mod HartStep
 pub mod Image
@@ -24,3 +25,4 @@ pub mod ImageForm
 pub mod Machine
 pub mod Replay
 pub mod Authority
+pub mod Derivation

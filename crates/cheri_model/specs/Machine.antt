@@ -52,5 +52,5 @@ entry_of image state number =
     record {
       hart = number;
       pc = address_of (hart_at state number).pcc;
-      outcome = (stepped image state number).outcome
+      outcome = (stepped image state number).outcome;
     }

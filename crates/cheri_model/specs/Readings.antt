@@ -1,8 +1,8 @@
 -- The integers that instructions read off a value, tagged or not, and its comparisons (CHERI ISA version 9,
 -- chapter 7). CGetAddr is `address_of` and CGetLen is `length_of`, in `Results`; CGetTag is `tag_of`.
-use Rattle.std.specs.Prelude.{ℕ, ◌+◌, ◌-◌, ◌*◌, ◌/◌, ◌%◌, ◌^◌, ◌==◌, nat_le, nat_lt, Bool, true, false, not, ◌&&◌, bit_and, if◌then◌else◌}
+use Rattle.std.specs.Prelude.{ℕ, ◌+◌, ◌-◌, ◌/◌, ◌%◌, ◌^◌, ◌==◌, nat_le, nat_lt, Bool, true, false, not, ◌&&◌, bit_and, if◌then◌else◌}
 use Rattle.cheri_model.specs.Capability.{Capability, unsealed_type, last_sealable_type}
-use Rattle.cheri_model.specs.CapValue.{CapValue, valid, raw, bits_of, tag_of, parts_of}
+use Rattle.cheri_model.specs.CapValue.{CapValue, bits_of, tag_of, parts_of}
 
 -- a truth value as an integer register has it
 abbrev pub number_of : Bool → ℕ

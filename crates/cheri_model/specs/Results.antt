@@ -2,7 +2,7 @@
 -- chapter 7; what is this project's own is said at the definition). Each gives a tagged capability where a
 -- condition holds, and else the same edited word without a tag. The other results are in `FieldResults`,
 -- `SealResults` and `Readings`.
-use Rattle.std.specs.Prelude.{◌≡◌, ℕ, ℤ, ◌+◌, ◌-◌, ◌*◌, ◌/◌, ◌%◌, ◌^◌, ◌==◌, nat_le, min, Bool, true, false, ◌&&◌}
+use Rattle.std.specs.Prelude.{ℕ, ℤ, ◌+◌, ◌-◌, ◌/◌, ◌%◌, ◌^◌, ◌==◌, nat_le, min, Bool, ◌&&◌}
 use Rattle.std.specs.Int.{cast_unsigned, w64}
 use Rattle.cheri_model.specs.Window.{is_in_window}
 use Rattle.cheri_model.specs.Rounding.{rounded_base, rounded_top}
@@ -70,7 +70,7 @@ with_bounds_of_rounding v len =
 unfoldable pub set_bounds : CapValue → ℕ → CapValue
 set_bounds v len =
     tagged_where (is_open v && in_bounds v (address_of v) len) (with_bounds_of_rounding v len)
-        (with_rounded_bounds (bits_of v) (address_of v) len)
+    (with_rounded_bounds (bits_of v) (address_of v) len)
 
 -- whether rounding leaves base and length as they are
 abbrev pub is_exact : ℕ → ℕ → Bool
@@ -80,7 +80,7 @@ is_exact base len = (rounded_base base len == base) && (rounded_top base len == 
 unfoldable pub set_bounds_exact : CapValue → ℕ → CapValue
 set_bounds_exact v len =
     tagged_where (is_open v && in_bounds v (address_of v) len && is_exact (address_of v) len)
-        (with_bounds_of_rounding v len) (with_rounded_bounds (bits_of v) (address_of v) len)
+    (with_bounds_of_rounding v len) (with_rounded_bounds (bits_of v) (address_of v) len)
 
 -- CGetLen: the top less the base modulo 2^65, and at most 2^64 - 1
 unfoldable pub length_of : CapValue → ℕ

@@ -1,7 +1,7 @@
 -- The results of sealing and unsealing (CHERI ISA version 9, section 2.3.7 and chapter 7). Which object types can
 -- be sealed with, and that a sentry is made only of a capability with Execute, are this project's own.
 use Rattle.std.specs.Prelude.{ℕ, ◌*◌, ◌/◌, ◌%◌, ◌^◌, ◌==◌, nat_le, Bool, ◌&&◌, if◌then◌else◌}
-use Rattle.cheri_model.specs.Capability.{Capability, unsealed_type, sentry_type, last_sealable_type}
+use Rattle.cheri_model.specs.Capability.{unsealed_type, sentry_type, last_sealable_type}
 use Rattle.cheri_model.specs.CapValue.{CapValue, bits_of, tag_of, parts_of, tagged_where}
 use Rattle.cheri_model.specs.EditedWords.{with_perms, with_otype, word_with_upper}
 use Rattle.cheri_model.specs.Results.{address_of, is_open, has_permission, in_bounds}
@@ -37,7 +37,7 @@ unfoldable pub seal : CapValue → CapValue → CapValue
 seal v authority =
     let otype = address_of authority in
     tagged_where (is_open v && has_type_authority authority seal_permission && is_sealable otype)
-        (record (parts_of v) { otype = otype % 2 ^ 18 }) (word_with_otype (bits_of v) (otype % 2 ^ 18))
+    (record (parts_of v) { otype = otype % 2 ^ 18 }) (word_with_otype (bits_of v) (otype % 2 ^ 18))
 
 -- the permissions after unsealing: Global only where the authority has it too
 abbrev pub unsealed_perms : CapValue → CapValue → ℕ
@@ -49,15 +49,15 @@ unfoldable pub unseal : CapValue → CapValue → CapValue
 unseal v authority =
     let perms = unsealed_perms v authority in
     tagged_where
-        (tag_of v && is_sealable (parts_of v).otype && has_type_authority authority unseal_permission && (address_of authority == (parts_of v).otype))
-        (record (parts_of v) { perms = perms; otype = unsealed_type })
-        (word_with_upper (bits_of v) (with_perms (with_otype (bits_of v / 2 ^ 64) unsealed_type) perms))
+    (tag_of v && is_sealable (parts_of v).otype && has_type_authority authority unseal_permission && (address_of authority == (parts_of v).otype))
+    (record (parts_of v) { perms = perms; otype = unsealed_type })
+    (word_with_upper (bits_of v) (with_perms (with_otype (bits_of v / 2 ^ 64) unsealed_type) perms))
 
 -- CSealEntry: sealed as a sentry
 unfoldable pub seal_entry : CapValue → CapValue
 seal_entry v =
     tagged_where (is_open v && has_permission v execute_permission)
-        (record (parts_of v) { otype = sentry_type }) (word_with_otype (bits_of v) sentry_type)
+    (record (parts_of v) { otype = sentry_type }) (word_with_otype (bits_of v) sentry_type)
 
 -- The value unsealed, with its tag as it is: what a jump makes of a sentry, and of a sealed pair (CJALR, CInvoke).
 unfoldable pub unsealed : CapValue → CapValue

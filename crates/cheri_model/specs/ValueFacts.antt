@@ -1,8 +1,8 @@
 -- A value gives back the bits and the tag that it was made of.
-use Rattle.std.specs.Prelude.{◌≡◌, ℕ, ◌^◌, ◌<◌, Bool, true, false, refl}
+use Rattle.std.specs.Prelude.{◌≡◌, ℕ, Bool, true, false, refl}
 use Rattle.std.proofs.Common.{sym, ap}
-use Rattle.cheri_model.specs.Capability.{word_of, capability_at}
-use Rattle.cheri_model.specs.CapValue.{CapValue, IsTaggedWord, IsLawfulValue, bits_of, tag_of, parts_of, value_at}
+use Rattle.cheri_model.specs.Capability.{capability_at}
+use Rattle.cheri_model.specs.CapValue.{IsTaggedWord, IsLawfulValue, bits_of, tag_of, parts_of, value_at}
 
 pub bits_of-value_at : (tag : Bool) (word : ℕ) → IsTaggedWord tag word → bits_of (value_at tag word) ≡ word
 bits_of-value_at true word h = (h.encoded refl).same

@@ -1,6 +1,6 @@
 -- The window, or representable region: the addresses that a capability can take without losing its bounds
 -- (CHERI Concentrate, section 3.2; CHERI ISA version 9, section 3.5.4).
-use Rattle.std.specs.Prelude.{ℕ, ◌+◌, ◌-◌, ◌*◌, ◌/◌, ◌%◌, ◌^◌, ◌<◌, nat_lt, nat_le, Bool, ◌||◌}
+use Rattle.std.specs.Prelude.{ℕ, ◌+◌, ◌-◌, ◌%◌, ◌^◌, ◌<◌, nat_lt, nat_le, Bool, ◌||◌}
 use Rattle.cheri_model.specs.Numbers.{round_down}
 use Rattle.cheri_model.specs.Lengths.{exponent}
 

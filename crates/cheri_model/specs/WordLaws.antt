@@ -1,7 +1,7 @@
 -- Laws that join the definitions of bounds, fields and words.
-use Rattle.std.specs.Prelude.{◌≡◌, ℕ, ◌+◌, ◌-◌, ◌*◌, ◌/◌, ◌%◌, ◌^◌, ◌<◌, ◌≤◌}
+use Rattle.std.specs.Prelude.{◌≡◌, ℕ, ◌+◌, ◌-◌, ◌/◌, ◌%◌, ◌^◌, ◌<◌, ◌≤◌}
 use Rattle.cheri_model.specs.Lengths.{exponent, internal_exponent}
-use Rattle.cheri_model.specs.Fields.{with_null_fields, word_perms, word_reserved, word_flag, word_otype, word_ie, stored_t, stored_b, word_exponent, word_b, word_t14}
+use Rattle.cheri_model.specs.Fields.{word_perms, word_reserved, word_flag, word_otype, word_ie, stored_t, stored_b, word_exponent, word_b, word_t14}
 use Rattle.cheri_model.specs.Capability.{Capability, b_field, t_field, upper_of}
 use Rattle.cheri_model.specs.EditedWords.{with_bounds_fields}
 

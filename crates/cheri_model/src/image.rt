@@ -41,17 +41,17 @@ impl Model for Image {
     ghost use Rattle.cheri_model.specs.ImageForm.{is_image};
 
     ghost view = { λ i. record {
-        program = i.program.items;
-        ram = i.ram;
-        granules = i.granules.items;
-        harts = i.harts.items
+      program = i.program.items;
+      ram = i.ram;
+      granules = i.granules.items;
+      harts = i.harts.items;
     } };
 
     ghost invariant = { λ i. is_image (record {
-        program = i.program.items;
-        ram = i.ram;
-        granules = i.granules.items;
-        harts = i.harts.items
+      program = i.program.items;
+      ram = i.ram;
+      granules = i.granules.items;
+      harts = i.harts.items;
     }) ≡ true };
 }
 

@@ -18,7 +18,6 @@ pub use image::{HartImage, Image, NoMemory};
 pub use instr::{Action, Instr, Reg};
 pub use otype::OType;
 pub use perms::Perms;
-
 pub use trace::{Entry, Outcome, Status, Trap};
 pub use value::Value;
 pub use width::Width;

@@ -12,40 +12,103 @@ pub struct Perms(u32);
 
 impl Perms {
     pub const GLOBAL: Perms = Perms(1);
+
     pub const EXECUTE: Perms = Perms(2);
+
     pub const LOAD: Perms = Perms(4);
+
     pub const STORE: Perms = Perms(8);
+
     pub const LOAD_CAP: Perms = Perms(0x10);
+
     pub const STORE_CAP: Perms = Perms(0x20);
+
     pub const STORE_LOCAL: Perms = Perms(0x40);
+
     pub const SEAL: Perms = Perms(0x80);
+
     pub const CINVOKE: Perms = Perms(0x100);
+
     pub const UNSEAL: Perms = Perms(0x200);
+
     pub const SYSREGS: Perms = Perms(0x400);
+
     pub const SET_CID: Perms = Perms(0x800);
+
     pub const SW0: Perms = Perms(0x8000);
+
     pub const SW1: Perms = Perms(0x1_0000);
+
     pub const SW2: Perms = Perms(0x2_0000);
+
     pub const SW3: Perms = Perms(0x4_0000);
 
     /// The flags in bit order, under their names in listings.
     const FLAGS: &'static [Flag<Perms>] = &[
-        Flag { name: "global", value: Perms::GLOBAL },
-        Flag { name: "execute", value: Perms::EXECUTE },
-        Flag { name: "load", value: Perms::LOAD },
-        Flag { name: "store", value: Perms::STORE },
-        Flag { name: "load_cap", value: Perms::LOAD_CAP },
-        Flag { name: "store_cap", value: Perms::STORE_CAP },
-        Flag { name: "store_local", value: Perms::STORE_LOCAL },
-        Flag { name: "seal", value: Perms::SEAL },
-        Flag { name: "cinvoke", value: Perms::CINVOKE },
-        Flag { name: "unseal", value: Perms::UNSEAL },
-        Flag { name: "sysregs", value: Perms::SYSREGS },
-        Flag { name: "set_cid", value: Perms::SET_CID },
-        Flag { name: "sw0", value: Perms::SW0 },
-        Flag { name: "sw1", value: Perms::SW1 },
-        Flag { name: "sw2", value: Perms::SW2 },
-        Flag { name: "sw3", value: Perms::SW3 },
+        Flag {
+            name: "global",
+            value: Perms::GLOBAL,
+        },
+        Flag {
+            name: "execute",
+            value: Perms::EXECUTE,
+        },
+        Flag {
+            name: "load",
+            value: Perms::LOAD,
+        },
+        Flag {
+            name: "store",
+            value: Perms::STORE,
+        },
+        Flag {
+            name: "load_cap",
+            value: Perms::LOAD_CAP,
+        },
+        Flag {
+            name: "store_cap",
+            value: Perms::STORE_CAP,
+        },
+        Flag {
+            name: "store_local",
+            value: Perms::STORE_LOCAL,
+        },
+        Flag {
+            name: "seal",
+            value: Perms::SEAL,
+        },
+        Flag {
+            name: "cinvoke",
+            value: Perms::CINVOKE,
+        },
+        Flag {
+            name: "unseal",
+            value: Perms::UNSEAL,
+        },
+        Flag {
+            name: "sysregs",
+            value: Perms::SYSREGS,
+        },
+        Flag {
+            name: "set_cid",
+            value: Perms::SET_CID,
+        },
+        Flag {
+            name: "sw0",
+            value: Perms::SW0,
+        },
+        Flag {
+            name: "sw1",
+            value: Perms::SW1,
+        },
+        Flag {
+            name: "sw2",
+            value: Perms::SW2,
+        },
+        Flag {
+            name: "sw3",
+            value: Perms::SW3,
+        },
     ];
 }
 

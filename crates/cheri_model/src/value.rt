@@ -27,8 +27,8 @@ impl Model for Value {
     ghost inverse = { λ v. record { bits = bits_of v; tag = tag_of v } };
 
     ghost inverse_ok = { λ v h i. record {
-        bits = bits_of-value_at v.tag v.bits h i;
-        tag = tag_of-value_at v.tag v.bits i
+      bits = bits_of-value_at v.tag v.bits h i;
+      tag = tag_of-value_at v.tag v.bits i;
     } };
 }
 

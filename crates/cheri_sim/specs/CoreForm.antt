@@ -57,14 +57,14 @@ pub record IsHartStep (program : List Instr) (before : HartState) (number : ℕ)
   pub after_is : (memory : List CapValue) → (hart_step program before memory).hart ≡ after
   pub memory_is : (memory : List CapValue) → (hart_step program before memory).memory ≡ memory
   pub entry_is : (memory : List CapValue) →
-    entry ≡ record { hart = number; pc = address_of before.pcc; outcome = (hart_step program before memory).outcome }
+      entry ≡ record { hart = number; pc = address_of before.pcc; outcome = (hart_step program before memory).outcome }
 
 -- the core with one more operation
 unfoldable pub core_after : CoreParts → Operation → CoreParts
 core_after core hart = record core {
-    trace = core.trace ++ entry_of core.image core.state hart ∷ [];
-    state = state_after_one core.image core.state hart
-  }
+  trace = core.trace ++ entry_of core.image core.state hart ∷ [];
+  state = state_after_one core.image core.state hart;
+}
 
 -- An order was taken up to this place, and there a step of the hart that comes next is refused.
 pub record IsRefusedAt (order : List Operation) (place : ℕ) (fault : StepFault) (core : CoreParts) : Type 0 where

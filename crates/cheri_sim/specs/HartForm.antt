@@ -1,5 +1,5 @@
 -- What every hart of the machine keeps: 32 registers, of which c0 is null, and lawful values in all of them.
-use Rattle.std.specs.Prelude.{◌≡◌, ℕ, List, length, slice_index_or, All}
+use Rattle.std.specs.Prelude.{◌≡◌, List, length, slice_index_or, All}
 use Rattle.cheri_model.specs.CapValue.{CapValue, IsLawfulValue}
 use Rattle.cheri_model.specs.HartStep.{null}
 

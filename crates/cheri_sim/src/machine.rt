@@ -30,13 +30,13 @@ pub struct Core {
 
 impl Model for Core {
     ghost use Rattle.cheri_sim.specs.ViewForm.{state_of};
-ghost use Rattle.cheri_sim.specs.CoreForm.{CoreParts};
+    ghost use Rattle.cheri_sim.specs.CoreForm.{CoreParts};
 
     ghost Value = { CoreParts };
 
     ghost use Rattle.std.specs.Prelude.{◌≤◌, vec_capacity};
     ghost use Rattle.cheri_sim.specs.ViewForm.{state_of};
-ghost use Rattle.cheri_sim.specs.CoreForm.{IsCore, parts_of_core};
+    ghost use Rattle.cheri_sim.specs.CoreForm.{IsCore, parts_of_core};
 
     ghost view = { λ c. parts_of_core c.image c.limit c.trace.items c.harts.items c.ram };
 

@@ -32,3 +32,6 @@ pub fn run_order(
     }
     Ok((core, None))
 }
+
+#[cfg(test)]
+mod tests;

@@ -1,5 +1,5 @@
 -- The registers begin as c0 alone, and end as the image's behind it.
-use Rattle.std.proofs.Common.{◌≡◌, ◌∷◌, replicate, refl, arith, rules, lit<}
+use Rattle.std.proofs.Common.{◌∷◌, replicate, refl, arith, lit<}
 use Rattle.std.proofs.lemmas.List.{same_lists}
 use Rattle.std.proofs.lemmas.List.Elements.{All-replicate}
 use Rattle.cheri_model.specs.CapValue.{IsLawfulValue}

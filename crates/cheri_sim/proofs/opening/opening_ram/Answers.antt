@@ -1,5 +1,5 @@
 -- Each granule of an image fits the memory, which keeps its size.
-use Rattle.std.proofs.Common.{◌≡◌, ◌*◌, length, take, arith, sym, ap, ◌∙◌}
+use Rattle.std.proofs.Common.{◌≡◌, take, sym, ap, ◌∙◌}
 use Rattle.std.specs.Prelude.{fold, All, false}
 use Rattle.std.proofs.lemmas.Bool.{false≢true}
 use Rattle.std.proofs.lemmas.List.Sums.{fold_more}
@@ -22,12 +22,13 @@ loop-addr-preserved c =
     let inside = rw c.granules-granules.ensures.value at c.loop-addr-test.true in
     let read = rw c.granules-granules.ensures.value at c.loop-addr-item.is in
     let stored : c.store_cap.new.self ≡ store_capability c.loop-addr.ram item.0 item.1 =
-      c.store_cap.ensures ∙ ap (store_capability c.loop-addr.ram item.0) c.of_value.ensures in
-    (stored
-      ∙ ap (λ memory. store_capability memory item.0 item.1) c.loop-addr.invariant.0
-      ∙ ap (λ entry. store_capability (fold (λ memory entry. store_capability memory entry.0 entry.1) (cleared_memory image.ram) (take c.loop-addr.addr-index image.granules)) entry.0 entry.1) read
-      ∙ sym (fold_more (λ memory entry. store_capability memory entry.0 entry.1) (cleared_memory image.ram) image.granules c.loop-addr.addr-index item inside),
-    rw (stored, length-store_capability c.loop-addr.ram item.0 item.1) c.loop-addr.invariant.1)
+    c.store_cap.ensures ∙ ap (store_capability c.loop-addr.ram item.0) c.of_value.ensures in (
+      stored
+          ∙ ap (λ memory. store_capability memory item.0 item.1) c.loop-addr.invariant.0
+          ∙ ap (λ entry. store_capability (fold (λ memory entry. store_capability memory entry.0 entry.1) (cleared_memory image.ram) (take c.loop-addr.addr-index image.granules)) entry.0 entry.1) read
+          ∙ sym (fold_more (λ memory entry. store_capability memory entry.0 entry.1) (cleared_memory image.ram) image.granules c.loop-addr.addr-index item inside),
+      rw (stored, length-store_capability c.loop-addr.ram item.0 item.1) c.loop-addr.invariant.1,
+    )
 
 pub unreachable-requires : goal.unreachable-requires
 unreachable-requires c =

@@ -1,4 +1,4 @@
-use Rattle.std.proofs.Common.{arith, ap, sym, ◌∙◌}
+use Rattle.std.proofs.Common.{◌∙◌}
 use Rattle.cheri_model.proofs.FieldResultsMade.{and_perm-result}
 use Rattle.cap_ops.proofs.Made.{upper_word, made_tagged, made_value}
 use Rattle.cap_ops.proofs.cap.Cap.and_perm.Goals as goal
@@ -12,4 +12,4 @@ pub returns : goal.returns
 returns c =
     c.from_halves.ensures
     ∙ made_value _ _ _ _ _ (and_perm-result c.args.self c.args.mask c.is_open.ensures.lawful) c.is_open.ensures.value
-      (upper_word _ _ _ _ (rw (c.high.ensures.value, c.from.ensures, c.permission_bits.ensures.value) at c.with_perms.ensures) c.addr.ensures.bits)
+    (upper_word _ _ _ _ (rw (c.high.ensures.value, c.from.ensures, c.permission_bits.ensures.value) at c.with_perms.ensures) c.addr.ensures.bits)

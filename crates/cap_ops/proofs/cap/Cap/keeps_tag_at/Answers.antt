@@ -1,6 +1,6 @@
 use Rattle.std.proofs.Common.{◌≡◌, true, ◌∙◌, sym}
 use Rattle.cheri_model.specs.Results.{is_open}
-use Rattle.cap_ops.proofs.Tests.{keeps_tag_test}
+use Rattle.cap_ops.proofs.Exactness.{keeps_tag_test}
 use Rattle.cap_ops.proofs.cap.Cap.keeps_tag_at.Goals as goal
 
 pub returns-clause-value : goal.returns-clause-value

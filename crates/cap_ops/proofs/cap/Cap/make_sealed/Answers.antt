@@ -1,9 +1,7 @@
-use Rattle.std.proofs.Common.{◌≡◌, ◌+◌, ◌^◌, ◌<◌, ◌≤◌, true, false, arith, ap, sym, ◌∙◌, Ok}
+use Rattle.std.proofs.Common.{◌≡◌, ◌+◌, ◌^◌, ◌≤◌, true, arith, ap, sym, ◌∙◌, Ok}
 use Rattle.std.proofs.lemmas.Bool.{false≢true}
-use Rattle.cheri_model.specs.Window.{IsInWindow}
-use Rattle.cheri_model.specs.EditedWords.{with_rounded_fields}
 use Rattle.cheri_model.specs.Results.{is_exact}
-use Rattle.cap_ops.proofs.Makings.{unbounded, makeable, made_window, made_result, made-past_end, made-inexact, made-unrepresentable, made-ok}
+use Rattle.cap_ops.proofs.Makings.{makeable, made_window, made_result, made-past_end, made-inexact, made-unrepresentable, made-ok}
 use Rattle.cap_ops.proofs.cap.Cap.make_sealed.Goals as goal
 
 pub returns-then-len-from : goal.returns-then-len-from
@@ -15,7 +13,7 @@ pub returns-then-not-exact : goal.returns-then-not-exact
 returns-then-not-exact c =
     let from = c.from.ensures in
     sym (made-inexact c.args.base c.args.len c.args.addr c.args.perms.0 c.args.otype (omega arith)
-      (sym c.with_rounded_fields-upper.ensures.exact ∙ c.if-not-exact.true))
+    (sym c.with_rounded_fields-upper.ensures.exact ∙ c.if-not-exact.true))
 
 pub returns-then-not-representable : goal.returns-then-not-representable
 returns-then-not-representable c =
@@ -26,7 +24,7 @@ returns-then-not-representable c =
     let upper = rw (c.with_otype-unbounded.ensures, c.with_perms.ensures, c.bits.ensures, c.number.ensures.value) at c.with_rounded_fields-upper.ensures.fields in
     let window = made_window _ _ _ _ fits _ c.args.addr upper in
     sym (made-unrepresentable c.args.base c.args.len c.args.addr c.args.perms.0 c.args.otype ends exact
-      (λ inside. false≢true (sym c.if-not-representable.true ∙ c.representable.ensures.1 (window.1 inside))))
+    (λ inside. false≢true (sym c.if-not-representable.true ∙ c.representable.ensures.1 (window.1 inside))))
 
 pub from_halves-requires : goal.from_halves-requires
 from_halves-requires c =

@@ -1,4 +1,4 @@
-use Rattle.std.proofs.Common.{◌∙◌, sym}
+use Rattle.std.proofs.Common.{◌∙◌}
 use Rattle.cap_ops.proofs.Makings.{root_result}
 use Rattle.cap_ops.proofs.cap.Cap.root.Goals as goal
 

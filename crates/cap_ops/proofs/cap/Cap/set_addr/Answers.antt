@@ -12,4 +12,4 @@ pub returns : goal.returns
 returns c =
     c.from_halves.ensures
     ∙ made_value _ _ _ _ _ (set_address-result c.args.self c.args.addr c.keeps_tag_at-kept.ensures.lawful (omega arith))
-      c.keeps_tag_at-kept.ensures.value (address_word _ _ _ c.high.ensures.value)
+    c.keeps_tag_at-kept.ensures.value (address_word _ _ _ c.high.ensures.value)

@@ -1,7 +1,7 @@
-use Rattle.std.proofs.Common.{arith, ap, sym, ◌∙◌}
+use Rattle.std.proofs.Common.{arith, ◌∙◌}
 use Rattle.cheri_model.proofs.AddressResults.{set_bounds-result}
 use Rattle.cheri_model.specs.Results.{address_of}
-use Rattle.cap_ops.proofs.Made.{upper_word, rounded_word, made_tagged, made_value}
+use Rattle.cap_ops.proofs.Made.{rounded_word, made_tagged, made_value}
 use Rattle.cap_ops.proofs.cap.Cap.set_bounds.Goals as goal
 
 pub from_halves-requires : goal.from_halves-requires
@@ -15,4 +15,4 @@ unfolding address_of
 returns c =
     c.from_halves.ensures
     ∙ made_value _ _ _ _ _ (set_bounds-result c.args.self c.args.len c.may_narrow-kept.ensures.lawful (omega arith)) c.may_narrow-kept.ensures.value
-      (rounded_word _ _ _ _ _ (rw (c.high.ensures.value, c.addr.ensures.value, c.from.ensures) at c.with_rounded_fields-upper.ensures.fields) c.addr-2.ensures.bits)
+    (rounded_word _ _ _ _ _ (rw (c.high.ensures.value, c.addr.ensures.value, c.from.ensures) at c.with_rounded_fields-upper.ensures.fields) c.addr-2.ensures.bits)

@@ -1,6 +1,5 @@
-use Rattle.cheri_model.specs.CapValue.{bits_of, IsLawfulValue}
 use Rattle.cheri_model.specs.ValueFacts.{bits_of-value_at, IsLawfulValue-value_at}
-use Rattle.std.proofs.Common.{◌≡◌, sym}
+use Rattle.std.proofs.Common.{sym}
 use Rattle.cheri_model.proofs.value.Value.bits.Goals as goal
 
 pub returns-clause-value : goal.returns-clause-value

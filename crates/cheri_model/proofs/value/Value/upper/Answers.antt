@@ -1,7 +1,6 @@
-use Rattle.cheri_model.specs.CapValue.{bits_of, parts_of}
-use Rattle.cheri_model.specs.Capability.{capability_at}
+use Rattle.cheri_model.specs.CapValue.{bits_of}
 use Rattle.cheri_model.specs.ValueFacts.{bits_of-value_at, parts_of-value_at}
-use Rattle.std.proofs.Common.{◌≡◌, refl, sym, arith, ◌/◌, ◌%◌, ◌^◌}
+use Rattle.std.proofs.Common.{◌≡◌, refl}
 use Rattle.cheri_model.proofs.value.Value.upper.Goals as goal
 
 pub returns-clause-value : goal.returns-clause-value

@@ -1,8 +1,8 @@
 -- What was opened is the image's opening state, and a core begins with it.
-use Rattle.std.proofs.Common.{◌≡◌, ◌≤◌, Bool, true, sym, ◌∙◌, arith, rules, not}
+use Rattle.std.proofs.Common.{◌≡◌, true, arith}
 use Rattle.std.proofs.lemmas.Grind.{common_steps}
 use Rattle.std.proofs.lemmas.Bool.Decides.{nat_tests}
-use Rattle.cheri_sim.specs.CoreForm.{is_limit, parts_of_core, IsCore}
+use Rattle.cheri_sim.specs.CoreForm.{is_limit}
 use Rattle.cheri_sim.proofs.Cores.{state_opened, booted}
 use Rattle.cheri_sim.proofs.machine.Core.boot.Goals as goal
 
@@ -10,9 +10,10 @@ pub invariant_of-result : goal.invariant_of-result
 invariant_of-result c =
     let harts = rw c.harts.ensures at c.in_ok-harts.ensures.same in
     let range = c.if-not-contains.false in
-    let limited : is_limit c.args.limit ≡ true = grind (arith, common_steps, nat_tests) in
-    (rw c.in_ok-trace.ensures.items (booted c.args.image c.args.limit c.in_ok-harts.harts.items c.in_ok-ram.ram harts c.in_ok-ram.ensures.same c.in_ok-harts.ensures.lawful c.in_ok-ram.ensures.memory limited),
-     omega (arith, c.in_ok-trace.ensures.exact))
+    let limited : is_limit c.args.limit ≡ true = grind (arith, common_steps, nat_tests) in (
+      rw c.in_ok-trace.ensures.items (booted c.args.image c.args.limit c.in_ok-harts.harts.items c.in_ok-ram.ram harts c.in_ok-ram.ensures.same c.in_ok-harts.ensures.lawful c.in_ok-ram.ensures.memory limited),
+      omega (arith, c.in_ok-trace.ensures.exact),
+    )
 
 pub returns-clause-opened : goal.returns-clause-opened
 returns-clause-opened c =

@@ -1,8 +1,8 @@
 -- A refused step leaves the core as it is, and every core is a replay that is confined.
-use Rattle.std.proofs.Common.{◌≡◌, sym, ap, ◌∙◌}
-use Rattle.std.specs.Prelude.{Some, None, Ok}
+use Rattle.std.proofs.Common.{sym, ap, ◌∙◌}
+use Rattle.std.specs.Prelude.{Ok}
 use Rattle.cheri_model.specs.Machine.{entry_of}
-use Rattle.cheri_sim.specs.CoreForm.{IsCore, refused, answered, unless_refused}
+use Rattle.cheri_sim.specs.CoreForm.{answered, unless_refused}
 use Rattle.cheri_sim.proofs.Cores.{core_confined}
 use Rattle.cheri_sim.proofs.machine.Core.step.Goals as goal
 
@@ -23,7 +23,7 @@ unfolding answered
 returns-in-None-clause-answered c =
     let core = c.args.self.now in
     ap Ok c.take.ensures.entry
-      ∙ sym (ap (λ r. unless_refused r (entry_of core.image core.state c.args.hart)) (sym c.refusal.ensures.value ∙ c.in-None.is))
+    ∙ sym (ap (λ r. unless_refused r (entry_of core.image core.state c.args.hart)) (sym c.refusal.ensures.value ∙ c.in-None.is))
 
 pub returns-in-None-clause-replay : goal.returns-in-None-clause-replay
 returns-in-None-clause-replay c = c.take.ensures.core.replay

@@ -1,8 +1,8 @@
 -- A step that is not refused finds its hart and room in the trace, and leaves the core after it.
-use Rattle.std.proofs.Common.{◌≡◌, ◌<◌, ◌≤◌, length, sym, subst, arith, rules}
+use Rattle.std.proofs.Common.{◌≡◌, sym, subst, arith}
 use Rattle.std.specs.Prelude.{None}
 use Rattle.cheri_sim.specs.CoreForm.{CoreParts, parts_of_core, IsCore, refused}
-use Rattle.cheri_sim.proofs.Cores.{CanStep, not_refused, took}
+use Rattle.cheri_sim.proofs.Cores.{not_refused, took}
 use Rattle.cheri_sim.proofs.machine.Core.take.Goals as goal
 
 pub index-requires : goal.index-requires

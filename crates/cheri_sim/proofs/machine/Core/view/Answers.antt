@@ -1,5 +1,5 @@
 use Rattle.std.proofs.Common.{subst}
-use Rattle.cheri_sim.specs.CoreForm.{CoreParts, IsCore}
+use Rattle.cheri_sim.specs.CoreForm.{IsCore}
 use Rattle.cheri_sim.proofs.Cores.{core_confined}
 use Rattle.cheri_sim.proofs.machine.Core.view.Goals as goal
 

@@ -1,6 +1,5 @@
--- Tests: what the code answers is the test of the definitions.
-use Rattle.std.proofs.Common.{◌≡◌, ℕ, ◌+◌, ◌-◌, ◌/◌, ◌^◌, ◌≤◌, ◌<◌, Bool, true, false, ◌==◌, ◌&&◌, ◌↔◌, ◌∙◌, sym, ap, nat_lt, if◌then◌else◌, IsTrue, arith, inl, inr, refl}
-use Rattle.std.proofs.lemmas.Bool.{cases_Bool}
+-- What the code tests is what the definitions do: exact bounds, and addresses that keep the bounds.
+use Rattle.std.proofs.Common.{◌≡◌, ℕ, ◌/◌, ◌^◌, Bool, true, ◌==◌, ◌&&◌, ◌↔◌, IsTrue}
 use Rattle.std.proofs.lemmas.Bool.Decides.{same_from_decides, Decides-and, Decides-eqb}
 use Rattle.cheri_model.specs.RawBounds.{raw_base, raw_top}
 use Rattle.cheri_model.specs.CapValue.{CapValue, bits_of, parts_of, IsLawfulValue}
@@ -24,5 +23,5 @@ keeps_tag_test v r a h unsealed same =
     let known = rw (tagged.bits, upper_of_word (parts_of v) tagged.lawful) at same in
     rw unsealed
     (same_from_decides r (keeps_bounds v a)
-      (λ t. window.0 (known.0 t), λ inside. known.1 (window.1 inside))
-      (λ t. window_test _ _ a t, λ inside. test_of_window _ _ a inside))
+    (λ t. window.0 (known.0 t), λ inside. known.1 (window.1 inside))
+    (λ t. window_test _ _ a t, λ inside. test_of_window _ _ a inside))

@@ -1,0 +1,15 @@
+use Rattle.std.proofs.Common.{◌∙◌}
+use Rattle.cheri_model.proofs.FieldResultsMade.{unsealed-result}
+use Rattle.cap_ops.proofs.Made.{upper_word, made_tagged, made_value}
+use Rattle.cap_ops.proofs.cap.Cap.unsealed.Goals as goal
+
+pub from_halves-requires : goal.from_halves-requires
+from_halves-requires c =
+    made_tagged _ _ _ _ _ (unsealed-result c.args.self c.tag.ensures.lawful) c.tag.ensures.value
+    (upper_word _ _ _ _ (rw (c.high.ensures.value) at c.with_otype.ensures) c.addr.ensures.bits)
+
+pub returns : goal.returns
+returns c =
+    c.from_halves.ensures
+    ∙ made_value _ _ _ _ _ (unsealed-result c.args.self c.tag.ensures.lawful) c.tag.ensures.value
+    (upper_word _ _ _ _ (rw (c.high.ensures.value) at c.with_otype.ensures) c.addr.ensures.bits)
