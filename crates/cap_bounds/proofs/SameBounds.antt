@@ -6,6 +6,7 @@ use Rattle.cheri_model.specs.Fields.{word_ie, word_exponent, word_b, word_t14}
 use Rattle.cheri_model.specs.RawBounds.{region_start, region_offset, raw_base, uncorrected_top, corrected_top, raw_top}
 use Rattle.cap_bounds.proofs.SameRegion.{start_51, start_52, top_from_start}
 
+-- a word's exponent is at most 52
 exponent_at_most : (meta : ℕ) → word_exponent meta ≤ 52
 unfolding word_exponent
 exponent_at_most meta =
@@ -40,16 +41,19 @@ pub start_from_base : (meta old new : ℕ) → raw_base meta new ≡ raw_base me
 unfolding raw_base
 start_from_base meta old new equal = omega arith
 
+-- and lead to equal bases
 pub base_from_start : (meta old new : ℕ) →
     region_start (word_exponent meta) (word_b meta) old % 2 ^ 64 ≡ region_start (word_exponent meta) (word_b meta) new % 2 ^ 64 →
     raw_base meta new ≡ raw_base meta old
 unfolding raw_base
 base_from_start meta old new same = omega arith
 
+-- a word's base is an address
 base_below : (meta addr : ℕ) → raw_base meta addr < 2 ^ 64
 unfolding raw_base
 base_below meta addr = omega arith
 
+-- and to equal tops
 pub top_from_start_of_word : (meta old new : ℕ) →
     region_start (word_exponent meta) (word_b meta) old % 2 ^ 64 ≡ region_start (word_exponent meta) (word_b meta) new % 2 ^ 64 →
     raw_top meta new ≡ raw_top meta old

@@ -8,9 +8,11 @@ use Rattle.cheri_model.specs.RawBounds.{region_floor, region_start, corrected_to
 congruent_65 : (n c : ℕ) → 2 ^ 66 ≤ n → c ≤ 2 ^ 65 → (n - (n + (2 ^ 65 - c)) % 2 ^ 65) % 2 ^ 65 ≡ c % 2 ^ 65
 congruent_65 n c large small = omega arith
 
+-- the same of 2^66
 congruent_66 : (n c : ℕ) → 2 ^ 66 ≤ n → c ≤ 2 ^ 66 → (n - (n + (2 ^ 66 - c)) % 2 ^ 66) % 2 ^ 65 ≡ c % 2 ^ 65
 congruent_66 n c large small = omega arith
 
+-- a region begins below its size, modulo that
 floor_below : (b : ℕ) → region_floor b < 2 ^ 14
 unfolding region_floor
 floor_below b = omega arith
@@ -21,6 +23,7 @@ unfolding region_start
 start_51 b addr =
     congruent_65 (addr + 2 ^ 66) (region_floor b * 2 ^ 51) (omega arith) (omega (arith, floor_below b))
 
+-- the same at exponent 52
 pub start_52 : (b addr : ℕ) → region_start 52 b addr % 2 ^ 65 ≡ region_floor b * 2 ^ 52 % 2 ^ 65
 unfolding region_start
 start_52 b addr =
@@ -31,6 +34,7 @@ turned : (base top other : ℕ) → base < 2 ^ 64 → top < 2 ^ 65 → other ≡
     1 < (top / 2 ^ 63 + 4 - base / 2 ^ 63) % 4 → (other / 2 ^ 63 + 4 - base / 2 ^ 63) % 4 ≤ 1
 turned base top other low high apart more = omega arith
 
+-- the other way round
 turned_back : (base top other : ℕ) → base < 2 ^ 64 → top < 2 ^ 65 → other ≡ (top + 2 ^ 64) % 2 ^ 65 →
     (top / 2 ^ 63 + 4 - base / 2 ^ 63) % 4 ≤ 1 → 1 < (other / 2 ^ 63 + 4 - base / 2 ^ 63) % 4
 turned_back base top other low high apart less = omega arith

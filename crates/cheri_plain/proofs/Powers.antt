@@ -28,5 +28,6 @@ step_fits e small = let less : e + 11 < 75 = omega arith in pow_below (e + 11) 7
 pub granule_fits : (e : ℕ) → e < 64 → 2 ^ (e + 3) < 2 ^ 67
 granule_fits e small = let less : e + 3 < 67 = omega arith in pow_below (e + 3) 67 less
 
+-- the greatest granule
 pub granule_at_most : (e : ℕ) → e ≤ 64 → 2 ^ (e + 3) ≤ 2 ^ 67
 granule_at_most e small = let most : e + 3 ≤ 67 = omega arith in pow-le-pow_right {n = 2} (lit< tt) most

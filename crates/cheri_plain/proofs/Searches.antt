@@ -22,22 +22,26 @@ first_from-here test n k below holds =
 unfoldable pub exponent_from : ℕ → ℕ → ℕ
 exponent_from len k = first_from (λ e. nat_lt len (2 ^ (e + 13))) (64 - k) k
 
+-- nothing is ruled out at first
 pub exponent_from_first : (len : ℕ) → exponent_from len 0 ≡ exponent len
 unfolding exponent_from exponent
 exponent_from_first len = refl
 
+-- an exponent that is too small is ruled out
 pub exponent_from_later : (len k : ℕ) → k < 64 → 2 ^ (k + 13) ≤ len → exponent_from len (k + 1) ≡ exponent_from len k
 unfolding exponent_from
 exponent_from_later len k below large =
     let fails : nat_lt len (2 ^ (k + 13)) ≡ false = grind (arith, nat_tests) in
     first_from-later (λ e. nat_lt len (2 ^ (e + 13))) 64 k below fails
 
+-- an exponent that is large enough is the answer
 pub exponent_from_here : (len k : ℕ) → k < 64 → len < 2 ^ (k + 13) → exponent_from len k ≡ k
 unfolding exponent_from
 exponent_from_here len k below small =
     let holds : nat_lt len (2 ^ (k + 13)) ≡ true = grind (arith, nat_tests) in
     first_from-here (λ e. nat_lt len (2 ^ (e + 13))) 64 k below holds
 
+-- none of 64 exponents is large enough
 pub exponent_from_last : (len k : ℕ) → k ≤ 64 → 64 ≤ k → exponent_from len k ≡ 64
 unfolding exponent_from first_from
 exponent_from_last len k most least = let same : k ≡ 64 = omega arith in rw same refl
@@ -50,11 +54,13 @@ widened base len e = round_up (2 ^ (e + 3)) (base + len) - round_down (2 ^ (e + 
 unfoldable pub rounding_from : ℕ → ℕ → ℕ → ℕ
 rounding_from base len k = first_from (λ e. nat_lt (widened base len e) (2 ^ (e + 13))) (64 - k) k
 
+-- nothing is ruled out at first, from 2^12 on
 pub rounding_from_first : (base len : ℕ) → 2 ^ 12 ≤ len → rounding_from base len 0 ≡ rounding_exponent base len
 unfolding rounding_from rounding_exponent widened
 rounding_from_first base len large =
     let fails : nat_lt len (2 ^ 12) ≡ false = grind (arith, nat_tests) in rw fails refl
 
+-- an exponent that is too small is ruled out
 pub rounding_from_later : (base len k : ℕ) → k < 64 → 2 ^ (k + 13) ≤ widened base len k →
     rounding_from base len (k + 1) ≡ rounding_from base len k
 unfolding rounding_from
@@ -62,12 +68,14 @@ rounding_from_later base len k below large =
     let fails : nat_lt (widened base len k) (2 ^ (k + 13)) ≡ false = grind (arith, nat_tests) in
     first_from-later (λ e. nat_lt (widened base len e) (2 ^ (e + 13))) 64 k below fails
 
+-- an exponent that is large enough is the answer
 pub rounding_from_here : (base len k : ℕ) → k < 64 → widened base len k < 2 ^ (k + 13) → rounding_from base len k ≡ k
 unfolding rounding_from
 rounding_from_here base len k below small =
     let holds : nat_lt (widened base len k) (2 ^ (k + 13)) ≡ true = grind (arith, nat_tests) in
     first_from-here (λ e. nat_lt (widened base len e) (2 ^ (e + 13))) 64 k below holds
 
+-- none of 64 exponents is large enough
 pub rounding_from_last : (base len k : ℕ) → k ≤ 64 → 64 ≤ k → rounding_from base len k ≡ 64
 unfolding rounding_from first_from
 rounding_from_last base len k most least = let same : k ≡ 64 = omega arith in rw same refl

@@ -53,3 +53,31 @@ pub fn upper_with_fields(perms: u32, flag: u8, otype: u32, ie: u8, t: u16, b: u1
     let low = u128::from(t) * power_of_two(14) + u128::from(b);
     exclusive_or_null((high + middle + low) as u64)
 }
+
+#[cfg(test)]
+mod tests {
+    use super::*;
+
+    #[test]
+    fn makes_known_upper_halves(rt: HostRuntime) {
+        // The root, sixteen bytes at 0x8000_0000, 4096 bytes there, and an object type of its own.
+        assert_eq!(rt;
+            upper_with_fields(0x7_8fff, 0, 0x3_ffff, 1, 0x006, 0x0004),
+            0xffff_0000_0000_0000
+        );
+        assert_eq!(rt;
+            upper_with_fields(0x7_8fff, 0, 0x3_ffff, 0, 0x010, 0),
+            0xffff_0000_0405_8004
+        );
+        assert_eq!(rt;
+            upper_with_fields(0xc, 0, 0x3_ffff, 1, 0, 0),
+            0x000c_0000_0001_8004
+        );
+        assert_eq!(rt;
+            upper_with_fields(0x7_8fff, 0, 0x3_fffb, 0, 0x010, 0),
+            0xffff_0000_2405_8004
+        );
+        assert_eq!(rt; field_b(1, 52, 0), 0x0004);
+        assert_eq!(rt; field_t(1, 52, 1 << 64), 0x006);
+    }
+}

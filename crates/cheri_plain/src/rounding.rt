@@ -68,3 +68,46 @@ pub fn top_of_rounding(base: u64, len: u128) -> u128
 {
     multiple_above(granule_of_rounding(base, len), u128::from(base) + len)
 }
+
+#[cfg(test)]
+mod tests {
+    use super::*;
+
+    /// Asked bases and lengths, with the exponent, the base and the top of their rounding.
+    const ROUNDED: [(u64, u128, u32, u128, u128); 6] = [
+        (1, 4095, 0, 1, 4096),
+        (1, 4096, 0, 0, 0x1008),
+        (1, 8191, 1, 0, 0x2000),
+        (0, 0xffff_ffff_ffff_ffff, 52, 0, 0x1_0000_0000_0000_0000),
+        (0x8000_0001, 0x10_0000, 8, 0x8000_0000, 0x8010_0800),
+        (
+            0xffff_ffff_ffff_ffff,
+            2,
+            0,
+            0xffff_ffff_ffff_ffff,
+            0x1_0000_0000_0000_0001,
+        ),
+    ];
+
+    #[test]
+    fn rounds_known_ranges(rt: HostRuntime) {
+        for (base, len, exponent, first, end) in ROUNDED {
+            assert!(rt; len <= 1 << 64);
+            assert_eq!(rt;
+                exponent_of_rounding(base, len),
+                exponent,
+                "base {base:x}, length {len:x}"
+            );
+            assert_eq!(rt;
+                base_of_rounding(base, len),
+                first,
+                "base {base:x}, length {len:x}"
+            );
+            assert_eq!(rt;
+                top_of_rounding(base, len),
+                end,
+                "base {base:x}, length {len:x}"
+            );
+        }
+    }
+}

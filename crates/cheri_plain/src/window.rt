@@ -28,3 +28,32 @@ pub fn is_address_in_window(base: u64, len: u128, a: u64) -> bool
     }
     offset_in_window(e, base, a) < power_of_two(e + 14)
 }
+
+#[cfg(test)]
+mod tests {
+    use super::*;
+
+    /// Bases and lengths with an address, and whether it is in the window.
+    const ADDRESSES: [(u64, u128, u64, bool); 9] = [
+        (0x8000_0000, 16, 0x7fff_f800, true),
+        (0x8000_0000, 16, 0x8000_37ff, true),
+        (0x8000_0000, 16, 0x7fff_f7ff, false),
+        (0x8000_0000, 16, 0x8000_3800, false),
+        (0, 16, 0xffff_ffff_ffff_f800, true),
+        (0, 16, 0xffff_ffff_ffff_f7ff, false),
+        (0xffff_ffff_ffff_fff0, 16, 0x2fff, true),
+        (0xffff_ffff_ffff_fff0, 16, 0x3000, false),
+        (0, 0x1_0000_0000_0000_0000, 0xffff_ffff_ffff_ffff, true),
+    ];
+
+    #[test]
+    fn knows_the_windows_ends(rt: HostRuntime) {
+        for (base, len, addr, inside) in ADDRESSES {
+            assert_eq!(rt;
+                is_address_in_window(base, len, addr),
+                inside,
+                "base {base:x}, address {addr:x}"
+            );
+        }
+    }
+}
