@@ -2,6 +2,7 @@
 pub mod Regions
 pub mod SameRegion
 pub mod SameBounds
+pub mod Windows
 pub mod Digits
 pub mod RoundedParts
 pub mod RoundedAtZero

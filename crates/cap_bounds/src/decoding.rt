@@ -110,6 +110,7 @@ fn with_top_bit(e: u8, base: u64, top: u128) -> u128
 #[cfg(test)]
 mod tests {
     use super::*;
+    use crate::xorshift::next;
     use cheri_plain::raw_bounds::{base_of_word, top_of_word};
 
     /// Words as upper half and address, with their bases and tops.
@@ -182,13 +183,6 @@ mod tests {
                 "exponent {exponent}"
             );
         }
-    }
-
-    /// The next number of a xorshift generator.
-    fn next(state: u64) -> u64 {
-        let a = state ^ (state << 13);
-        let b = a ^ (a >> 7);
-        b ^ (b << 17)
     }
 
     #[test]

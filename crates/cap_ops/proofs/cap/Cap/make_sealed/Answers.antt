@@ -24,7 +24,7 @@ returns-then-not-representable c =
     let upper = rw (c.with_otype-unbounded.ensures, c.with_perms.ensures, c.bits.ensures, c.number.ensures.value) at c.with_rounded_fields-upper.ensures.fields in
     let window = made_window _ _ _ _ fits _ c.args.addr upper in
     sym (made-unrepresentable c.args.base c.args.len c.args.addr c.args.perms.0 c.args.otype ends exact
-    (λ inside. false≢true (sym c.if-not-representable.true ∙ c.representable.ensures.1 (window.1 inside))))
+    (λ inside. false≢true (sym c.if-not-representable.true ∙ c.representable.ensures.same.1 (window.1 inside))))
 
 pub from_halves-requires : goal.from_halves-requires
 from_halves-requires c =
@@ -34,7 +34,7 @@ from_halves-requires c =
     let fits = makeable c.args.base c.args.len c.args.perms.0 c.args.otype c.requires.perms c.requires.otype (omega arith) ends exact in
     let upper = rw (c.with_otype-unbounded.ensures, c.with_perms.ensures, c.bits.ensures, c.number.ensures.value) at c.with_rounded_fields-upper.ensures.fields in
     let window = made_window _ _ _ _ fits _ c.args.addr upper in
-    (made_result _ _ _ _ fits _ c.args.addr upper (omega arith) (window.0 (c.representable.ensures.0 c.if-not-representable.false))).tagged
+    (made_result _ _ _ _ fits _ c.args.addr upper (omega arith) (window.0 (c.representable.ensures.same.0 c.if-not-representable.false))).tagged
 
 pub returns : goal.returns
 returns c =
@@ -44,6 +44,6 @@ returns c =
     let fits = makeable c.args.base c.args.len c.args.perms.0 c.args.otype c.requires.perms c.requires.otype (omega arith) ends exact in
     let upper = rw (c.with_otype-unbounded.ensures, c.with_perms.ensures, c.bits.ensures, c.number.ensures.value) at c.with_rounded_fields-upper.ensures.fields in
     let window = made_window _ _ _ _ fits _ c.args.addr upper in
-    let inside = window.0 (c.representable.ensures.0 c.if-not-representable.false) in
+    let inside = window.0 (c.representable.ensures.same.0 c.if-not-representable.false) in
     ap Ok (c.from_halves.ensures ∙ (made_result _ _ _ _ fits _ c.args.addr upper (omega arith) inside).same)
     ∙ sym (made-ok c.args.base c.args.len c.args.addr c.args.perms.0 c.args.otype ends exact inside)

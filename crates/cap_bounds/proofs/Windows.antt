@@ -1,0 +1,25 @@
+-- The regions of a lawful capability's address and of another address begin at the same place modulo 2^64 exactly
+-- where the other address is in the window.
+use Rattle.std.proofs.Common.{◌≡◌, ℕ, ◌-◌, ◌%◌, ◌^◌}
+use Rattle.cheri_model.specs.Fields.{word_exponent, word_b}
+use Rattle.cheri_model.specs.RawBounds.{region_start}
+use Rattle.cheri_model.specs.Window.{IsInWindow}
+use Rattle.cheri_model.specs.Capability.{Capability, IsLawful, upper_of}
+use Rattle.cheri_model.proofs.WindowsEnd.{same_bounds_in_window}
+use Rattle.cap_bounds.proofs.SameBounds.{start_from_base, base_from_start, top_from_start_of_word}
+
+-- the same start puts the address in the window
+pub window_from_start : (c : Capability) → IsLawful c → (meta old new : ℕ) → meta ≡ upper_of c → old ≡ c.addr →
+    region_start (word_exponent meta) (word_b meta) old % 2 ^ 64 ≡ region_start (word_exponent meta) (word_b meta) new % 2 ^ 64 →
+    IsInWindow c.base (c.top - c.base) new
+window_from_start c h meta old new its_upper its_addr same =
+    let there = same_bounds_in_window c h new in
+    (rw (← its_upper, ← its_addr) at there).0 (base_from_start meta old new same, top_from_start_of_word meta old new same)
+
+-- an address in the window has the same start
+pub start_from_window : (c : Capability) → IsLawful c → (meta old new : ℕ) → meta ≡ upper_of c → old ≡ c.addr →
+    IsInWindow c.base (c.top - c.base) new →
+    region_start (word_exponent meta) (word_b meta) old % 2 ^ 64 ≡ region_start (word_exponent meta) (word_b meta) new % 2 ^ 64
+start_from_window c h meta old new its_upper its_addr inside =
+    let there = same_bounds_in_window c h new in
+    start_from_base meta old new ((rw (← its_upper, ← its_addr) at there).1 inside).0
