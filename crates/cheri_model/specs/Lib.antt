@@ -22,6 +22,7 @@ pub mod Checks
 pub mod HartStep
 pub mod Image
 pub mod ImageForm
+pub mod SameImages
 pub mod Machine
 pub mod Replay
 pub mod Authority

@@ -1,6 +1,14 @@
 //! Images: a program, and what the machine holds before its first step.
 
 ghost use Rattle.std.specs.Prelude.{◌≡◌, IfOk, true};
+ghost use Rattle.std.specs.Cmp.Rules.{comparing};
+ghost use Rattle.std.proofs.Common.{rules};
+ghost use Rattle.cheri_model.specs.contracts.instr.InstrPartialEq.TheImpl.Laws as instr_laws;
+ghost use Rattle.cheri_model.specs.contracts.value.ValuePartialEq.TheImpl.Laws as value_laws;
+ghost use Rattle.cheri_model.specs.contracts.image.HartImagePartialEq.TheImpl.Laws as hart_laws;
+ghost use Rattle.cheri_model.specs.contracts.instr.InstrEq.TheImpl.Laws as instr_equal;
+ghost use Rattle.cheri_model.specs.contracts.value.ValueEq.TheImpl.Laws as value_equal;
+ghost use Rattle.cheri_model.specs.contracts.image.HartImageEq.TheImpl.Laws as hart_equal;
 ghost use Rattle.cheri_model.specs.ImageForm.{image_of, is_image, are_granules, is_granule};
 ghost use Rattle.cheri_model.specs.Memory.{ram_base};
 
@@ -53,6 +61,25 @@ impl Model for Image {
       granules = i.granules.items;
       harts = i.harts.items;
     }) ≡ true };
+}
+
+impl PartialEq for Image {
+    ghost use Rattle.cheri_model.specs.SameImages.{same_images};
+
+    ghost eq = { same_images };
+
+    ghost laws = { Prim.search (comparing, rules, instr_laws.laws-law, value_laws.laws-law, hart_laws.laws-law) depth 9 };
+
+    fn eq(&self, other: &Image) -> bool {
+        self.program() == other.program()
+            && self.ram == other.ram
+            && self.granules() == other.granules()
+            && self.harts() == other.harts()
+    }
+}
+
+impl Eq for Image {
+    ghost laws = { Prim.search (comparing, rules, instr_equal.laws-law, value_equal.laws-law, hart_equal.laws-law) depth 9 };
 }
 
 /// Whether a granule may be listed in an image with this RAM, behind granules below `from`.
@@ -148,3 +175,6 @@ impl Image {
         })
     }
 }
+
+#[cfg(test)]
+mod tests;

@@ -16,4 +16,5 @@ pub mod ListingMeaning
 pub mod ReportText
 pub mod Report
 pub mod ViewForm
+pub mod NumberAnswers
 pub mod ProgramFaults

@@ -1,7 +1,7 @@
 -- The lines of standard error, and the exit statuses.
 use Rattle.std.specs.Prelude.{ℕ, List, ◌++◌, codes, decimal}
 use Rattle.cheri_sim.specs.declared.program.fault.Fault.{Fault}
-use Rattle.cheri_sim.specs.declared.program.fault.Fault.TheVariants.{Usage, NoMemory, CannotReadListing, CannotReadOrder, CannotWrite, Listing, Order, Step}
+use Rattle.cheri_sim.specs.declared.program.fault.Fault.TheVariants.{Usage, NoMemory, BadNumber, CannotReadListing, CannotReadOrder, CannotWrite, Listing, Order, Step}
 use Rattle.cheri_sim.specs.declared.command_line.CommandFault.{CommandFault}
 use Rattle.cheri_sim.specs.declared.command_line.CommandFault.TheVariants as commands
 use Rattle.cheri_sim.specs.declared.listing.fault.ListingFault.{ListingFault}
@@ -18,6 +18,7 @@ use Rattle.cheri_sim.specs.StepFaults.{step_fault_text}
 abbrev pub fault_text : Fault → List ℕ
 fault_text Usage = codes "usage"
 fault_text NoMemory = codes "memory"
+fault_text BadNumber = codes "bad number"
 fault_text CannotReadListing = codes "cannot read listing"
 fault_text CannotReadOrder = codes "cannot read order"
 fault_text CannotWrite = codes "cannot write"
@@ -25,9 +26,10 @@ fault_text (Listing fault) = codes "listing line " ++ (decimal fault.line ++ (co
 fault_text (Order fault) = codes "order byte " ++ (decimal fault.offset ++ (codes ": " ++ orders.text_of_kind fault.kind))
 fault_text (Step place fault) = codes "order step " ++ (decimal place ++ (codes ": " ++ step_fault_text fault))
 
--- The exit status: 1 where a text or a step was refused, 2 where the command line was, 3 for all else.
+-- The exit status: 1 where a number, a text or a step was refused, 2 where the command line was, 3 for all else.
 abbrev pub status_of : Fault → ℕ
 status_of Usage = 2
+status_of BadNumber = 1
 status_of (Listing fault) = 1
 status_of (Order fault) = 1
 status_of (Step place fault) = 1

@@ -12,6 +12,7 @@ mod statement;
 mod words;
 
 pub use fault::{ListingFault, ListingFaultKind};
+pub use numbers::number_of;
 pub use reader::read_listing;
 
 #[cfg(test)]

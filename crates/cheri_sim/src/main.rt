@@ -1,6 +1,7 @@
 //! `cheri_sim`: a simulator of a CHERI-RISC-V capability machine of several harts.
 #![tactic(auto)]
 
+mod answers;
 mod command_line;
 mod execute;
 mod faults;

@@ -1,14 +1,16 @@
 //! The program: what a command line asks for is done, or the fault that stands in its way is told.
 
-ghost use Rattle.std.specs.Prelude.{◌≡◌, ◌≤◌};
+ghost use Rattle.std.specs.Prelude.{◌≡◌, ◌≤◌, IfOk};
 ghost use Rattle.cheri_sim.specs.ProgramFaults.{status_of};
+ghost use Rattle.cheri_sim.specs.NumberAnswers.{number_given};
 
 mod fault;
 
+use crate::answers::{bounds_text, decode_text};
 use crate::command_line::{Request, parse};
 use crate::faults::{BootFault, StepFault};
 use crate::files::{FileFault, Files};
-use crate::listing::read_listing;
+use crate::listing::{number_of, read_listing};
 use crate::orders::read_order;
 use crate::report::report_text;
 use crate::run::run_order;
@@ -19,6 +21,12 @@ use std::io::Write;
 
 /// The most steps that a machine of this program takes.
 const TRACE_LIMIT: u32 = 100_000;
+
+/// The greatest address.
+const GREATEST_ADDRESS: u128 = (1 << 64) - 1;
+
+/// The length of the whole address space.
+const GREATEST_LENGTH: u128 = 1 << 64;
 
 /// What a run shows: the report, and the step that was refused, with its place in the order.
 #[derive(Drop)]
@@ -73,6 +81,31 @@ fn run<F: Files, O: Write>(
     }
 }
 
+/// The number that a word of the command line writes as in a listing, which is at most the limit.
+#[tactic(auto, unfolding(crate::specs::NumberAnswers::number_given))]
+fn number_given(limit: u128, word: &str) -> Result<u128, Fault>
+    ensures value { result ≡ number_given limit word.now }
+    ensures at_most { IfOk result (λ number. number ≤ limit) }
+{
+    match number_of(word.as_bytes()) {
+        Ok(Some(number)) if number <= limit => Ok(number),
+        _ => Err(Fault::BadNumber),
+    }
+}
+
+/// `bounds BASE LEN`: both numbers are read before the range is rounded.
+fn bounds<O: Write>(alloc: Global, base: &str, len: &str, out: &mut O) -> Result<(), Fault> {
+    let base = number_given(GREATEST_ADDRESS, base)?;
+    let len = number_given(GREATEST_LENGTH, len)?;
+    print(out, bounds_text(alloc, base as u64, len)?.as_str())
+}
+
+/// `decode WORD`.
+fn decode<O: Write>(alloc: Global, word: &str, out: &mut O) -> Result<(), Fault> {
+    let word = number_given(u128::MAX, word)?;
+    print(out, decode_text(alloc, word)?.as_str())
+}
+
 /// The words of a command line, behind the program's name.
 fn with_program_name<'a>(alloc: Global, words: &'a [String]) -> Result<Vec<&'a str>, NoMemory> {
     let mut all = Vec::new(alloc);
@@ -93,6 +126,8 @@ fn answer<F: Files, O: Write>(
     let words = with_program_name(alloc, words)?;
     match parse(alloc, words.as_slice())? {
         Request::Run { listing, order } => run(alloc, listing, order, files, out),
+        Request::Bounds { base, len } => bounds(alloc, base, len, out),
+        Request::Decode { word } => decode(alloc, word, out),
     }
 }
 
@@ -105,7 +140,7 @@ pub fn tell<E: Write>(err: &mut E, fault: Fault) -> u8
 }
 
 /// Does what the words of a command line ask for, which are those after the program's name, and gives the exit
-/// status: 0 where it was done, 1 where a text or a step was refused, 2 where the command line was, and 3 for every
+/// status: 0 where it was done, 1 where a number, a text or a step was refused, 2 where the command line was, and 3 for every
 /// other fault. A fault has one line of `err`, and that `err` takes no line changes nothing of the status.
 pub fn perform<F: Files, O: Write, E: Write>(
     alloc: Global,

@@ -5,7 +5,7 @@ ghost use Rattle.cheri_model.specs.ImageForm.{is_listed};
 ghost use Rattle.cheri_sim.specs.Report.{numbered, image_line, entry_line, register_line, register_lines, hart_lines, granule_line, report};
 ghost use Rattle.cheri_sim.specs.ViewForm.{state_of};
 
-mod text;
+pub mod text;
 
 use crate::hart::Hart;
 use crate::view::View;

@@ -17,6 +17,8 @@ pub enum Fault {
     Usage,
     /// A growth of memory was refused.
     NoMemory,
+    /// A word of the command line is no number, or none in its range.
+    BadNumber,
     /// The listing's file cannot be read.
     CannotReadListing,
     /// The order's file cannot be read.
@@ -38,7 +40,7 @@ impl Fault {
     {
         match self {
             Fault::Usage => 2,
-            Fault::Listing(_) | Fault::Order(_) | Fault::Step(_, _) => 1,
+            Fault::BadNumber | Fault::Listing(_) | Fault::Order(_) | Fault::Step(_, _) => 1,
             Fault::NoMemory
             | Fault::CannotReadListing
             | Fault::CannotReadOrder
@@ -56,6 +58,7 @@ impl fmt::Display for Fault {
         match *self {
             Fault::Usage => f.write_str("usage"),
             Fault::NoMemory => f.write_str("memory"),
+            Fault::BadNumber => f.write_str("bad number"),
             Fault::CannotReadListing => f.write_str("cannot read listing"),
             Fault::CannotReadOrder => f.write_str("cannot read order"),
             Fault::CannotWrite => f.write_str("cannot write"),
