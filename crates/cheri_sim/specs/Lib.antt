@@ -18,3 +18,4 @@ pub mod Report
 pub mod ViewForm
 pub mod NumberAnswers
 pub mod ProgramFaults
+pub mod TextRuns

@@ -7,32 +7,32 @@ use Rattle.cheri_sim.specs.declared.listing.fault.LineFault.{LineFault}
 use Rattle.cheri_sim.specs.declared.listing.fault.LineFault.TheVariants as line_faults
 
 -- the number and the name of a kind of fault, and both as reports of faults print them
-abbrev pub number_of_kind : ListingFaultKind → ℕ
-number_of_kind NotAscii = 1
-number_of_kind Word = 2
-number_of_kind Operand = 3
-number_of_kind Range = 4
-number_of_kind Label = 5
-number_of_kind Twice = 6
-number_of_kind Capability = 7
-number_of_kind NoHart = 8
-number_of_kind Size = 9
-number_of_kind NoMemory = 10
+abbrev pub listing_fault_number : ListingFaultKind → ℕ
+listing_fault_number NotAscii = 1
+listing_fault_number Word = 2
+listing_fault_number Operand = 3
+listing_fault_number Range = 4
+listing_fault_number Label = 5
+listing_fault_number Twice = 6
+listing_fault_number Capability = 7
+listing_fault_number NoHart = 8
+listing_fault_number Size = 9
+listing_fault_number NoMemory = 10
 
-abbrev pub name_of_kind : ListingFaultKind → List ℕ
-name_of_kind NotAscii = codes "NotAscii"
-name_of_kind Word = codes "Word"
-name_of_kind Operand = codes "Operand"
-name_of_kind Range = codes "Range"
-name_of_kind Label = codes "Label"
-name_of_kind Twice = codes "Twice"
-name_of_kind Capability = codes "Capability"
-name_of_kind NoHart = codes "NoHart"
-name_of_kind Size = codes "Size"
-name_of_kind NoMemory = codes "NoMemory"
+abbrev pub listing_fault_name : ListingFaultKind → List ℕ
+listing_fault_name NotAscii = codes "NotAscii"
+listing_fault_name Word = codes "Word"
+listing_fault_name Operand = codes "Operand"
+listing_fault_name Range = codes "Range"
+listing_fault_name Label = codes "Label"
+listing_fault_name Twice = codes "Twice"
+listing_fault_name Capability = codes "Capability"
+listing_fault_name NoHart = codes "NoHart"
+listing_fault_name Size = codes "Size"
+listing_fault_name NoMemory = codes "NoMemory"
 
-abbrev pub text_of_kind : ListingFaultKind → List ℕ
-text_of_kind kind = decimal (number_of_kind kind) ++ (codes " " ++ name_of_kind kind)
+abbrev pub listing_fault_text : ListingFaultKind → List ℕ
+listing_fault_text kind = decimal (listing_fault_number kind) ++ (codes " " ++ listing_fault_name kind)
 
 -- want of memory, which has no line
 abbrev pub no_memory : ListingFault

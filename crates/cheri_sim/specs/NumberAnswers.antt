@@ -1,5 +1,5 @@
 -- The lines that the program answers about an asked range and about a word, and the numbers that ask for them.
-use Rattle.std.specs.Prelude.{ℕ, nat_le, Bool, if◌then◌else◌, List, ◌++◌, codes, decimal, Option, Some, None, Result, Ok, Err}
+use Rattle.std.specs.Prelude.{ℕ, nat_le, Bool, if◌then◌else◌, List, ◌++◌, codes, decimal, Option, Some, Result, Ok, Err}
 use Rattle.cheri_model.specs.Fields.{word_ie, word_exponent}
 use Rattle.cheri_model.specs.Lengths.{internal_exponent}
 use Rattle.cheri_model.specs.Rounding.{rounding_exponent, rounded_base, rounded_top}

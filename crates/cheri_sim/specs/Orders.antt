@@ -6,18 +6,18 @@ use Rattle.cheri_sim.specs.declared.orders.OrderFaultKind.{OrderFaultKind}
 use Rattle.cheri_sim.specs.declared.orders.OrderFaultKind.TheVariants.{Byte, Size, NoMemory}
 
 -- the number and the name of a kind of fault, and both as reports of faults print them
-abbrev pub number_of_kind : OrderFaultKind → ℕ
-number_of_kind Byte = 1
-number_of_kind Size = 2
-number_of_kind NoMemory = 3
+abbrev pub order_fault_number : OrderFaultKind → ℕ
+order_fault_number Byte = 1
+order_fault_number Size = 2
+order_fault_number NoMemory = 3
 
-abbrev pub name_of_kind : OrderFaultKind → List ℕ
-name_of_kind Byte = codes "Byte"
-name_of_kind Size = codes "Size"
-name_of_kind NoMemory = codes "NoMemory"
+abbrev pub order_fault_name : OrderFaultKind → List ℕ
+order_fault_name Byte = codes "Byte"
+order_fault_name Size = codes "Size"
+order_fault_name NoMemory = codes "NoMemory"
 
-abbrev pub text_of_kind : OrderFaultKind → List ℕ
-text_of_kind kind = decimal (number_of_kind kind) ++ (codes " " ++ name_of_kind kind)
+abbrev pub order_fault_text : OrderFaultKind → List ℕ
+order_fault_text kind = decimal (order_fault_number kind) ++ (codes " " ++ order_fault_name kind)
 
 -- want of memory, which has no offset
 abbrev pub no_memory : OrderFault

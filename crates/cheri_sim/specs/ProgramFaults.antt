@@ -10,8 +10,8 @@ use Rattle.cheri_sim.specs.declared.listing.fault.ListingFaultKind.TheVariants a
 use Rattle.cheri_sim.specs.declared.orders.OrderFault.{OrderFault}
 use Rattle.cheri_sim.specs.declared.orders.OrderFaultKind.{OrderFaultKind}
 use Rattle.cheri_sim.specs.declared.orders.OrderFaultKind.TheVariants as order_kinds
-use Rattle.cheri_sim.specs.ListingFaults as listings
-use Rattle.cheri_sim.specs.Orders as orders
+use Rattle.cheri_sim.specs.ListingFaults.{listing_fault_text}
+use Rattle.cheri_sim.specs.Orders.{order_fault_text}
 use Rattle.cheri_sim.specs.StepFaults.{step_fault_text}
 
 -- what standard error says of a fault
@@ -22,8 +22,8 @@ fault_text BadNumber = codes "bad number"
 fault_text CannotReadListing = codes "cannot read listing"
 fault_text CannotReadOrder = codes "cannot read order"
 fault_text CannotWrite = codes "cannot write"
-fault_text (Listing fault) = codes "listing line " ++ (decimal fault.line ++ (codes ": " ++ listings.text_of_kind fault.kind))
-fault_text (Order fault) = codes "order byte " ++ (decimal fault.offset ++ (codes ": " ++ orders.text_of_kind fault.kind))
+fault_text (Listing fault) = codes "listing line " ++ (decimal fault.line ++ (codes ": " ++ listing_fault_text fault.kind))
+fault_text (Order fault) = codes "order byte " ++ (decimal fault.offset ++ (codes ": " ++ order_fault_text fault.kind))
 fault_text (Step place fault) = codes "order step " ++ (decimal place ++ (codes ": " ++ step_fault_text fault))
 
 -- The exit status: 1 where a number, a text or a step was refused, 2 where the command line was, 3 for all else.

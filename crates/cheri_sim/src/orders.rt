@@ -22,18 +22,18 @@ pub enum OrderFaultKind {
 }
 
 impl OrderFaultKind {
-    ghost use Rattle.cheri_sim.specs.Orders.{number_of_kind, name_of_kind};
+    ghost use Rattle.cheri_sim.specs.Orders.{order_fault_number, order_fault_name};
 
     /// The number by which reports of faults name the kind.
     pub fn number(self) -> u8
-        ensures { result ≡ number_of_kind self }
+        ensures { result ≡ order_fault_number self }
     {
         self as u8
     }
 
     /// The kind's name.
     pub fn name(self) -> &'static str
-        ensures { result.now ≡ name_of_kind self }
+        ensures { result.now ≡ order_fault_name self }
     {
         match self {
             OrderFaultKind::Byte => "Byte",
@@ -45,9 +45,9 @@ impl OrderFaultKind {
 
 impl fmt::Display for OrderFaultKind {
     ghost use Rattle.std.specs.Prelude.{Some};
-    ghost use Rattle.cheri_sim.specs.Orders.{text_of_kind};
+    ghost use Rattle.cheri_sim.specs.Orders.{order_fault_text};
 
-    ghost output = { λ kind. Some (text_of_kind kind) };
+    ghost output = { λ kind. Some (order_fault_text kind) };
 
     fn fmt<W: fmt::Write>(&self, f: &mut fmt::Formatter<W>) -> fmt::Result {
         write!(f, "{} {}", self.number(), self.name())

@@ -1,8 +1,9 @@
 //! The program: what a command line asks for is done, or the fault that stands in its way is told.
 
-ghost use Rattle.std.specs.Prelude.{◌≡◌, ◌≤◌, IfOk};
+ghost use Rattle.std.specs.Prelude.{◌≡◌, ◌≤◌, IfOk, IfErr, string_bytes};
 ghost use Rattle.cheri_sim.specs.ProgramFaults.{status_of};
 ghost use Rattle.cheri_sim.specs.NumberAnswers.{number_given};
+ghost use Rattle.cheri_sim.specs.TextRuns.{IsShownRun, IsRefusedRun};
 
 mod fault;
 
@@ -37,12 +38,16 @@ struct Ran {
 
 /// Runs the machine of a listing in an order, and reports it. Nothing of the report is made before both texts are
 /// good; the listing is judged first.
-fn run_texts(alloc: Global, listing: &[u8], order: &[u8]) -> Result<Ran, Fault> {
+fn run_texts(alloc: Global, listing: &[u8], order: &[u8]) -> Result<Ran, Fault>
+    ensures shown { IfOk result (λ ran. IsShownRun listing.now order.now (string_bytes ran.report) ran.refused) }
+    ensures refused { IfErr result (λ fault. IsRefusedRun listing.now order.now fault) }
+{
     let image = read_listing(alloc, listing)?;
-    let order = read_order(alloc, order)?;
-    let (core, refused) = match run_order(alloc, image, order.as_slice(), TRACE_LIMIT) {
+    let harts = read_order(alloc, order)?;
+    let (core, refused) = match run_order(alloc, image, harts.as_slice(), TRACE_LIMIT) {
         Ok(ran) => ran,
-        Err(BootFault::Limit | BootFault::NoMemory) => return Err(Fault::NoMemory),
+        Err(BootFault::NoMemory) => return Err(Fault::NoMemory),
+        Err(BootFault::Limit) => unreachable!("100,000 is a limit of a trace"),
     };
     let report = report_text(alloc, core.view())?;
     Ok(Ran { report, refused })

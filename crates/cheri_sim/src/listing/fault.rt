@@ -32,18 +32,18 @@ pub enum ListingFaultKind {
 }
 
 impl ListingFaultKind {
-    ghost use Rattle.cheri_sim.specs.ListingFaults.{number_of_kind, name_of_kind};
+    ghost use Rattle.cheri_sim.specs.ListingFaults.{listing_fault_number, listing_fault_name};
 
     /// The number by which reports of faults name the kind.
     pub fn number(self) -> u8
-        ensures { result ≡ number_of_kind self }
+        ensures { result ≡ listing_fault_number self }
     {
         self as u8
     }
 
     /// The kind's name.
     pub fn name(self) -> &'static str
-        ensures { result.now ≡ name_of_kind self }
+        ensures { result.now ≡ listing_fault_name self }
     {
         match self {
             ListingFaultKind::NotAscii => "NotAscii",
@@ -62,9 +62,9 @@ impl ListingFaultKind {
 
 impl fmt::Display for ListingFaultKind {
     ghost use Rattle.std.specs.Prelude.{Some};
-    ghost use Rattle.cheri_sim.specs.ListingFaults.{text_of_kind};
+    ghost use Rattle.cheri_sim.specs.ListingFaults.{listing_fault_text};
 
-    ghost output = { λ kind. Some (text_of_kind kind) };
+    ghost output = { λ kind. Some (listing_fault_text kind) };
 
     fn fmt<W: fmt::Write>(&self, f: &mut fmt::Formatter<W>) -> fmt::Result {
         write!(f, "{} {}", self.number(), self.name())

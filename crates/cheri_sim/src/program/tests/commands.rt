@@ -1,0 +1,67 @@
+//! Which command lines are taken.
+
+use crate::program::tests::{FIRST, OPENING_REPORT, compare};
+use std::test::Fail;
+
+/// Words that are no command, a request for help among them.
+const REFUSED: [&[&str]; 26] = [
+    &[],
+    &["help"],
+    &["--help"],
+    &["-h"],
+    &["--version"],
+    &["walk"],
+    &["run"],
+    &["run", "--help"],
+    &["run", "listing"],
+    &["run", "--order", "order"],
+    &["run", "listing", "--order"],
+    &["run", "listing", "more", "--order", "order"],
+    &["run", "listing", "--order", "order", "--order", "order"],
+    &["run", "listing", "--order", "-order"],
+    &["run", "-listing", "--order", "order"],
+    &["--order", "order", "run", "listing"],
+    &["bounds"],
+    &["bounds", "1"],
+    &["bounds", "1", "2", "3"],
+    &["bounds", "x", "-2"],
+    &["bounds", "-1", "2"],
+    &["bounds", "1", "2", "--order", "order"],
+    &["decode"],
+    &["decode", "0", "1"],
+    &["decode", "-1"],
+    &["decode", "--help"],
+];
+
+/// What is no command is `usage`, a request for help too.
+#[test]
+fn usage(rt: HostRuntime) -> Result<(), Fail> {
+    for words in REFUSED {
+        compare(
+            &rt,
+            words,
+            &[("listing", FIRST), ("order", "")],
+            (2, "", "usage\n"),
+        )?;
+    }
+    Ok(())
+}
+
+/// Other spellings of the same command.
+#[test]
+fn spellings(rt: HostRuntime) -> Result<(), Fail> {
+    let taken: [&[&str]; 3] = [
+        &["run", "listing", "--order=order"],
+        &["run", "--order", "order", "listing"],
+        &["run", "--order", "order", "--", "listing"],
+    ];
+    for words in taken {
+        compare(
+            &rt,
+            words,
+            &[("listing", FIRST), ("order", "")],
+            (0, OPENING_REPORT, ""),
+        )?;
+    }
+    Ok(())
+}

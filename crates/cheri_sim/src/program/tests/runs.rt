@@ -1,0 +1,92 @@
+//! Orders that are run, and listings that are refused.
+
+use crate::program::tests::{FIRST, OPENING_REPORT, RUN, compare};
+use std::test::Fail;
+
+/// The report of `FIRST` after four steps of hart 0.
+const HALTED_REPORT: &str = "\
+cheri-sim report 1
+image harts=2 ram=4096 code=4
+entries 4
+0 hart=0 pc=0000000010000000 done
+1 hart=0 pc=0000000010000004 done
+2 hart=0 pc=0000000010000008 done
+3 hart=0 pc=000000001000000c halt
+hart 0 halted
+pcc 1 0006000004058004_000000001000000c 0000000010000000 00000000010000010 00006 unsealed
+c5 1 000c000000018004_0000000080000000 0000000080000000 00000000080001000 0000c unsealed
+c6 0 0000000000000000_0000000000000064
+c7 1 000c000004188004_0000000080000000 0000000080000000 00000000080000064 0000c unsealed
+c8 0 0000000000000000_0000000000000064
+hart 1 running
+pcc 1 0006000004058004_0000000010000000 0000000010000000 00000000010000010 00006 unsealed
+c5 1 000c000000018004_0000000080000000 0000000080000000 00000000080001000 0000c unsealed
+end
+";
+
+/// The report of `FIRST` after one step of hart 0.
+const ONE_STEP_REPORT: &str = "\
+cheri-sim report 1
+image harts=2 ram=4096 code=4
+entries 1
+0 hart=0 pc=0000000010000000 done
+hart 0 running
+pcc 1 0006000004058004_0000000010000004 0000000010000000 00000000010000010 00006 unsealed
+c5 1 000c000000018004_0000000080000000 0000000080000000 00000000080001000 0000c unsealed
+c6 0 0000000000000000_0000000000000064
+hart 1 running
+pcc 1 0006000004058004_0000000010000000 0000000010000000 00000000010000010 00006 unsealed
+c5 1 000c000000018004_0000000080000000 0000000080000000 00000000080001000 0000c unsealed
+end
+";
+
+/// A run prints its report; where a step is refused it prints it too, and then tells of the step.
+#[test]
+fn orders(rt: HostRuntime) -> Result<(), Fail> {
+    for (order, status, printed, told) in [
+        ("0000", 0, HALTED_REPORT, ""),
+        ("0 0\n00\n", 0, HALTED_REPORT, ""),
+        ("", 0, OPENING_REPORT, ""),
+        ("00000", 1, HALTED_REPORT, "order step 4: 3 HartStopped\n"),
+        ("02", 1, ONE_STEP_REPORT, "order step 1: 1 NoSuchHart\n"),
+        ("0x", 1, "", "order byte 1: 1 Byte\n"),
+    ] {
+        compare(
+            &rt,
+            &RUN,
+            &[("listing", FIRST), ("order", order)],
+            (status, printed, told),
+        )?;
+    }
+    Ok(())
+}
+
+/// A faulty listing is told by its line, and nothing is printed.
+#[test]
+fn listings(rt: HostRuntime) -> Result<(), Fail> {
+    for (listing, told) in [
+        ("", "listing line 0: 8 NoHart\n"),
+        (".hart 0 0 0 none\n", "listing line 0: 9 Size\n"),
+        ("# \u{7f}\n", "listing line 1: 1 NotAscii\n"),
+        ("\nwalk\n", "listing line 2: 2 Word\n"),
+        (".hart 1\n", "listing line 1: 3 Operand\n"),
+        (
+            ".hart 0x10000000000000000 0 0 none\n",
+            "listing line 1: 4 Range\n",
+        ),
+        (
+            ".hart 0 0 0 none\n.set c5 cap 0 0 0 none\n.set c5 cap 0 0 0 none\n",
+            "listing line 3: 6 Twice\n",
+        ),
+        (".hart 1 8191 1 all\n", "listing line 1: 7 Capability\n"),
+        (".set c5 cap 0 0 0 none\n", "listing line 1: 8 NoHart\n"),
+    ] {
+        compare(
+            &rt,
+            &RUN,
+            &[("listing", listing), ("order", "x")],
+            (1, "", told),
+        )?;
+    }
+    Ok(())
+}
