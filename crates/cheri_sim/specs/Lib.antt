@@ -19,3 +19,4 @@ pub mod ViewForm
 pub mod NumberAnswers
 pub mod ProgramFaults
 pub mod TextRuns
+pub mod ProgramWords

@@ -2,8 +2,8 @@
 use Rattle.std.specs.Prelude.{ℕ, List, ◌++◌, codes, decimal}
 use Rattle.cheri_sim.specs.declared.program.fault.Fault.{Fault}
 use Rattle.cheri_sim.specs.declared.program.fault.Fault.TheVariants.{Usage, NoMemory, BadNumber, CannotReadListing, CannotReadOrder, CannotWrite, Listing, Order, Step}
-use Rattle.cheri_sim.specs.declared.command_line.CommandFault.{CommandFault}
-use Rattle.cheri_sim.specs.declared.command_line.CommandFault.TheVariants as commands
+use Rattle.command_line.specs.declared.CommandFault.{CommandFault}
+use Rattle.command_line.specs.declared.CommandFault.TheVariants as commands
 use Rattle.cheri_sim.specs.declared.listing.fault.ListingFault.{ListingFault}
 use Rattle.cheri_sim.specs.declared.listing.fault.ListingFaultKind.{ListingFaultKind}
 use Rattle.cheri_sim.specs.declared.listing.fault.ListingFaultKind.TheVariants as listing_kinds

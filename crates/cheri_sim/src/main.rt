@@ -2,7 +2,6 @@
 #![tactic(auto)]
 
 mod answers;
-mod command_line;
 mod execute;
 mod faults;
 mod fetch;

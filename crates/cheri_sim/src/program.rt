@@ -1,14 +1,15 @@
 //! The program: what a command line asks for is done, or the fault that stands in its way is told.
 
-ghost use Rattle.std.specs.Prelude.{◌≡◌, ◌≤◌, IfOk, IfErr, string_bytes};
+ghost use Rattle.std.specs.Prelude.{◌≡◌, ◌≢◌, ◌≤◌, ◌⊎◌, IfOk, IfErr, Err, None, string_bytes};
+ghost use Rattle.command_line.specs.Commands.{asked};
 ghost use Rattle.cheri_sim.specs.ProgramFaults.{status_of};
 ghost use Rattle.cheri_sim.specs.NumberAnswers.{number_given};
+ghost use Rattle.cheri_sim.specs.ProgramWords.{command_line, texts_of};
 ghost use Rattle.cheri_sim.specs.TextRuns.{IsShownRun, IsRefusedRun};
 
 mod fault;
 
 use crate::answers::{bounds_text, decode_text};
-use crate::command_line::{Request, parse};
 use crate::faults::{BootFault, StepFault};
 use crate::files::{FileFault, Files};
 use crate::listing::{number_of, read_listing};
@@ -16,6 +17,7 @@ use crate::orders::read_order;
 use crate::report::report_text;
 use crate::run::run_order;
 use cheri_model::NoMemory;
+use command_line::{Request, parse};
 pub use fault::Fault;
 use std::alloc::Global;
 use std::io::Write;
@@ -54,7 +56,9 @@ fn run_texts(alloc: Global, listing: &[u8], order: &[u8]) -> Result<Ran, Fault>
 }
 
 /// The bytes of a file, or this fault where it cannot be read.
-fn read<F: Files>(files: &mut F, name: &str, cannot_read: Fault) -> Result<Vec<u8>, Fault> {
+fn read<F: Files>(files: &mut F, name: &str, cannot_read: Fault) -> Result<Vec<u8>, Fault>
+    ensures { IfErr result (λ fault. (fault ≡ cannot_read) ⊎ (fault ≡ Fault.NoMemory)) }
+{
     match files.read(name) {
         Ok(bytes) => Ok(bytes),
         Err(FileFault::CannotRead) => Err(cannot_read),
@@ -63,7 +67,9 @@ fn read<F: Files>(files: &mut F, name: &str, cannot_read: Fault) -> Result<Vec<u
 }
 
 /// Writes all of a text.
-fn print<O: Write>(out: &mut O, text: &str) -> Result<(), Fault> {
+fn print<O: Write>(out: &mut O, text: &str) -> Result<(), Fault>
+    ensures { IfErr result (λ fault. fault ≡ Fault.CannotWrite) }
+{
     let written = out.write_all(text.as_bytes()).and_then(|_| out.flush());
     written.map_err(|_| Fault::CannotWrite)
 }
@@ -75,7 +81,9 @@ fn run<F: Files, O: Write>(
     order: &str,
     files: &mut F,
     out: &mut O,
-) -> Result<(), Fault> {
+) -> Result<(), Fault>
+    ensures { result ≢ Err Fault.Usage }
+{
     let listing = read(files, listing, Fault::CannotReadListing)?;
     let order = read(files, order, Fault::CannotReadOrder)?;
     let ran = run_texts(alloc, listing.as_slice(), order.as_slice())?;
@@ -91,6 +99,7 @@ fn run<F: Files, O: Write>(
 fn number_given(limit: u128, word: &str) -> Result<u128, Fault>
     ensures value { result ≡ number_given limit word.now }
     ensures at_most { IfOk result (λ number. number ≤ limit) }
+    ensures refused { IfErr result (λ fault. fault ≡ Fault.BadNumber) }
 {
     match number_of(word.as_bytes()) {
         Ok(Some(number)) if number <= limit => Ok(number),
@@ -99,20 +108,26 @@ fn number_given(limit: u128, word: &str) -> Result<u128, Fault>
 }
 
 /// `bounds BASE LEN`: both numbers are read before the range is rounded.
-fn bounds<O: Write>(alloc: Global, base: &str, len: &str, out: &mut O) -> Result<(), Fault> {
+fn bounds<O: Write>(alloc: Global, base: &str, len: &str, out: &mut O) -> Result<(), Fault>
+    ensures { result ≢ Err Fault.Usage }
+{
     let base = number_given(GREATEST_ADDRESS, base)?;
     let len = number_given(GREATEST_LENGTH, len)?;
     print(out, bounds_text(alloc, base as u64, len)?.as_str())
 }
 
 /// `decode WORD`.
-fn decode<O: Write>(alloc: Global, word: &str, out: &mut O) -> Result<(), Fault> {
+fn decode<O: Write>(alloc: Global, word: &str, out: &mut O) -> Result<(), Fault>
+    ensures { result ≢ Err Fault.Usage }
+{
     let word = number_given(u128::MAX, word)?;
     print(out, decode_text(alloc, word)?.as_str())
 }
 
 /// The words of a command line, behind the program's name.
-fn with_program_name<'a>(alloc: Global, words: &'a [String]) -> Result<Vec<&'a str>, NoMemory> {
+fn with_program_name<'a>(alloc: Global, words: &'a [String]) -> Result<Vec<&'a str>, NoMemory>
+    ensures { IfOk result (λ all. texts_of all.items ≡ command_line words.now) }
+{
     let mut all = Vec::new(alloc);
     all.push("cheri_sim")?;
     for word in words {
@@ -127,7 +142,10 @@ fn answer<F: Files, O: Write>(
     words: &[String],
     files: &mut F,
     out: &mut O,
-) -> Result<(), Fault> {
+) -> Result<(), Fault>
+    ensures usage { result ≡ Err Fault.Usage → asked (command_line words.now) ≡ None }
+    ensures nothing { asked (command_line words.now) ≡ None → (result ≡ Err Fault.Usage) ⊎ (result ≡ Err Fault.NoMemory) }
+{
     let words = with_program_name(alloc, words)?;
     match parse(alloc, words.as_slice())? {
         Request::Run { listing, order } => run(alloc, listing, order, files, out),
@@ -154,7 +172,9 @@ pub fn perform<F: Files, O: Write, E: Write>(
     out: &mut O,
     err: &mut E,
 ) -> u8
-    ensures { result ≤ 3 }
+    ensures status { result ≤ 3 }
+    ensures usage { result ≡ 2 → asked (command_line words.now) ≡ None }
+    ensures nothing { asked (command_line words.now) ≡ None → (result ≡ 2) ⊎ (result ≡ 3) }
 {
     match answer(alloc, words, files, out) {
         Ok(()) => 0,

@@ -3,10 +3,10 @@
 ghost use Rattle.std.specs.Prelude.{◌≡◌};
 ghost use Rattle.cheri_sim.specs.ProgramFaults.{fault_text, status_of};
 
-use crate::command_line::CommandFault;
 use crate::faults::StepFault;
 use crate::listing::{ListingFault, ListingFaultKind};
 use crate::orders::{OrderFault, OrderFaultKind};
+use command_line::CommandFault;
 use std::alloc::AllocError;
 use std::fmt;
 

@@ -1,0 +1,2 @@
+-- How `clap` reads the words of this program.
+pub mod ReadWords

@@ -1,0 +1,2 @@
+-- What words ask for.
+pub mod Commands
