@@ -7,12 +7,12 @@ use Rattle.cheri_model.specs.Capability.{b_field, t_field}
 use Rattle.cheri_model.specs.CapValue.{CapValue, raw}
 use Rattle.cheri_model.specs.Results.{is_exact, address_of, length_of}
 use Rattle.cheri_model.specs.Readings.{permissions_of, flags_of, object_type_of, high_of, base_of, top_of}
-use Rattle.cheri_sim.specs.declared.listing.fault.ListingFaultKind.{ListingFaultKind}
+use Rattle.texts.specs.declared.listing.fault.ListingFaultKind.{ListingFaultKind}
 use Rattle.cheri_sim.specs.declared.program.fault.Fault.{Fault}
 use Rattle.cheri_sim.specs.declared.program.fault.Fault.TheVariants.{BadNumber}
-use Rattle.cheri_sim.specs.ListingNumbers.{number_of}
-use Rattle.cheri_sim.specs.Report.{line}
-use Rattle.cheri_sim.specs.ReportText.{◌+++◌, hex_text, type_text}
+use Rattle.texts.specs.ListingNumbers.{number_of}
+use Rattle.reports.specs.Report.{line}
+use Rattle.reports.specs.ReportText.{◌+++◌, hex_text, type_text}
 
 -- a number that a word of a listing writes, where it is at most the limit
 abbrev pub number_within : ℕ → Result (Option ℕ) ListingFaultKind → Result ℕ Fault

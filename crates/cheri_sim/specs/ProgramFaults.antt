@@ -4,15 +4,17 @@ use Rattle.cheri_sim.specs.declared.program.fault.Fault.{Fault}
 use Rattle.cheri_sim.specs.declared.program.fault.Fault.TheVariants.{Usage, NoMemory, BadNumber, CannotReadListing, CannotReadOrder, CannotWrite, Listing, Order, Step}
 use Rattle.command_line.specs.declared.CommandFault.{CommandFault}
 use Rattle.command_line.specs.declared.CommandFault.TheVariants as commands
-use Rattle.cheri_sim.specs.declared.listing.fault.ListingFault.{ListingFault}
-use Rattle.cheri_sim.specs.declared.listing.fault.ListingFaultKind.{ListingFaultKind}
-use Rattle.cheri_sim.specs.declared.listing.fault.ListingFaultKind.TheVariants as listing_kinds
-use Rattle.cheri_sim.specs.declared.orders.OrderFault.{OrderFault}
-use Rattle.cheri_sim.specs.declared.orders.OrderFaultKind.{OrderFaultKind}
-use Rattle.cheri_sim.specs.declared.orders.OrderFaultKind.TheVariants as order_kinds
-use Rattle.cheri_sim.specs.ListingFaults.{listing_fault_text}
-use Rattle.cheri_sim.specs.Orders.{order_fault_text}
-use Rattle.cheri_sim.specs.StepFaults.{step_fault_text}
+use Rattle.texts.specs.declared.listing.fault.ListingFault.{ListingFault}
+use Rattle.texts.specs.declared.listing.fault.ListingFaultKind.{ListingFaultKind}
+use Rattle.texts.specs.declared.listing.fault.ListingFaultKind.TheVariants as listing_kinds
+use Rattle.texts.specs.declared.orders.OrderFault.{OrderFault}
+use Rattle.texts.specs.declared.orders.OrderFaultKind.{OrderFaultKind}
+use Rattle.texts.specs.declared.orders.OrderFaultKind.TheVariants as order_kinds
+use Rattle.texts.specs.ListingFaults.{listing_fault_text}
+use Rattle.texts.specs.Orders.{order_fault_text}
+use Rattle.machine.specs.Faults.{step_fault_text}
+use Rattle.machine.specs.declared.simulation.SimFault.{SimFault}
+use Rattle.machine.specs.declared.simulation.SimFault.TheVariants as sim
 
 -- what standard error says of a fault
 abbrev pub fault_text : Fault → List ℕ
@@ -53,3 +55,10 @@ order_fault_of_kind _ fault = Order fault
 
 abbrev pub order_fault : OrderFault → Fault
 order_fault fault = order_fault_of_kind fault.kind fault
+
+-- a simulation that was refused; the program's limit is lawful, so booting it only runs out of memory
+abbrev pub sim_fault : SimFault → Fault
+sim_fault (sim.Listing fault) = listing_fault fault
+sim_fault (sim.Order fault) = order_fault fault
+sim_fault (sim.Boot fault) = NoMemory
+sim_fault sim.Report = NoMemory

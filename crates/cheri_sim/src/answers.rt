@@ -3,11 +3,11 @@
 ghost use Rattle.std.specs.Prelude.{◌≡◌, ◌^◌, ◌≤◌, ◌++◌, IfOk, OnOk, Some, string_bytes};
 ghost use Rattle.cheri_sim.specs.NumberAnswers.{yes_or_no, bounds_line, fields_part, bounds_part, decode_line};
 
-use crate::report::text::{Hex, TypeText};
 use bitflags::Flags;
 use cap_bounds::{Fields, fields, set_bounds};
 use cap_ops::Cap;
 use cheri_model::NoMemory;
+use reports::{Hex, TypeText};
 use std::alloc::Global;
 use std::fmt;
 

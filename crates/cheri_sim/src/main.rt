@@ -2,19 +2,8 @@
 #![tactic(auto)]
 
 mod answers;
-mod execute;
-mod faults;
-mod fetch;
 mod files;
-mod hart;
-mod listing;
-mod machine;
-mod opening;
-mod orders;
 mod program;
-mod report;
-mod run;
-mod view;
 
 use crate::files::SystemFiles;
 use crate::program::{Fault, perform, tell};

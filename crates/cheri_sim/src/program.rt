@@ -1,26 +1,22 @@
 //! The program: what a command line asks for is done, or the fault that stands in its way is told.
 
-ghost use Rattle.std.specs.Prelude.{◌≡◌, ◌≢◌, ◌≤◌, ◌⊎◌, IfOk, IfErr, Err, None, string_bytes};
+ghost use Rattle.std.specs.Prelude.{◌≡◌, ◌≢◌, ◌≤◌, ◌⊎◌, IfOk, IfErr, Err, None};
 ghost use Rattle.command_line.specs.Commands.{asked};
 ghost use Rattle.cheri_sim.specs.ProgramFaults.{status_of};
 ghost use Rattle.cheri_sim.specs.NumberAnswers.{number_given};
 ghost use Rattle.cheri_sim.specs.ProgramWords.{command_line, texts_of};
-ghost use Rattle.cheri_sim.specs.TextRuns.{IsShownRun, IsRefusedRun};
 
 mod fault;
 
 use crate::answers::{bounds_text, decode_text};
-use crate::faults::{BootFault, StepFault};
 use crate::files::{FileFault, Files};
-use crate::listing::{number_of, read_listing};
-use crate::orders::read_order;
-use crate::report::report_text;
-use crate::run::run_order;
 use cheri_model::NoMemory;
 use command_line::{Request, parse};
 pub use fault::Fault;
+use machine::simulate;
 use std::alloc::Global;
 use std::io::Write;
+use texts::number_of;
 
 /// The most steps that a machine of this program takes.
 const TRACE_LIMIT: u32 = 100_000;
@@ -30,30 +26,6 @@ const GREATEST_ADDRESS: u128 = (1 << 64) - 1;
 
 /// The length of the whole address space.
 const GREATEST_LENGTH: u128 = 1 << 64;
-
-/// What a run shows: the report, and the step that was refused, with its place in the order.
-#[derive(Drop)]
-struct Ran {
-    report: String,
-    refused: Option<(usize, StepFault)>,
-}
-
-/// Runs the machine of a listing in an order, and reports it. Nothing of the report is made before both texts are
-/// good; the listing is judged first.
-fn run_texts(alloc: Global, listing: &[u8], order: &[u8]) -> Result<Ran, Fault>
-    ensures shown { IfOk result (λ ran. IsShownRun listing.now order.now (string_bytes ran.report) ran.refused) }
-    ensures refused { IfErr result (λ fault. IsRefusedRun listing.now order.now fault) }
-{
-    let image = read_listing(alloc, listing)?;
-    let harts = read_order(alloc, order)?;
-    let (core, refused) = match run_order(alloc, image, harts.as_slice(), TRACE_LIMIT) {
-        Ok(ran) => ran,
-        Err(BootFault::NoMemory) => return Err(Fault::NoMemory),
-        Err(BootFault::Limit) => unreachable!("100,000 is a limit of a trace"),
-    };
-    let report = report_text(alloc, core.view())?;
-    Ok(Ran { report, refused })
-}
 
 /// The bytes of a file, or this fault where it cannot be read.
 fn read<F: Files>(files: &mut F, name: &str, cannot_read: Fault) -> Result<Vec<u8>, Fault>
@@ -86,7 +58,7 @@ fn run<F: Files, O: Write>(
 {
     let listing = read(files, listing, Fault::CannotReadListing)?;
     let order = read(files, order, Fault::CannotReadOrder)?;
-    let ran = run_texts(alloc, listing.as_slice(), order.as_slice())?;
+    let ran = simulate(alloc, listing.as_slice(), order.as_slice(), TRACE_LIMIT)?;
     print(out, ran.report.as_str())?;
     match ran.refused {
         None => Ok(()),

@@ -3,12 +3,11 @@
 ghost use Rattle.std.specs.Prelude.{◌≡◌};
 ghost use Rattle.cheri_sim.specs.ProgramFaults.{fault_text, status_of};
 
-use crate::faults::StepFault;
-use crate::listing::{ListingFault, ListingFaultKind};
-use crate::orders::{OrderFault, OrderFaultKind};
 use command_line::CommandFault;
+use machine::{SimFault, StepFault};
 use std::alloc::AllocError;
 use std::fmt;
+use texts::{ListingFault, ListingFaultKind, OrderFault, OrderFaultKind};
 
 /// Why the program does not end with status 0.
 #[derive(Clone, Copy, Debug, PartialEq, Eq)]
@@ -114,6 +113,20 @@ impl From<OrderFault> for Fault {
         match refused.kind {
             OrderFaultKind::NoMemory => Fault::NoMemory,
             _ => Fault::Order(refused),
+        }
+    }
+}
+
+impl From<SimFault> for Fault {
+    ghost use Rattle.cheri_sim.specs.ProgramFaults.{sim_fault};
+
+    ghost from_gives = { λ refused fault. fault ≡ sim_fault refused };
+
+    fn from(refused: SimFault) -> Fault {
+        match refused {
+            SimFault::Listing(fault) => Fault::from(fault),
+            SimFault::Order(fault) => Fault::from(fault),
+            SimFault::Boot(_) | SimFault::Report => Fault::NoMemory,
         }
     }
 }

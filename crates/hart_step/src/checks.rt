@@ -1,0 +1,3 @@
+//! The checks that an instruction must pass before it acts.
+
+pub mod fetch;

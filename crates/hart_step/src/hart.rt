@@ -1,0 +1,120 @@
+//! One hart: its registers, PCC and status.
+
+ghost use Rattle.std.specs.Prelude.{◌≡◌, ◌∷◌, All, Ok};
+ghost use Rattle.cheri_model.specs.Authority.{EachOfHart};
+ghost use Rattle.cheri_model.specs.CapValue.{IsLawfulValue};
+ghost use Rattle.cheri_model.specs.Checks.{first_failing, fetch_table};
+ghost use Rattle.cheri_model.specs.HartStep.{next, null, put, register};
+ghost use Rattle.cheri_model.specs.Image.{opening_hart};
+
+use cap_ops::Cap;
+use cheri_model::{HartImage, Reg, Status, Value};
+use std::marker::Model;
+
+/// A hart: the registers c0 to c31, of which c0 is always null, PCC, and whether it runs.
+#[derive(Clone, Copy, Debug, PartialEq, Eq)]
+pub struct Hart {
+    regs: [Cap; 32],
+    pcc: Cap,
+    status: Status,
+}
+
+impl Model for Hart {
+    ghost use Rattle.cheri_model.specs.HartStep.{HartState};
+
+    ghost Value = { HartState };
+
+    ghost use Rattle.hart_step.specs.Hart.{IsHart};
+
+    ghost view = { λ h. record { regs = h.regs; pcc = h.pcc; status = h.status } };
+
+    ghost invariant = { λ h. IsHart h.regs h.pcc };
+
+    ghost inverse = { λ h. record { regs = h.regs; pcc = h.pcc; status = h.status } };
+}
+
+/// c0 and the 31 registers of an image.
+fn opening_registers(regs: &[Value; 31]) -> [Cap; 32]
+    ensures same { result ≡ null ∷ regs.now }
+    ensures lawful { All IsLawfulValue result }
+{
+    let mut opened = [Cap::null(); 32];
+    for (i, value) in regs.iter().enumerate() {
+        let cap = Cap::of_value(*value);
+        let _bits = cap.bits();
+        opened[i + 1] = cap;
+    }
+    opened
+}
+
+impl Hart {
+    /// The hart before its first step.
+    #[tactic(auto, unfolding(cheri_model::specs::Image::opening_hart))]
+    pub fn open(image: &HartImage) -> Hart
+        ensures same { result ≡ opening_hart image.now }
+        ensures lawful { EachOfHart IsLawfulValue result }
+    {
+        let pcc = Cap::of_value(image.pcc);
+        let _bits = pcc.bits();
+        Hart {
+            regs: opening_registers(&image.regs),
+            pcc,
+            status: Status::Running,
+        }
+    }
+
+    /// A register's value.
+    #[tactic(auto, unfolding(cheri_model::specs::HartStep::register))]
+    pub fn register(&self, reg: Reg) -> Cap
+        ensures value { result ≡ register self.now reg }
+        ensures lawful { IsLawfulValue result }
+    {
+        self.regs[usize::from(reg.number())]
+    }
+
+    /// PCC.
+    pub fn pcc(&self) -> Cap
+        ensures value { result ≡ self.now.pcc }
+        ensures lawful { IsLawfulValue result }
+    {
+        self.pcc
+    }
+
+    /// Whether the hart runs.
+    pub fn status(&self) -> Status
+        ensures { result ≡ self.now.status }
+    {
+        self.status
+    }
+
+    /// Writes a register; a write to c0 is dropped.
+    #[tactic(auto, unfolding(cheri_model::specs::HartStep::put))]
+    pub fn put(&mut self, cd: Reg, value: Cap)
+        ensures value { self.new ≡ put cd value self.old }
+        ensures pcc { self.new.pcc ≡ self.old.pcc }
+    {
+        let _bits = value.bits();
+        let number = usize::from(cd.number());
+        if number != 0 {
+            self.regs[number] = value;
+        }
+    }
+
+    /// Goes on to the next instruction, behind a fetch that passed.
+    #[tactic(auto, unfolding(cheri_model::specs::HartStep::next))]
+    pub fn advance(&mut self, _count: usize)
+        requires { first_failing (fetch_table self.old.pcc _count) ≡ Ok tt }
+        ensures { self.new ≡ next self.old }
+    {
+        let pcc = self.pcc.set_addr(self.pcc.addr().wrapping_add(4));
+        let _bits = pcc.bits();
+        self.pcc = pcc;
+    }
+
+    /// Stops or starts the hart.
+    pub fn set_status(&mut self, status: Status)
+        ensures { self.new ≡ record self.old { status = status } }
+    {
+        self.status = status;
+    }
+}

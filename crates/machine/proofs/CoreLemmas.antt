@@ -1,0 +1,147 @@
+-- A core that is booted, and one that has stepped, keep what every core keeps.
+use Rattle.std.proofs.Common.{◌≡◌, ℕ, ◌<◌, Bool, true, false, not, ltb-true, List, [], ◌∷◌, ◌++◌, length, get_or, map, refl, sym, ap, subst, ◌∙◌, arith, length-append}
+use Rattle.std.specs.Prelude.{All, slice_set, nat_lt, Some, None, if◌then◌else◌}
+use Rattle.std.proofs.lemmas.List.{get_or_read}
+use Rattle.std.proofs.lemmas.List.Elements.{All-from_get_or}
+use Rattle.cheri_model.specs.declared.instr.Instr.{Instr}
+use Rattle.cheri_model.specs.declared.trace.Entry.{Entry}
+use Rattle.cheri_model.specs.CapValue.{CapValue, raw, IsLawfulValue}
+use Rattle.cheri_model.specs.Memory.{granule_at, IsMemory}
+use Rattle.cheri_model.specs.HartStep.{HartState}
+use Rattle.cheri_model.specs.Image.{ImageParts, opening_hart, opening_memory}
+use Rattle.cheri_model.specs.Machine.{MachineState, Operation, opening_state, is_running, hart_at, no_hart, may_take, entry_of, state_after_one}
+use Rattle.cheri_model.specs.Replay.{IsReplay, operations_of}
+use Rattle.cheri_model.specs.Authority.{EachOfHart, IsLawfulState, IsConfined}
+use Rattle.cheri_model.proofs.Replays.{IsReplay-opening, IsReplay_push, operations_of_push, hart-entry_of}
+use Rattle.cheri_model.proofs.Confined.{run_lawful}
+use Rattle.machine.specs.declared.faults.StepFault.TheVariants.{NoSuchHart, TraceFull, HartStopped}
+use Rattle.machine.specs.Cores.{CoreParts, parts_of_core, is_limit, IsCore, IsHartStep, refused, core_after}
+
+-- the opening state of an image, from its opened harts and memory
+pub state_opened : (image : ImageParts) (harts : List HartState) (memory : List CapValue) →
+    harts ≡ map opening_hart image.harts → memory ≡ opening_memory image.ram image.granules →
+    ◌≡◌ {A = MachineState} (record { harts = harts; memory = memory }) (opening_state image)
+unfolding opening_state
+state_opened image harts memory e f i = record { harts = e i; memory = f i }
+
+-- every value of a memory is lawful
+memory_lawful : (memory : List CapValue) → IsMemory memory → All IsLawfulValue memory
+unfolding granule_at
+memory_lawful memory is = All-from_get_or IsLawfulValue memory (raw 0) (λ k inside. is.lawful k)
+
+pub booted : (image : ImageParts) (limit : ℕ) (harts : List HartState) (memory : List CapValue) →
+    harts ≡ map opening_hart image.harts → memory ≡ opening_memory image.ram image.granules →
+    All (EachOfHart IsLawfulValue) harts → IsMemory memory → is_limit limit ≡ true →
+    IsCore (parts_of_core image limit [] harts memory)
+booted image limit harts memory e f lawful is limited =
+    let opened = state_opened image harts memory e f in
+    record {
+      replay = subst (IsReplay image []) (sym opened) (IsReplay-opening image);
+      lawful = subst IsLawfulState opened (record { harts = lawful; memory = memory_lawful memory is });
+      limited = limited;
+      within = omega arith;
+    }
+
+-- where a step is not refused there is this hart, the trace has room, and the hart may step
+pub record CanStep (core : CoreParts) (hart : Operation) : Type 0 where
+  pub there : hart < length core.state.harts
+  pub room : length core.trace < core.limit
+  pub may : may_take core.state hart ≡ true
+
+pub not_refused : (core : CoreParts) (hart : Operation) → refused core hart ≡ None → CanStep core hart
+unfolding refused may_take
+not_refused core hart is = by_there (nat_lt hart (length core.state.harts)) refl is
+  where
+    count : ℕ
+    count = length core.trace
+
+    runs : Bool
+    runs = is_running (hart_at core.state hart).status
+
+    by_runs : (r : Bool) → runs ≡ r → nat_lt hart (length core.state.harts) ≡ true → nat_lt count core.limit ≡ true →
+        (if not r then Some HartStopped else None) ≡ None → CanStep core hart
+    by_runs false e there room is = cc
+    by_runs true e there room is = record { there = ltb-true _ _ there; room = ltb-true _ _ room; may = rw (there, e) refl }
+
+    by_room : (b : Bool) → nat_lt count core.limit ≡ b → nat_lt hart (length core.state.harts) ≡ true →
+        (if not b then Some TraceFull else if not runs then Some HartStopped else None) ≡ None → CanStep core hart
+    by_room false e there is = cc
+    by_room true e there is = by_runs runs refl there e is
+
+    by_there : (b : Bool) → nat_lt hart (length core.state.harts) ≡ b →
+        (if not b then Some NoSuchHart else if not (nat_lt count core.limit) then Some TraceFull else if not runs then Some HartStopped else None) ≡ None →
+        CanStep core hart
+    by_there false e is = cc
+    by_there true e is = by_room (nat_lt count core.limit) refl e is
+
+-- a core after a step is a core
+pub stepped_core : (core : CoreParts) (hart : Operation) → IsCore core → CanStep core hart → IsCore (core_after core hart)
+unfolding core_after
+stepped_core core hart is can = record {
+  replay = IsReplay_push core.image core.trace core.state hart is.replay can.may;
+  lawful = is.lawful;
+  limited = is.limited;
+  within = (let room = can.room in rw (length-append core.trace _) (omega arith));
+}
+
+-- every tagged value of a core lies within an initial capability
+pub core_confined : (core : CoreParts) → IsCore core → IsConfined core.image core.state
+core_confined core is =
+    subst (IsConfined core.image) (sym is.replay.state) (run_lawful core.image (operations_of core.trace) is.lawful).1
+
+-- what a step of a hart by itself says of the core
+module _ (core : CoreParts) (hart : Operation) (after : HartState) (entry : Entry)
+    (step : IsHartStep core.image.program (hart_at core.state hart) hart after entry) where
+  pub entry_taken : entry ≡ entry_of core.image core.state hart
+  unfolding entry_of
+  entry_taken = step.entry_is core.state.memory
+
+  state_taken : ◌≡◌ {A = MachineState} (record { harts = slice_set core.state.harts hart after; memory = core.state.memory }) (state_after_one core.image core.state hart)
+  unfolding state_after_one
+  state_taken i = record {
+    harts = slice_set core.state.harts hart (sym (step.after_is core.state.memory) i);
+    memory = sym (step.memory_is core.state.memory) i;
+  }
+
+  pub core_taken : parts_of_core core.image core.limit (core.trace ++ entry ∷ []) (slice_set core.state.harts hart after) core.state.memory ≡ core_after core hart
+  unfolding core_after
+  core_taken i = record {
+    image = core.image;
+    limit = core.limit;
+    trace = core.trace ++ entry_taken i ∷ [];
+    state = state_taken i;
+  }
+
+-- a hart that was read at a number is the state's
+read_hart : (state : MachineState) (number : ℕ) (hart : HartState) → number < length state.harts → hart ≡ get_or state.harts number hart → hart ≡ hart_at state number
+unfolding hart_at
+read_hart state number hart inside is = get_or_read state.harts number hart inside is no_hart
+
+-- what a step that was not refused leaves of a core
+pub record Took (core : CoreParts) (hart number : Operation) (after : HartState) (entry : Entry) : Type 0 where
+  pub entry_is : entry ≡ entry_of core.image core.state hart
+  pub core_is : parts_of_core core.image core.limit (core.trace ++ entry ∷ []) (slice_set core.state.harts number after) core.state.memory ≡ core_after core hart
+  pub keeps : IsCore (core_after core hart)
+
+pub took : (core : CoreParts) (hart number : Operation) (program : List Instr) (before after : HartState) (entry : Entry) →
+    IsCore core → refused core hart ≡ None → number ≡ hart → program ≡ core.image.program → before ≡ get_or core.state.harts number before →
+    IsHartStep program before hart after entry → Took core hart number after entry
+took core hart number program before after entry is none same same_program read step =
+    let can = not_refused core hart none in
+    let inside : number < length core.state.harts = (let there = can.there in omega arith) in
+    let here : before ≡ hart_at core.state hart = read_hart core.state number before inside read ∙ ap (hart_at core.state) same in
+    let stepped = subst (λ (p : List Instr). IsHartStep p (hart_at core.state hart) hart after entry) same_program
+    (subst (λ (h : HartState). IsHartStep program h hart after entry) here step) in
+    record {
+      entry_is = entry_taken core hart after entry stepped;
+      core_is = ap (λ n. parts_of_core core.image core.limit (core.trace ++ entry ∷ []) (slice_set core.state.harts n after) core.state.memory) same
+          ∙ core_taken core hart after entry stepped;
+      keeps = stepped_core core hart is can;
+    }
+
+-- one more operation stands at the end of the trace's
+pub operations_after : (core : CoreParts) (hart : Operation) → operations_of (core_after core hart).trace ≡ operations_of core.trace ++ hart ∷ []
+unfolding core_after
+operations_after core hart =
+    operations_of_push core.trace (entry_of core.image core.state hart)
+    ∙ ap (λ n. operations_of core.trace ++ n ∷ []) (hart-entry_of core.image core.state hart)

@@ -1,0 +1,13 @@
+//! The machine: a core whose state is always the replay of its trace, the run of an order, and the run of two texts.
+#![tactic(auto)]
+
+mod cores;
+mod faults;
+mod opening;
+mod run;
+mod simulation;
+
+pub use cores::Core;
+pub use faults::{BootFault, StepFault};
+pub use run::run_order;
+pub use simulation::{SimFault, Simulated, simulate};

@@ -1,0 +1,72 @@
+-- Report 1: the text that shows an image, the entries of a trace, and the state that they lead to. One definition
+-- for each kind of line.
+use Rattle.std.specs.Prelude.{ℕ, ◌+◌, ◌*◌, if◌then◌else◌, List, [], ◌∷◌, ◌++◌, length, codes, decimal, zero, suc}
+use Rattle.cheri_model.specs.declared.trace.Entry.{Entry}
+use Rattle.cheri_model.specs.declared.trace.Status.{Status}
+use Rattle.cheri_model.specs.CapValue.{CapValue}
+use Rattle.cheri_model.specs.HartStep.{HartState, register}
+use Rattle.cheri_model.specs.Image.{ImageParts}
+use Rattle.cheri_model.specs.ImageForm.{is_listed}
+use Rattle.cheri_model.specs.Machine.{MachineState}
+use Rattle.cheri_model.specs.Memory.{ram_base}
+use Rattle.reports.specs.ReportText.{◌+++◌, hex_text, outcome_text, status_text, value_text}
+
+-- every line ends with a newline
+abbrev pub line : List ℕ → List ℕ
+line text = text ++ 10 ∷ []
+
+-- the text of each item of a list, given its number; the first item has this number
+unfoldable pub numbered : {X : Type 0} → (ℕ → X → List ℕ) → ℕ → List X → List ℕ
+numbered text number [] = []
+numbered text number (item ∷ rest) = text number item ++ numbered text (number + 1) rest
+
+unfoldable pub title_line : List ℕ
+title_line = line (codes "cheri-sim report 1")
+
+-- how many harts, how many bytes of RAM, how many instructions
+unfoldable pub image_line : ImageParts → List ℕ
+image_line image =
+    line (codes "image harts=" +++ decimal (length image.harts) +++ codes " ram=" +++ decimal image.ram
+    +++ codes " code=" +++ decimal (length image.program))
+
+-- how many entries
+unfoldable pub count_line : ℕ → List ℕ
+count_line count = line (codes "entries " +++ decimal count)
+
+-- an entry of the trace: its place from 0 on, the hart, PCC's address before the step, and how the step ended
+unfoldable pub entry_line : ℕ → Entry → List ℕ
+entry_line place entry =
+    line (decimal place +++ codes " hart=" +++ decimal entry.hart +++ codes " pc=" +++ hex_text 16 entry.pc
+    +++ codes " " +++ outcome_text entry.outcome)
+
+unfoldable pub status_line : ℕ → Status → List ℕ
+status_line number status = line (codes "hart " +++ decimal number +++ codes " " +++ status_text status)
+
+unfoldable pub pcc_line : CapValue → List ℕ
+pcc_line pcc = line (codes "pcc " +++ value_text pcc)
+
+-- a register that is null has no line
+unfoldable pub register_line : ℕ → CapValue → List ℕ
+register_line number v =
+    if is_listed v then line (codes "c" +++ decimal number +++ codes " " +++ value_text v) else []
+
+-- a hart's registers from this number on, this many
+unfoldable pub register_lines : HartState → ℕ → ℕ → List ℕ
+register_lines hart number zero = []
+register_lines hart number (suc count) =
+    register_line number (register hart number) ++ register_lines hart (number + 1) count
+
+-- a hart: its status, PCC, and the registers c1 to c31
+unfoldable pub hart_lines : ℕ → HartState → List ℕ
+hart_lines number hart = status_line number hart.status +++ pcc_line hart.pcc +++ register_lines hart 1 31
+
+-- a granule that is an untagged 0 has no line
+unfoldable pub granule_line : ℕ → CapValue → List ℕ
+granule_line number v =
+    if is_listed v then line (codes "mem " +++ hex_text 16 (ram_base + 16 * number) +++ codes " " +++ value_text v)
+    else []
+
+unfoldable pub report : ImageParts → List Entry → MachineState → List ℕ
+report image entries state =
+    title_line +++ image_line image +++ count_line (length entries) +++ numbered entry_line 0 entries
+    +++ numbered hart_lines 0 state.harts +++ numbered granule_line 0 state.memory +++ line (codes "end")

@@ -1,0 +1,147 @@
+//! Report 1: the text that shows what a machine started from, the entries of its trace, and its state.
+
+ghost use Rattle.std.specs.Prelude.{◌≡◌, ◌++◌, OnOk, IfOk, string_bytes};
+ghost use Rattle.cheri_model.specs.ImageForm.{is_listed};
+ghost use Rattle.reports.specs.Report.{numbered, image_line, entry_line, register_line, register_lines, hart_lines, granule_line, report};
+ghost use Rattle.hart_step.specs.View.{state_of};
+
+pub mod text;
+
+use cap_ops::Cap;
+use cheri_model::{Entry, Image, NoMemory, Reg};
+use hart_step::{Hart, View};
+use std::alloc::Global;
+use text::{Hex, OutcomeText, StatusText, ValueText};
+
+/// Where RAM begins.
+const RAM_BASE: u128 = 0x8000_0000;
+
+/// The bytes of a granule.
+const GRANULE: u128 = 16;
+
+/// Whether a value is tagged or not all 0: the others have no line in a report.
+fn is_listed(value: Cap) -> bool
+    ensures { result ≡ is_listed value }
+{
+    value.tag() || value.bits() != 0
+}
+
+/// Appends the line of the image.
+#[tactic(auto, unfolding(crate::specs::Report::image_line))]
+fn write_image(out: &mut String, image: &Image) -> Result<(), NoMemory>
+    ensures { OnOk result (string_bytes out.new ≡ string_bytes out.old ++ image_line image.now) }
+{
+    let (harts, code) = (image.harts().len(), image.program().len());
+    writeln!(out, "image harts={harts} ram={} code={code}", image.ram())?;
+    Ok(())
+}
+
+/// Appends the line of an entry of the trace.
+#[tactic(auto, unfolding(crate::specs::Report::entry_line))]
+fn write_entry(out: &mut String, place: usize, entry: &Entry) -> Result<(), NoMemory>
+    ensures { OnOk result (string_bytes out.new ≡ string_bytes out.old ++ entry_line place entry.now) }
+{
+    let pc = Hex {
+        number: u128::from(entry.pc),
+        width: 16,
+    };
+    writeln!(
+        out,
+        "{place} hart={} pc={pc} {}",
+        entry.hart,
+        OutcomeText(entry.outcome)
+    )?;
+    Ok(())
+}
+
+/// Appends the line of a register, if it has one.
+#[tactic(auto, unfolding(crate::specs::Report::register_line))]
+fn write_register(out: &mut String, number: u8, held: Cap) -> Result<(), NoMemory>
+    ensures { OnOk result (string_bytes out.new ≡ string_bytes out.old ++ register_line number held) }
+{
+    if is_listed(held) {
+        writeln!(out, "c{number} {}", ValueText(held))?;
+    }
+    Ok(())
+}
+
+/// Appends the lines of the registers c1 to c31.
+fn write_registers(out: &mut String, hart: &Hart) -> Result<(), NoMemory>
+    ensures { OnOk result (string_bytes out.new ≡ string_bytes out.old ++ register_lines hart.now 1 31) }
+{
+    for number in 1..32 {
+        write_register(out, number, hart.register(Reg::new(number)))?;
+    }
+    Ok(())
+}
+
+/// Appends the lines of a hart.
+#[tactic(auto, unfolding(crate::specs::Report::hart_lines, crate::specs::Report::status_line, crate::specs::Report::pcc_line))]
+fn write_hart(out: &mut String, number: usize, hart: &Hart) -> Result<(), NoMemory>
+    ensures { OnOk result (string_bytes out.new ≡ string_bytes out.old ++ hart_lines number hart.now) }
+{
+    writeln!(out, "hart {number} {}", StatusText(hart.status()))?;
+    writeln!(out, "pcc {}", ValueText(hart.pcc()))?;
+    write_registers(out, hart)
+}
+
+/// Appends the line of a granule, if it has one.
+#[tactic(auto, unfolding(crate::specs::Report::granule_line))]
+fn write_granule(out: &mut String, number: usize, value: Cap) -> Result<(), NoMemory>
+    ensures { OnOk result (string_bytes out.new ≡ string_bytes out.old ++ granule_line number value) }
+{
+    if is_listed(value) {
+        let addr = Hex {
+            number: RAM_BASE + GRANULE * number as u128,
+            width: 16,
+        };
+        writeln!(out, "mem {addr} {}", ValueText(value))?;
+    }
+    Ok(())
+}
+
+/// Appends the lines of the entries.
+fn write_entries(out: &mut String, entries: &[Entry]) -> Result<(), NoMemory>
+    ensures { OnOk result (string_bytes out.new ≡ string_bytes out.old ++ numbered entry_line 0 entries.now) }
+{
+    for (place, entry) in entries.iter().enumerate() {
+        write_entry(out, place, entry)?;
+    }
+    Ok(())
+}
+
+/// Appends the lines of the harts.
+fn write_harts(out: &mut String, harts: &[Hart]) -> Result<(), NoMemory>
+    ensures { OnOk result (string_bytes out.new ≡ string_bytes out.old ++ numbered hart_lines 0 harts.now) }
+{
+    for (number, hart) in harts.iter().enumerate() {
+        write_hart(out, number, hart)?;
+    }
+    Ok(())
+}
+
+/// Appends the lines of the granules.
+fn write_granules(out: &mut String, view: View<'_>) -> Result<(), NoMemory>
+    ensures { OnOk result (string_bytes out.new ≡ string_bytes out.old ++ numbered granule_line 0 (state_of view.entry).memory) }
+{
+    for number in 0..view.granule_count() {
+        write_granule(out, number, view.granule(number))?;
+    }
+    Ok(())
+}
+
+/// Report 1 of what is shown, as text. Only want of memory is refused.
+#[tactic(auto, unfolding(crate::specs::Report::report, crate::specs::Report::title_line, crate::specs::Report::count_line))]
+pub fn report_text(alloc: Global, view: View<'_>) -> Result<String, NoMemory>
+    ensures { IfOk result (λ text. string_bytes text ≡ report view.entry.image.now view.entry.entries.now (state_of view.entry)) }
+{
+    let mut out = String::new(alloc);
+    writeln!(out, "cheri-sim report 1")?;
+    write_image(&mut out, view.image)?;
+    writeln!(out, "entries {}", view.entries.len())?;
+    write_entries(&mut out, view.entries)?;
+    write_harts(&mut out, view.harts)?;
+    write_granules(&mut out, view)?;
+    writeln!(out, "end")?;
+    Ok(out)
+}

@@ -1,0 +1,182 @@
+//! How numbers, outcomes, statuses and values stand in a report.
+
+ghost use Rattle.std.specs.Prelude.{◌≡◌, ◌-◌, ◌<◌, ◌≤◌, Some, drop};
+ghost use Rattle.std.specs.Fmt.{DisplaysOnOk};
+ghost use Rattle.std.specs.Char.{digit_char};
+ghost use Rattle.reports.specs.ReportText.{hex_text, cause_text, outcome_text, status_text, type_text, value_text, word_text, parts_text};
+ghost use Rattle.cheri_model.specs.CapValue.{parts_of};
+
+use bitflags::Flags;
+use cap_ops::Cap;
+use cheri_model::{OType, Outcome, Status, Trap};
+use std::{fmt, str};
+
+/// The most hexadecimal digits that stand together in a report: those of the top of a capability.
+const MOST_DIGITS: usize = 17;
+
+/// A number's lowest hexadecimal digits in lower case, as many as `width` says: at most 17.
+#[derive(Clone, Copy)]
+pub struct Hex {
+    pub number: u128,
+    pub width: usize,
+    ghost within: { width ≤ 17 },
+}
+
+/// The ASCII digit with this value.
+fn hex_digit(digit: u8) -> u8
+    requires { digit < 16 }
+    ensures { result ≡ digit_char digit }
+{
+    if digit < 10 {
+        b'0' + digit
+    } else {
+        b'a' + (digit - 10)
+    }
+}
+
+/// The digits of a number, at the end of an array.
+fn hex_digits(number: u128, width: usize) -> [u8; MOST_DIGITS]
+    requires { width ≤ 17 }
+    ensures { drop (17 - width) result ≡ hex_text width number }
+{
+    let mut digits = [b'0'; MOST_DIGITS];
+    let mut left = number;
+    for place in (MOST_DIGITS - width..MOST_DIGITS).rev() {
+        digits[place] = hex_digit((left & 15) as u8);
+        left >>= 4;
+    }
+    digits
+}
+
+impl fmt::Display for Hex {
+    ghost output = { λ h. Some (hex_text h.width h.number) };
+
+    fn fmt<W: fmt::Write>(&self, f: &mut fmt::Formatter<W>) -> fmt::Result {
+        let digits = hex_digits(self.number, self.width);
+        f.write_str(str::from_utf8(&digits[MOST_DIGITS - self.width..]).map_err(|_| fmt::Error)?)
+    }
+}
+
+/// A trap's cause and register.
+#[derive(Clone, Copy)]
+struct Cause(Trap);
+
+impl fmt::Display for Cause {
+    ghost output = { λ c. Some (cause_text c.0) };
+
+    fn fmt<W: fmt::Write>(&self, f: &mut fmt::Formatter<W>) -> fmt::Result {
+        let Trap { cause, reg } = self.0;
+        write!(f, " cause={cause} reg={reg}")
+    }
+}
+
+/// How a step ended.
+#[derive(Clone, Copy)]
+pub struct OutcomeText(pub Outcome);
+
+impl fmt::Display for OutcomeText {
+    ghost output = { λ o. Some (outcome_text o.0) };
+
+    fn fmt<W: fmt::Write>(&self, f: &mut fmt::Formatter<W>) -> fmt::Result {
+        match self.0 {
+            Outcome::Done => f.write_str("done"),
+            Outcome::Halt => f.write_str("halt"),
+            Outcome::Trap(trap) => write!(f, "trap{}", Cause(trap)),
+        }
+    }
+}
+
+/// Whether a hart runs.
+#[derive(Clone, Copy)]
+pub struct StatusText(pub Status);
+
+impl fmt::Display for StatusText {
+    ghost output = { λ s. Some (status_text s.0) };
+
+    fn fmt<W: fmt::Write>(&self, f: &mut fmt::Formatter<W>) -> fmt::Result {
+        match self.0 {
+            Status::Running => f.write_str("running"),
+            Status::Halted => f.write_str("halted"),
+            Status::Trapped(trap) => write!(f, "trapped{}", Cause(trap)),
+        }
+    }
+}
+
+/// An object type: `unsealed`, `sentry`, or its number in decimal.
+#[derive(Clone, Copy)]
+pub struct TypeText(pub OType);
+
+impl fmt::Display for TypeText {
+    ghost output = { λ t. Some (type_text t.0) };
+
+    fn fmt<W: fmt::Write>(&self, f: &mut fmt::Formatter<W>) -> fmt::Result {
+        match self.0.number() {
+            0x3FFFF => f.write_str("unsealed"),
+            0x3FFFE => f.write_str("sentry"),
+            number => write!(f, "{number}"),
+        }
+    }
+}
+
+/// A word of 128 bits, in two halves.
+#[derive(Clone, Copy)]
+struct Word(u128);
+
+impl fmt::Display for Word {
+    ghost output = { λ w. Some (word_text w.0) };
+
+    fn fmt<W: fmt::Write>(&self, f: &mut fmt::Formatter<W>) -> fmt::Result {
+        let upper = Hex {
+            number: self.0 >> 64,
+            width: 16,
+        };
+        let lower = Hex {
+            number: self.0 & 0xFFFF_FFFF_FFFF_FFFF,
+            width: 16,
+        };
+        write!(f, "{upper}_{lower}")
+    }
+}
+
+/// The bounds, permissions and object type of a value.
+#[derive(Clone, Copy)]
+struct Parts(Cap);
+
+impl fmt::Display for Parts {
+    ghost output = { λ p. Some (parts_text (parts_of p.0)) };
+
+    fn fmt<W: fmt::Write>(&self, f: &mut fmt::Formatter<W>) -> fmt::Result {
+        let (base, top) = self.0.bounds();
+        let base = Hex {
+            number: u128::from(base),
+            width: 16,
+        };
+        let top = Hex {
+            number: top,
+            width: 17,
+        };
+        let perms = Hex {
+            number: u128::from(self.0.perm().bits()),
+            width: 5,
+        };
+        let otype = TypeText(self.0.object_type());
+        write!(f, "{base} {top} {perms} {otype}")
+    }
+}
+
+/// A value: its tag and word, and where it is tagged what the capability is.
+#[derive(Clone, Copy)]
+pub struct ValueText(pub Cap);
+
+impl fmt::Display for ValueText {
+    ghost output = { λ v. Some (value_text v.0) };
+
+    fn fmt<W: fmt::Write>(&self, f: &mut fmt::Formatter<W>) -> fmt::Result {
+        let word = Word(self.0.bits());
+        if self.0.tag() {
+            write!(f, "1 {word} {}", Parts(self.0))
+        } else {
+            write!(f, "0 {word}")
+        }
+    }
+}

@@ -1,0 +1,9 @@
+pub mod Comments
+pub mod Digits
+pub mod HartNumbers
+pub mod Images
+pub mod LawfulTypes
+pub mod Lines
+pub mod PermissionSets
+pub mod PermissionTexts
+pub mod Words

@@ -1,0 +1,147 @@
+//! What is wrong with a listing.
+
+ghost use Rattle.std.specs.Prelude.{◌≡◌};
+
+use std::alloc::{AllocError, AllocFailed};
+use std::fmt;
+use thiserror::Error;
+
+/// What is wrong with a line of a listing. Of several kinds that hold of one line the least is answered.
+#[derive(Clone, Copy, Debug, PartialEq, Eq)]
+pub enum ListingFaultKind {
+    /// A byte of the line, its comment included, is neither a tab nor from 0x20 to 0x7E.
+    NotAscii = 1,
+    /// The first word is no directive and no instruction.
+    Word,
+    /// The count of words is wrong, or a word has not its operand's shape.
+    Operand,
+    /// A number is outside its range.
+    Range,
+    /// A name is malformed, or a target's name is not defined.
+    Label,
+    /// A register of the hart was set before.
+    Twice,
+    /// There is no such capability.
+    Capability,
+    /// There is no hart.
+    NoHart,
+    /// The listing, its harts or its instructions are too many, or there is no instruction.
+    Size,
+    /// Want of memory, which says nothing of the listing.
+    NoMemory,
+}
+
+impl ListingFaultKind {
+    ghost use Rattle.texts.specs.ListingFaults.{listing_fault_number, listing_fault_name};
+
+    /// The number by which reports of faults name the kind.
+    pub fn number(self) -> u8
+        ensures { result ≡ listing_fault_number self }
+    {
+        self as u8
+    }
+
+    /// The kind's name.
+    pub fn name(self) -> &'static str
+        ensures { result.now ≡ listing_fault_name self }
+    {
+        match self {
+            ListingFaultKind::NotAscii => "NotAscii",
+            ListingFaultKind::Word => "Word",
+            ListingFaultKind::Operand => "Operand",
+            ListingFaultKind::Range => "Range",
+            ListingFaultKind::Label => "Label",
+            ListingFaultKind::Twice => "Twice",
+            ListingFaultKind::Capability => "Capability",
+            ListingFaultKind::NoHart => "NoHart",
+            ListingFaultKind::Size => "Size",
+            ListingFaultKind::NoMemory => "NoMemory",
+        }
+    }
+}
+
+impl fmt::Display for ListingFaultKind {
+    ghost use Rattle.std.specs.Prelude.{Some};
+    ghost use Rattle.texts.specs.ListingFaults.{listing_fault_text};
+
+    ghost output = { λ kind. Some (listing_fault_text kind) };
+
+    fn fmt<W: fmt::Write>(&self, f: &mut fmt::Formatter<W>) -> fmt::Result {
+        write!(f, "{} {}", self.number(), self.name())
+    }
+}
+
+/// Why a listing was refused, and the line that is at fault, counted from 1: 0 where no single line is.
+#[derive(Clone, Copy, Debug, PartialEq, Eq, Error)]
+#[error("listing line {line}: {kind}")]
+pub struct ListingFault {
+    pub line: usize,
+    pub kind: ListingFaultKind,
+}
+
+impl From<AllocError> for ListingFault {
+    ghost use Rattle.texts.specs.ListingFaults.{no_memory};
+
+    ghost from_gives = { λ _ fault. fault ≡ no_memory };
+
+    fn from(_: AllocError) -> ListingFault {
+        ListingFault {
+            line: 0,
+            kind: ListingFaultKind::NoMemory,
+        }
+    }
+}
+
+/// Why a line was not read: want of memory, or what is wrong with it.
+#[derive(Clone, Copy, Debug, PartialEq, Eq)]
+pub enum LineFault {
+    NoMemory,
+    Kind(ListingFaultKind),
+}
+
+impl LineFault {
+    ghost use Rattle.texts.specs.ListingFaults.{fault_at};
+
+    /// The same as a fault of the listing.
+    pub fn at(self, line: usize) -> ListingFault
+        ensures { result ≡ fault_at line self }
+    {
+        match self {
+            LineFault::NoMemory => ListingFault {
+                line: 0,
+                kind: ListingFaultKind::NoMemory,
+            },
+            LineFault::Kind(kind) => ListingFault { line, kind },
+        }
+    }
+}
+
+impl From<AllocError> for LineFault {
+    ghost use Rattle.texts.specs.declared.listing.fault.LineFault.TheVariants.{NoMemory};
+
+    ghost from_gives = { λ _ fault. fault ≡ NoMemory };
+
+    fn from(_: AllocError) -> LineFault {
+        LineFault::NoMemory
+    }
+}
+
+impl<T: Drop> From<AllocFailed<T>> for LineFault {
+    ghost use Rattle.texts.specs.declared.listing.fault.LineFault.TheVariants.{NoMemory};
+
+    ghost from_gives = { λ _ fault. fault ≡ NoMemory };
+
+    fn from(_: AllocFailed<T>) -> LineFault {
+        LineFault::NoMemory
+    }
+}
+
+impl From<ListingFaultKind> for LineFault {
+    ghost use Rattle.texts.specs.declared.listing.fault.LineFault.TheVariants.{Kind};
+
+    ghost from_gives = { λ kind fault. fault ≡ Kind kind };
+
+    fn from(kind: ListingFaultKind) -> LineFault {
+        LineFault::Kind(kind)
+    }
+}
