@@ -110,8 +110,6 @@ fn with_top_bit(e: u8, base: u64, top: u128) -> u128
 #[cfg(test)]
 mod tests {
     use super::*;
-    use crate::xorshift::next;
-    use cheri_plain::raw_bounds::{base_of_word, top_of_word};
 
     /// Words as upper half and address, with their bases and tops.
     const DECODED: [(u64, u64, u64, u128); 19] = [
@@ -181,29 +179,6 @@ mod tests {
                 decode(meta, 0),
                 (0, 1 << capped + 12),
                 "exponent {exponent}"
-            );
-        }
-    }
-
-    #[test]
-    fn decodes_as_the_plain_program(rt: HostRuntime) {
-        let mut state = 0x9e37_79b9_7f4a_7c15;
-        for _ in 0..10_000 {
-            let meta = next(state);
-            let wide = next(meta);
-            let shift = next(wide);
-            state = shift;
-            let addr = wide >> (shift & 63);
-            let (base, top) = decode(meta, addr);
-            assert_eq!(rt;
-                u128::from(base),
-                base_of_word(meta, addr),
-                "upper half {meta:x}, address {addr:x}"
-            );
-            assert_eq!(rt;
-                top,
-                top_of_word(meta, addr),
-                "upper half {meta:x}, address {addr:x}"
             );
         }
     }

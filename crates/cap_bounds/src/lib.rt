@@ -9,8 +9,6 @@ mod parts;
 mod representability;
 mod rounding;
 mod word;
-#[cfg(test)]
-mod xorshift;
 
 pub use alignment::{cram, crrl};
 pub use decoding::decode;

@@ -161,10 +161,6 @@ pub fn set_bounds(base: u64, len: u128) -> Rounded
 #[cfg(test)]
 mod tests {
     use super::*;
-    use crate::xorshift::next;
-    use cheri_plain::encoding::{field_b, field_t};
-    use cheri_plain::lengths::internal_exponent_of_length;
-    use cheri_plain::rounding::{base_of_rounding, exponent_of_rounding, top_of_rounding};
 
     /// The end of the address space.
     const END: u128 = 1 << 64;
@@ -204,46 +200,6 @@ mod tests {
                 exact,
             };
             assert_eq!(rt; set_bounds(from, len), want, "at {from} {len}");
-        }
-    }
-
-    #[test]
-    fn rounds_as_the_plain_program(rt: HostRuntime) {
-        let mut state = 0x2545_f491_4f6c_dd1d;
-        for _ in 0..10_000 {
-            let place = next(state);
-            let wide = next(place);
-            state = next(wide);
-            // Bases of every alignment, and lengths of every size with 2^64 itself.
-            let from = place << (state & 63);
-            let shift = (state >> 32) % 65;
-            let len = if shift == 64 {
-                END
-            } else {
-                u128::from(wide >> shift)
-            };
-            let ours = set_bounds(from, len);
-            let e = exponent_of_rounding(from, len);
-            let exact = ours.base == from && ours.top == u128::from(from) + len;
-            assert_eq!(rt; u32::from(ours.e), e, "exponent at {from} {len}");
-            assert_eq!(rt;
-                (u128::from(ours.base), ours.top, ours.exact),
-                (
-                    base_of_rounding(from, len),
-                    top_of_rounding(from, len),
-                    exact
-                ),
-                "bounds at {from} {len}"
-            );
-            assert_eq!(rt;
-                (u128::from(ours.ie), u128::from(ours.b), u128::from(ours.t)),
-                (
-                    internal_exponent_of_length(len),
-                    field_b(ours.ie, e, ours.base),
-                    field_t(ours.ie, e, ours.top)
-                ),
-                "fields at {from} {len}"
-            );
         }
     }
 }
