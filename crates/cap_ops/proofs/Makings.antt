@@ -7,10 +7,12 @@ use Rattle.cheri_model.specs.Window.{IsInWindow, is_in_window}
 use Rattle.cheri_model.specs.Rounding.{rounded_base, rounded_top}
 use Rattle.cheri_model.specs.RawBounds.{raw_base, raw_top}
 use Rattle.cheri_model.specs.Fields.{with_null_fields}
+use Rattle.cheri_model.specs.PermissionNames.{known_permissions}
 use Rattle.cheri_model.specs.Capability.{IsPermissionSet, IsLawfulType, IsLawful, unsealed_type, b_field, t_field, upper_of_fields, upper_of, word_of}
 use Rattle.cheri_model.specs.CapValue.{valid}
 use Rattle.cheri_model.specs.EditedWords.{word_of_halves, with_perms, with_otype, with_rounded_fields}
 use Rattle.cheri_model.specs.Results.{is_exact}
+use Rattle.cheri_model.proofs.PermissionSets.{dropped_bits_leave_set}
 use Rattle.cheri_model.proofs.Roundings.{rounded_length, rounded_base_multiple, rounded_top_multiple}
 use Rattle.cheri_model.proofs.RoundingsWithin.{asked_base_in_window}
 use Rattle.cheri_model.proofs.FieldsBack.{HasFields, with_null_fields_twice}
@@ -167,7 +169,7 @@ made-unrepresentable base len addr perms otype h exact outside =
     rw (le-ltb (2 ^ 64) (base + len) h, exact, test) refl
 
 pub made-ok : (base len addr perms otype : ℕ) → base + len ≤ 2 ^ 64 → is_exact base len ≡ true → IsInWindow base len addr →
-    made base len addr perms otype ≡ Ok (valid (capability_with base len addr perms otype))
+    made base len addr perms otype ≡ Ok (valid (capability_with base len addr (known_permissions perms) otype))
 unfolding made
 made-ok base len addr perms otype h exact inside =
     rw (le-ltb (2 ^ 64) (base + len) h, exact, test_of_window base len addr inside) refl
@@ -192,11 +194,11 @@ root_upper : (perms : ℕ) → with_perms 0 perms ≡ upper_of (capability_with 
 unfolding upper_of internal_exponent exponent first_from b_field t_field
 root_upper perms = upper_with_perms_is perms
 
-pub root_result : (upper perms : ℕ) → IsPermissionSet perms → upper ≡ with_perms 0 perms → IsResult (root_with perms) true (word_of_halves upper 0)
+pub root_result : (upper perms : ℕ) → upper ≡ with_perms 0 (known_permissions perms) → IsResult (root_with perms) true (word_of_halves upper 0)
 unfolding root_with word_of
-root_result upper perms known e =
-    let lawful = root_lawful perms known in
-    let word : word_of (capability_with 0 (2 ^ 64) 0 perms unsealed_type) ≡ word_of_halves upper 0 = rw (e, root_upper perms) refl in
-    result_of true (capability_with 0 (2 ^ 64) 0 perms unsealed_type) (word_of_halves upper 0)
-    (subst (λ (w : ℕ). w < 2 ^ 128) word (word_lt (capability_with 0 (2 ^ 64) 0 perms unsealed_type) lawful))
+root_result upper perms e =
+    let lawful = root_lawful (known_permissions perms) (dropped_bits_leave_set perms) in
+    let word : word_of (capability_with 0 (2 ^ 64) 0 (known_permissions perms) unsealed_type) ≡ word_of_halves upper 0 = rw (e, root_upper (known_permissions perms)) refl in
+    result_of true (capability_with 0 (2 ^ 64) 0 (known_permissions perms) unsealed_type) (word_of_halves upper 0)
+    (subst (λ (w : ℕ). w < 2 ^ 128) word (word_lt (capability_with 0 (2 ^ 64) 0 (known_permissions perms) unsealed_type) lawful))
     (λ t. record { lawful = lawful; same = word })

@@ -1,6 +1,7 @@
 -- Making a capability from its parts: just these bounds, or a refusal.
 use Rattle.std.specs.Prelude.{ℕ, ◌+◌, ◌^◌, nat_lt, not, Result, Ok, Err, if◌then◌else◌}
 use Rattle.cheri_model.specs.Window.{is_in_window}
+use Rattle.cheri_model.specs.PermissionNames.{known_permissions}
 use Rattle.cheri_model.specs.Capability.{Capability, unsealed_type}
 use Rattle.cheri_model.specs.CapValue.{CapValue, valid}
 use Rattle.cheri_model.specs.Results.{is_exact}
@@ -12,15 +13,15 @@ abbrev pub capability_with : ℕ → ℕ → ℕ → ℕ → ℕ → Capability
 capability_with base len addr perms otype =
     record { base = base; top = base + len; addr = addr; perms = perms; flag = 0; otype = otype }
 
--- The answer to these parts: the first refusal that holds, else the valid capability. Rounding never changes what
--- was asked for.
+-- The answer to these parts: the first refusal that holds, else the valid capability with just these bounds. Bits
+-- that no permission has are dropped.
 unfoldable pub made : ℕ → ℕ → ℕ → ℕ → ℕ → Result CapValue MakeFault
 made base len addr perms otype =
     if nat_lt (2 ^ 64) (base + len) then Err PastEnd
     else if not (is_exact base len) then Err Inexact
     else if not (is_in_window base len addr) then Err Unrepresentable
-    else Ok (valid (capability_with base len addr perms otype))
+    else Ok (valid (capability_with base len addr (known_permissions perms) otype))
 
 -- the capability that reaches the whole address space
 unfoldable pub root_with : ℕ → CapValue
-root_with perms = valid (capability_with 0 (2 ^ 64) 0 perms unsealed_type)
+root_with perms = valid (capability_with 0 (2 ^ 64) 0 (known_permissions perms) unsealed_type)

@@ -1,12 +1,11 @@
 //! Making capabilities from their parts (CHERI ISA version 9, section 2.3).
 
 ghost use Rattle.std.specs.Prelude.{◌≡◌, ◌^◌, ◌≤◌, ◌<◌};
-ghost use Rattle.cheri_model.specs.Capability.{IsPermissionSet, IsLawfulType, unsealed_type};
+ghost use Rattle.cheri_model.specs.Capability.{IsLawfulType, unsealed_type};
 ghost use Rattle.cap_ops.specs.Making.{made, root_with};
 
 use crate::cap::Cap;
 use crate::fields::{with_otype, with_perms, with_rounded_fields};
-use bitflags::Flags;
 use cap_bounds::representable;
 use cheri_model::{OType, Perms};
 
@@ -22,18 +21,17 @@ pub enum MakeFault {
 }
 
 impl Cap {
-    /// The capability that reaches the whole address space with these permissions, unsealed, at address 0.
+    /// The capability of the whole address space with these permissions, unsealed, at address 0. Bits of `perms`
+    /// that no permission has are dropped, here and below.
     pub fn root(perms: Perms) -> Cap
-        requires { IsPermissionSet perms.0 }
         ensures { result ≡ root_with perms.0 }
     {
         // The bounds fields of a word 0 say the whole address space, and its object type is unsealed.
-        Cap::from_halves(true, with_perms(0, perms.bits()), 0)
+        Cap::from_halves(true, with_perms(0, perms.known_bits()), 0)
     }
 
     /// The unsealed capability of just the `len` addresses from `base` on, with this address and these permissions.
     pub fn make(base: u64, len: u128, addr: u64, perms: Perms) -> Result<Cap, MakeFault>
-        requires { IsPermissionSet perms.0 }
         ensures { result ≡ made base len addr perms.0 unsealed_type }
     {
         Cap::make_sealed(base, len, addr, perms, OType::unsealed())
@@ -47,14 +45,13 @@ impl Cap {
         perms: Perms,
         otype: OType,
     ) -> Result<Cap, MakeFault>
-        requires perms { IsPermissionSet perms.0 }
-        requires otype { IsLawfulType otype }
+        requires { IsLawfulType otype }
         ensures { result ≡ made base len addr perms.0 otype }
     {
         if len > (1 << 64) - u128::from(base) {
             return Err(MakeFault::PastEnd);
         }
-        let unbounded = with_otype(with_perms(0, perms.bits()), otype.number());
+        let unbounded = with_otype(with_perms(0, perms.known_bits()), otype.number());
         let (upper, exact) = with_rounded_fields(unbounded, base, len);
         if !exact {
             return Err(MakeFault::Inexact);

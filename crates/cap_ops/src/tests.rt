@@ -1,8 +1,5 @@
 //! Worked values: the words and tags of results, and what is read off a value.
 
-ghost use Rattle.std.specs.Prelude.{◌≡◌};
-ghost use Rattle.cheri_model.specs.Capability.{IsPermissionSet};
-
 use crate::cap::Cap;
 use crate::making::MakeFault;
 use bitflags::Flags;
@@ -17,18 +14,13 @@ fn tagged_word(cap: Cap) -> Tagged {
 }
 
 /// The set with these permission bits.
-fn perms(bits: u32) -> Perms
-    requires { IsPermissionSet bits }
-    ensures { result.0 ≡ bits }
-{
+fn perms(bits: u32) -> Perms {
     Perms::from_bits_retain(bits)
 }
 
 const ALL: u32 = 0x7_8fff;
 
-fn made(rt: &impl Abort, base: u64, len: u128, addr: u64, perms: Perms) -> Cap
-    requires { IsPermissionSet perms.0 }
-{
+fn made(rt: &impl Abort, base: u64, len: u128, addr: u64, perms: Perms) -> Cap {
     Cap::make(base, len, addr, perms).expect(rt, "these bounds can be made")
 }
 

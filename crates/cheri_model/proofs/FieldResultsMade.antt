@@ -1,8 +1,6 @@
 -- The results of instructions that replace a field, and of sealing: the word and the tag of each, for lawful values.
 use Rattle.std.specs.Prelude.{◌≡◌, ℕ, ◌*◌, ◌/◌, ◌%◌, ◌^◌, ◌<◌, ◌==◌, true, ◌&&◌, bit_and}
-use Rattle.std.proofs.Common.{arith, ap, ◌∙◌, leb-true, inl, inr}
-use Rattle.std.specs.Int.Bits.{and_zero_l}
-use Rattle.std.proofs.lemmas.Nat.{and_le_l, and_shr, and_mod}
+use Rattle.std.proofs.Common.{arith, leb-true, inl, inr}
 use Rattle.std.proofs.lemmas.Bool.{and_parts, cases_Bool}
 use Rattle.cheri_model.specs.Capability.{IsPermissionSet, IsLawfulType, unsealed_type, sentry_type}
 use Rattle.cheri_model.specs.CapValue.{CapValue, bits_of, tag_of, parts_of, IsLawfulValue}
@@ -10,20 +8,10 @@ use Rattle.cheri_model.specs.EditedWords.{with_perms, with_flag, with_otype, wor
 use Rattle.cheri_model.specs.Results.{address_of, is_open, has_permission}
 use Rattle.cheri_model.specs.FieldResults.{and_perm, set_flags}
 use Rattle.cheri_model.specs.SealResults.{global_permission, execute_permission, seal_permission, unseal_permission, is_sealable, has_type_authority, word_with_otype, seal, unsealed_perms, unseal, seal_entry, unsealed}
+use Rattle.cheri_model.proofs.PermissionSets.{perms_in_mask}
 use Rattle.cheri_model.proofs.FieldsEdited.{edited_perms_lt, edited_flag_lt, edited_otype_lt}
 use Rattle.cheri_model.proofs.WordsEdited.{word_with_another_otype, word_with_another_flag, word_with_other_perms, word_with_perms_and_otype}
 use Rattle.cheri_model.proofs.Values.{IsResult, result_of, bits_lt, tagged_parts, open_parts, perms_known, word_with_upper_lt}
-
--- permissions that are also in a mask are known where the permissions are
-pub perms_in_mask : (perms mask : ℕ) → IsPermissionSet perms → IsPermissionSet (bit_and perms mask)
-perms_in_mask perms mask h =
-    let digits : bit_and perms mask / 2 ^ 12 % 2 ^ 3 ≡ bit_and (perms / 2 ^ 12 % 2 ^ 3) (mask / 2 ^ 12 % 2 ^ 3) =
-    ap (λ (n : ℕ). n % 2 ^ 3) (and_shr perms mask 12) ∙ and_mod (perms / 2 ^ 12) (mask / 2 ^ 12) 3 in
-    let none : perms / 2 ^ 12 % 2 ^ 3 ≡ 0 = h.known in
-    record {
-      below = omega (arith, and_le_l perms mask, h.below);
-      known = digits ∙ ap (λ (n : ℕ). bit_and n (mask / 2 ^ 12 % 2 ^ 3)) none ∙ and_zero_l (mask / 2 ^ 12 % 2 ^ 3);
-    }
 
 -- the upper half of a lawful value's bits
 upper_below : (v : CapValue) → IsLawfulValue v → bits_of v / 2 ^ 64 < 2 ^ 64

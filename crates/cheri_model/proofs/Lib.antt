@@ -13,6 +13,7 @@ pub mod TopsBack
 pub mod RegionPlaces
 pub mod BoundsDigits
 pub mod BoundsBack
+pub mod PermissionSets
 pub mod FieldsBack
 pub mod DigitsBack
 pub mod WindowPlaces

@@ -1,5 +1,6 @@
 -- The names of permissions in listings, in bit order, with the bit of each in CGetPerm's form.
-use Rattle.std.specs.Prelude.{ℕ, List, [], ◌∷◌, codes}
+use Rattle.std.specs.Prelude.{ℕ, List, [], ◌∷◌, codes, bit_and}
+use Rattle.cheri_model.specs.declared.perms.TheConstants.Perms.{ALL}
 
 abbrev pub permission_table : List (List ℕ × ℕ)
 permission_table =
@@ -11,4 +12,8 @@ permission_table =
 
 -- all permissions
 abbrev pub all_permissions : ℕ
-all_permissions = 0x78FFF
+all_permissions = ALL.0
+
+-- the permissions among these bits: bits that no permission has are dropped
+abbrev pub known_permissions : ℕ → ℕ
+known_permissions bits = bit_and bits all_permissions

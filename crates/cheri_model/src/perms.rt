@@ -2,6 +2,8 @@
 
 ghost use Rattle.std.specs.Prelude.{⊤, ◌≡◌, [], ◌∷◌, codes, option_map};
 ghost use Rattle.bitflags.specs.Sets.{find_name};
+ghost use Rattle.cheri_model.specs.Capability.{IsPermissionSet};
+ghost use Rattle.cheri_model.specs.PermissionNames.{known_permissions};
 
 use bitflags::{Flag, Flags};
 
@@ -42,6 +44,9 @@ impl Perms {
     pub const SW2: Perms = Perms(0x2_0000);
 
     pub const SW3: Perms = Perms(0x4_0000);
+
+    /// Every permission that there is.
+    pub const ALL: Perms = Perms(0x7_8FFF);
 
     /// The flags in bit order, under their names in listings.
     const FLAGS: &'static [Flag<Perms>] = &[
@@ -110,6 +115,15 @@ impl Perms {
             value: Perms::SW3,
         },
     ];
+
+    /// The permissions among these bits, as CGetPerm shows them. Bits that no permission has are dropped.
+    #[tactic(auto, using(crate::proofs::PermissionSets::dropped_bits_leave_set))]
+    pub fn known_bits(self) -> u32
+        ensures value { result ≡ known_permissions self.0 }
+        ensures known { IsPermissionSet result }
+    {
+        self.bits() & Perms::ALL.bits()
+    }
 }
 
 impl Flags for Perms {

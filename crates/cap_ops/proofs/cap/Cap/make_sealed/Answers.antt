@@ -1,6 +1,8 @@
 use Rattle.std.proofs.Common.{◌≡◌, ◌+◌, ◌^◌, ◌≤◌, true, arith, ap, sym, ◌∙◌, Ok}
 use Rattle.std.proofs.lemmas.Bool.{false≢true}
+use Rattle.cheri_model.specs.PermissionNames.{known_permissions}
 use Rattle.cheri_model.specs.Results.{is_exact}
+use Rattle.cheri_model.proofs.PermissionSets.{dropped_bits_leave_set}
 use Rattle.cap_ops.proofs.Makings.{makeable, made_window, made_result, made-past_end, made-inexact, made-unrepresentable, made-ok}
 use Rattle.cap_ops.proofs.cap.Cap.make_sealed.Goals as goal
 
@@ -20,8 +22,8 @@ returns-then-not-representable c =
     let from = c.from.ensures in
     let ends : c.args.base + c.args.len ≤ 2 ^ 64 = omega arith in
     let exact : is_exact c.args.base c.args.len ≡ true = sym c.with_rounded_fields-upper.ensures.exact ∙ c.if-not-exact.false in
-    let fits = makeable c.args.base c.args.len c.args.perms.0 c.args.otype c.requires.perms c.requires.otype (omega arith) ends exact in
-    let upper = rw (c.with_otype-unbounded.ensures, c.with_perms.ensures, c.bits.ensures, c.number.ensures.value) at c.with_rounded_fields-upper.ensures.fields in
+    let fits = makeable c.args.base c.args.len (known_permissions c.args.perms.0) c.args.otype (dropped_bits_leave_set c.args.perms.0) c.requires (omega arith) ends exact in
+    let upper = rw (c.with_otype-unbounded.ensures, c.with_perms.ensures, c.known_bits.ensures.value, c.number.ensures.value) at c.with_rounded_fields-upper.ensures.fields in
     let window = made_window _ _ _ _ fits _ c.args.addr upper in
     sym (made-unrepresentable c.args.base c.args.len c.args.addr c.args.perms.0 c.args.otype ends exact
     (λ inside. false≢true (sym c.if-not-representable.true ∙ c.representable.ensures.same.1 (window.1 inside))))
@@ -31,8 +33,8 @@ from_halves-requires c =
     let from = c.from.ensures in
     let ends : c.args.base + c.args.len ≤ 2 ^ 64 = omega arith in
     let exact : is_exact c.args.base c.args.len ≡ true = sym c.with_rounded_fields-upper.ensures.exact ∙ c.if-not-exact.false in
-    let fits = makeable c.args.base c.args.len c.args.perms.0 c.args.otype c.requires.perms c.requires.otype (omega arith) ends exact in
-    let upper = rw (c.with_otype-unbounded.ensures, c.with_perms.ensures, c.bits.ensures, c.number.ensures.value) at c.with_rounded_fields-upper.ensures.fields in
+    let fits = makeable c.args.base c.args.len (known_permissions c.args.perms.0) c.args.otype (dropped_bits_leave_set c.args.perms.0) c.requires (omega arith) ends exact in
+    let upper = rw (c.with_otype-unbounded.ensures, c.with_perms.ensures, c.known_bits.ensures.value, c.number.ensures.value) at c.with_rounded_fields-upper.ensures.fields in
     let window = made_window _ _ _ _ fits _ c.args.addr upper in
     (made_result _ _ _ _ fits _ c.args.addr upper (omega arith) (window.0 (c.representable.ensures.same.0 c.if-not-representable.false))).tagged
 
@@ -41,8 +43,8 @@ returns c =
     let from = c.from.ensures in
     let ends : c.args.base + c.args.len ≤ 2 ^ 64 = omega arith in
     let exact : is_exact c.args.base c.args.len ≡ true = sym c.with_rounded_fields-upper.ensures.exact ∙ c.if-not-exact.false in
-    let fits = makeable c.args.base c.args.len c.args.perms.0 c.args.otype c.requires.perms c.requires.otype (omega arith) ends exact in
-    let upper = rw (c.with_otype-unbounded.ensures, c.with_perms.ensures, c.bits.ensures, c.number.ensures.value) at c.with_rounded_fields-upper.ensures.fields in
+    let fits = makeable c.args.base c.args.len (known_permissions c.args.perms.0) c.args.otype (dropped_bits_leave_set c.args.perms.0) c.requires (omega arith) ends exact in
+    let upper = rw (c.with_otype-unbounded.ensures, c.with_perms.ensures, c.known_bits.ensures.value, c.number.ensures.value) at c.with_rounded_fields-upper.ensures.fields in
     let window = made_window _ _ _ _ fits _ c.args.addr upper in
     let inside = window.0 (c.representable.ensures.same.0 c.if-not-representable.false) in
     ap Ok (c.from_halves.ensures ∙ (made_result _ _ _ _ fits _ c.args.addr upper (omega arith) inside).same)
