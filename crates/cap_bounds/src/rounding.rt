@@ -161,9 +161,7 @@ pub fn set_bounds(base: u64, len: u128) -> Rounded
 #[cfg(test)]
 mod tests {
     use super::*;
-
-    /// The end of the address space.
-    const END: u128 = 1 << 64;
+    use cheri_model::ADDRESS_SPACE;
 
     /// A row: base, length, and the rounding as IE, E, T, B, base, top and whether it is exact.
     type Row = (u64, u128, u8, u8, u16, u16, u64, u128, bool);
@@ -172,8 +170,8 @@ mod tests {
         (1, 4095, 0, 0, 0, 1, 1, 0x1000, true),
         (1, 4096, 1, 0, 8, 0, 0, 0x1008, false),
         (1, 8191, 1, 1, 0, 1, 0, 0x2000, false),
-        (0, END - 1, 1, 52, 6, 4, 0, END, false),
-        (u64::MAX, 2, 0, 0, 1, 0x3fff, u64::MAX, END + 1, true),
+        (0, ADDRESS_SPACE - 1, 1, 52, 6, 4, 0, ADDRESS_SPACE, false),
+        (u64::MAX, 2, 0, 0, 1, 0x3fff, u64::MAX, ADDRESS_SPACE + 1, true),
         (
             0x8000_0001,
             1 << 20,

@@ -4,12 +4,7 @@ ghost use Rattle.std.specs.Prelude.{◌≡◌, ◌≤◌, ◌<◌, ◌^◌};
 ghost use Rattle.cheri_model.specs.Fields.{with_null_fields, word_perms, word_otype, word_flag, word_reserved, word_ie, stored_t, stored_b, word_exponent, word_b, word_t, word_t14};
 
 use crate::parts::Fields;
-
-/// The upper half of the null capability's fields, with which every word in memory is exclusive-or'ed.
-const NULL_FIELDS: u64 = 0x0000_1FFF_FC01_8004;
-
-/// The greatest exponent: a greater one in a word counts as this one.
-const MAX_EXPONENT: u8 = 52;
+use cheri_model::{MAX_EXPONENT, NULL_FIELDS};
 
 /// The fields of the word with this upper half.
 pub fn fields(meta: u64) -> Fields
@@ -152,8 +147,8 @@ pub(crate) fn full_t_digits(meta: u64) -> u16
 #[cfg(test)]
 mod tests {
     use super::*;
+    use cheri_model::UNSEALED_TYPE;
 
-    const UNSEALED: u32 = 0x3_ffff;
 
     fn of_word(perms: u32, otype: u32, flag: u8, reserved: u8, ie: u8, e: u8) -> Fields {
         Fields {
@@ -169,29 +164,29 @@ mod tests {
     #[test]
     fn takes_known_words_apart(rt: HostRuntime) {
         let table = [
-            (0, of_word(0, UNSEALED, 0, 0, 1, 52)),
-            (0x1000, of_word(0, UNSEALED, 0, 0, 1, 52)),
-            (0x4000, of_word(0, UNSEALED, 0, 0, 1, 52)),
-            (0x1_8004, of_word(0, UNSEALED, 0, 0, 1, 0)),
+            (0, of_word(0, UNSEALED_TYPE, 0, 0, 1, 52)),
+            (0x1000, of_word(0, UNSEALED_TYPE, 0, 0, 1, 52)),
+            (0x4000, of_word(0, UNSEALED_TYPE, 0, 0, 1, 52)),
+            (0x1_8004, of_word(0, UNSEALED_TYPE, 0, 0, 1, 0)),
             (0x1000_0000, of_word(0, 262_141, 0, 0, 1, 52)),
             (
                 0xffff_0000_0000_0000,
-                of_word(0x7_8fff, UNSEALED, 0, 0, 1, 52),
+                of_word(0x7_8fff, UNSEALED_TYPE, 0, 0, 1, 52),
             ),
             (
                 0xffff_0000_0405_8004,
-                of_word(0x7_8fff, UNSEALED, 0, 0, 0, 0),
+                of_word(0x7_8fff, UNSEALED_TYPE, 0, 0, 0, 0),
             ),
             (
                 0xffff_2000_0405_8004,
-                of_word(0x7_8fff, UNSEALED, 1, 0, 0, 0),
+                of_word(0x7_8fff, UNSEALED_TYPE, 1, 0, 0, 0),
             ),
             (
                 0xffff_0000_2405_8004,
                 of_word(0x7_8fff, 262_139, 0, 0, 0, 0),
             ),
-            (0x1005_0000_0405_8004, of_word(0x8005, UNSEALED, 0, 0, 0, 0)),
-            (0x000c_c000_0418_8004, of_word(0xc, UNSEALED, 0, 3, 0, 0)),
+            (0x1005_0000_0405_8004, of_word(0x8005, UNSEALED_TYPE, 0, 0, 0, 0)),
+            (0x000c_c000_0418_8004, of_word(0xc, UNSEALED_TYPE, 0, 3, 0, 0)),
         ];
         for (meta, parts) in table {
             assert_eq!(rt; fields(meta), parts, "upper half {meta:x}");

@@ -6,9 +6,7 @@ ghost use Rattle.cheri_model.specs.EditedWords.{with_perms, with_flag, with_otyp
 ghost use Rattle.cheri_model.specs.Results.{is_exact};
 
 use cap_bounds::set_bounds;
-
-/// The upper half of the null capability's fields, with which every word in memory is exclusive-or'ed.
-const NULL_FIELDS: u64 = 0x0000_1FFF_FC01_8004;
+use cheri_model::NULL_FIELDS;
 
 /// The fields of an upper half, or the upper half with these fields.
 #[tactic(auto, unfolding(cheri_model::specs::Fields::with_null_fields))]

@@ -7,7 +7,7 @@ ghost use Rattle.cap_ops.specs.Making.{made, root_with};
 use crate::cap::Cap;
 use crate::fields::{with_otype, with_perms, with_rounded_fields};
 use cap_bounds::representable;
-use cheri_model::{OType, Perms};
+use cheri_model::{ADDRESS_SPACE, OType, Perms};
 
 /// Why no capability has the asked parts. The first that holds is answered.
 #[derive(Clone, Copy, Debug, PartialEq, Eq)]
@@ -48,7 +48,7 @@ impl Cap {
         requires { IsLawfulType otype }
         ensures { result ≡ made base len addr perms.0 otype }
     {
-        if len > (1 << 64) - u128::from(base) {
+        if len > ADDRESS_SPACE - u128::from(base) {
             return Err(MakeFault::PastEnd);
         }
         let unbounded = with_otype(with_perms(0, perms.known_bits()), otype.number());

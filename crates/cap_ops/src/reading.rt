@@ -9,13 +9,7 @@ ghost use Rattle.cheri_model.specs.Readings.{permissions_of, object_type_of, typ
 use crate::cap::Cap;
 use bitflags::Flags;
 use cap_bounds::{decode, fields};
-use cheri_model::{OType, Perms};
-
-/// The greatest object type that CSeal can give.
-pub(crate) const LAST_SEALABLE_TYPE: u64 = 0x3_fffb;
-
-/// The object type of what is not sealed.
-pub(crate) const UNSEALED_TYPE: u32 = 0x3_ffff;
+use cheri_model::{LAST_SEALABLE_TYPE, OType, Perms, UNSEALED_TYPE};
 
 impl Cap {
     /// The bounds: the base, and the top, which is the first address above them. The top of a word that no
@@ -88,11 +82,11 @@ impl Cap {
     pub fn otype(self) -> u64
         ensures { result ≡ type_number_of self }
     {
-        let number = u64::from(self.object_type().number());
+        let number = self.object_type().number();
         if number > LAST_SEALABLE_TYPE {
-            0xffff_ffff_fffc_0000 + number
+            0xffff_ffff_fffc_0000 + u64::from(number)
         } else {
-            number
+            u64::from(number)
         }
     }
 

@@ -8,19 +8,7 @@ ghost use Rattle.cheri_model.specs.SealResults.{seal_permission, unseal_permissi
 
 use crate::cap::Cap;
 use crate::fields::{with_otype, with_perms};
-use crate::reading::{LAST_SEALABLE_TYPE, UNSEALED_TYPE};
-
-/// The numbers of the permissions that sealing asks for.
-const GLOBAL_PERMISSION: u32 = 0;
-
-const EXECUTE_PERMISSION: u32 = 1;
-
-const SEAL_PERMISSION: u32 = 7;
-
-const UNSEAL_PERMISSION: u32 = 9;
-
-/// The object type of a sealed entry.
-const SENTRY_TYPE: u32 = 0x3_fffe;
+use cheri_model::{LAST_SEALABLE_TYPE, SENTRY_TYPE, UNSEALED_TYPE, permission};
 
 impl Cap {
     /// Sealed with the authority's address as its object type (CSeal). The tag stays where this is open, the
@@ -78,10 +66,10 @@ impl Cap {
         if !self.is_open() {
             return false;
         }
-        if !authority.has_type_authority(SEAL_PERMISSION) {
+        if !authority.has_type_authority(permission::SEAL) {
             return false;
         }
-        authority.addr() <= LAST_SEALABLE_TYPE
+        authority.addr() <= u64::from(LAST_SEALABLE_TYPE)
     }
 
     /// Whether this may be unsealed under the authority.
@@ -91,17 +79,17 @@ impl Cap {
         ensures lawful { IsLawfulValue self }
     {
         let tagged = self.tag();
-        let otype = u64::from(self.object_type().number());
+        let otype = self.object_type().number();
         if !tagged {
             return false;
         }
         if otype > LAST_SEALABLE_TYPE {
             return false;
         }
-        if !authority.has_type_authority(UNSEAL_PERMISSION) {
+        if !authority.has_type_authority(permission::UNSEAL) {
             return false;
         }
-        authority.addr() == otype
+        authority.addr() == u64::from(otype)
     }
 
     /// Whether this may be sealed as a sentry.
@@ -112,7 +100,7 @@ impl Cap {
         if !self.is_open() {
             return false;
         }
-        self.has_permission(EXECUTE_PERMISSION)
+        self.has_permission(permission::EXECUTE)
     }
 
     /// Whether this has authority, by the permission with this number, over the object type that is its address.
@@ -140,7 +128,7 @@ impl Cap {
     {
         let _tag = self.tag();
         let perms = self.permission_bits();
-        if authority.has_permission(GLOBAL_PERMISSION) {
+        if authority.has_permission(permission::GLOBAL) {
             perms
         } else {
             perms / 2 * 2

@@ -1,5 +1,6 @@
 -- A capability as whole numbers, when it is lawful, and its word (CHERI ISA version 9, sections 2.3 and 3.5).
 use Rattle.std.specs.Prelude.{◌≡◌, ◌≢◌, ℕ, ◌+◌, ◌-◌, ◌*◌, ◌/◌, ◌%◌, ◌^◌, ◌<◌, ◌≤◌}
+use Rattle.cheri_model.specs.declared.otype.TheConstants.{UNSEALED_TYPE, SENTRY_TYPE, LAST_SEALABLE_TYPE}
 use Rattle.cheri_model.specs.Lengths.{exponent, internal_exponent, granule}
 use Rattle.cheri_model.specs.Window.{IsInWindow}
 use Rattle.cheri_model.specs.Fields.{with_null_fields, field_of_perms, word_perms, word_flag, word_otype}
@@ -16,14 +17,14 @@ pub record Capability : Type 0 where
 
 -- the object types that stand for unsealed and for a sealed entry (sentry)
 abbrev pub unsealed_type : ℕ
-unsealed_type = 0x3FFFF
+unsealed_type = UNSEALED_TYPE
 
 abbrev pub sentry_type : ℕ
-sentry_type = 0x3FFFE
+sentry_type = SENTRY_TYPE
 
 -- the greatest object type that CSeal can give; the two types above it and below sentry are reserved
 abbrev pub last_sealable_type : ℕ
-last_sealable_type = 0x3FFFB
+last_sealable_type = LAST_SEALABLE_TYPE
 
 -- an object type that a tagged capability may have
 pub record IsLawfulType (otype : ℕ) : Type 0 where

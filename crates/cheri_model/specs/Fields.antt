@@ -1,11 +1,12 @@
 -- The fields of the upper half of a 128-bit word in memory. The places of the fields and null's fields are
 -- this project's own profile; the fields are those of CHERI ISA version 9, section 3.5.
 use Rattle.std.specs.Prelude.{ℕ, ◌+◌, ◌*◌, ◌/◌, ◌%◌, ◌^◌, ◌==◌, nat_lt, min, bit_xor, if◌then◌else◌}
+use Rattle.cheri_model.specs.declared.encoding.TheConstants.{NULL_FIELDS, MAX_EXPONENT}
 use Rattle.cheri_model.specs.Numbers.{round_down}
 
 -- the upper half of the null capability's fields: unsealed, IE 1, T 0x006, B 0x0004, all others 0
 abbrev pub null_fields : ℕ
-null_fields = 0x00001FFFFC018004
+null_fields = NULL_FIELDS
 
 -- a word in memory is its fields exclusive-or null's, so that null is the word 0; this leads either way
 unfoldable pub with_null_fields : ℕ → ℕ
@@ -43,7 +44,7 @@ stored_b upper = with_null_fields upper % 2 ^ 14
 
 -- the exponent E: 0 with IE 0, else the six bits, of which more than 52 counts as 52
 unfoldable pub word_exponent : ℕ → ℕ
-word_exponent upper = if word_ie upper == 0 then 0 else min 52 (8 * (stored_t upper % 8) + stored_b upper % 8)
+word_exponent upper = if word_ie upper == 0 then 0 else min MAX_EXPONENT (8 * (stored_t upper % 8) + stored_b upper % 8)
 
 -- B, of 14 bits, in which the bits of the exponent count as 0
 unfoldable pub word_b : ℕ → ℕ

@@ -1,6 +1,8 @@
 -- Which parts make an image: the limits of its sizes, and how its granules are listed.
 use Rattle.std.specs.Prelude.{ℕ, ◌+◌, ◌%◌, ◌==◌, nat_le, Bool, true, not, ◌&&◌, ◌||◌, if◌then◌else◌, List, [], ◌∷◌, length, Option, Some, None}
 use Rattle.cheri_model.specs.declared.instr.Instr.{Instr}
+use Rattle.cheri_model.specs.declared.image.TheConstants.{MAX_INSTRUCTIONS, MAX_HARTS}
+use Rattle.cheri_model.specs.declared.memory.TheConstants.{GRANULE_BYTES, MAX_RAM_BYTES}
 use Rattle.cheri_model.specs.declared.image.HartImage.{HartImage}
 use Rattle.cheri_model.specs.CapValue.{CapValue, bits_of, tag_of}
 use Rattle.cheri_model.specs.Memory.{ram_base}
@@ -16,7 +18,7 @@ is_listed v = tag_of v || not (bits_of v == 0)
 -- a granule of RAM whose address is aligned and no lower than `from`, and whose value is worth listing
 abbrev pub is_granule : ℕ → ℕ → ℕ → CapValue → Bool
 is_granule ram from addr v =
-    nat_le from addr && (addr % 16 == 0) && nat_le (addr + 16) (ram_base + ram) && is_listed v
+    nat_le from addr && (addr % GRANULE_BYTES == 0) && nat_le (addr + GRANULE_BYTES) (ram_base + ram) && is_listed v
 
 -- such granules, whose addresses rise strictly
 unfoldable pub are_granules : ℕ → ℕ → List (ℕ × CapValue) → Bool
@@ -26,8 +28,8 @@ are_granules ram from (g ∷ rest) = is_granule ram from g.0 g.1 && are_granules
 -- 1 to 16,384 instructions; RAM of 16 to 1,048,576 bytes, a multiple of 16; 1 to 8 harts
 abbrev pub are_sizes : ImageParts → Bool
 are_sizes image =
-    is_between 1 16384 (length image.program) && is_between 16 1048576 image.ram && (image.ram % 16 == 0)
-    && is_between 1 8 (length image.harts)
+    is_between 1 MAX_INSTRUCTIONS (length image.program) && is_between GRANULE_BYTES MAX_RAM_BYTES image.ram
+    && (image.ram % GRANULE_BYTES == 0) && is_between 1 MAX_HARTS (length image.harts)
 
 unfoldable pub is_image : ImageParts → Bool
 is_image image = are_sizes image && are_granules image.ram ram_base image.granules

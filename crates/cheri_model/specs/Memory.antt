@@ -2,16 +2,17 @@
 -- 0x8000_0000 (this project's own), and granule k has the 16 bytes from there + 16 * k on. The map of n granules
 -- is the list of their values.
 use Rattle.std.specs.Prelude.{◌≡◌, ℕ, ◌+◌, ◌-◌, ◌*◌, ◌/◌, ◌%◌, ◌^◌, ◌==◌, nat_lt, nat_le, Bool, true, ◌&&◌, List, length, replicate, slice_index_or, slice_set}
+use Rattle.cheri_model.specs.declared.memory.TheConstants.{RAM_BASE, GRANULE_BYTES, MAX_RAM_BYTES}
 use Rattle.cheri_model.specs.declared.width.Width.{Width}
 use Rattle.cheri_model.specs.declared.width.Width.TheVariants.{Byte, Half, Word, Double}
 use Rattle.cheri_model.specs.CapValue.{CapValue, raw, bits_of, IsLawfulValue}
 
 abbrev pub ram_base : ℕ
-ram_base = 0x80000000
+ram_base = RAM_BASE
 
 -- the number of the granule that the byte at an address is in
 abbrev pub granule_number : ℕ → ℕ
-granule_number addr = (addr - ram_base) / 16
+granule_number addr = (addr - ram_base) / GRANULE_BYTES
 
 -- what the map has at a granule; an untagged 0 where there is none
 unfoldable pub granule_at : List CapValue → ℕ → CapValue
@@ -26,15 +27,16 @@ bytes_of Double = 8
 
 -- the sizes of RAM in bytes: the multiples of 16 from 16 to 1,048,576 (this project's own)
 abbrev pub is_ram_size : ℕ → Bool
-is_ram_size bytes = nat_le 16 bytes && nat_le bytes 1048576 && (bytes % 16 == 0)
+is_ram_size bytes =
+    nat_le GRANULE_BYTES bytes && nat_le bytes MAX_RAM_BYTES && (bytes % GRANULE_BYTES == 0)
 
 -- RAM of this many bytes with an untagged 0 in every granule
 abbrev pub cleared_memory : ℕ → List CapValue
-cleared_memory bytes = replicate (bytes / 16) (raw 0)
+cleared_memory bytes = replicate (bytes / GRANULE_BYTES) (raw 0)
 
 -- whether the bytes from an address on, this many, lie wholly in RAM
 abbrev pub is_in_ram : List CapValue → ℕ → ℕ → Bool
-is_in_ram granules addr bytes = nat_le ram_base addr && nat_le (addr + bytes) (ram_base + 16 * length granules)
+is_in_ram granules addr bytes = nat_le ram_base addr && nat_le (addr + bytes) (ram_base + GRANULE_BYTES * length granules)
 
 -- whether an access of this many bytes, at least one, is aligned to them and lies wholly in RAM
 abbrev pub fits : List CapValue → ℕ → ℕ → Bool
@@ -42,7 +44,7 @@ fits granules addr bytes = nat_lt 0 bytes && (addr % bytes == 0) && is_in_ram gr
 
 -- the place of a byte within its granule
 abbrev pub granule_offset : ℕ → ℕ
-granule_offset addr = (addr - ram_base) % 16
+granule_offset addr = (addr - ram_base) % GRANULE_BYTES
 
 -- the number that this many bytes of a word are, from the byte `offset` on, the least significant first
 unfoldable pub bytes_at : ℕ → ℕ → ℕ → ℕ
@@ -76,5 +78,5 @@ store_capability granules addr v = slice_set granules (granule_number addr) v
 
 -- what every memory is: of a size that RAM may have, and with a lawful value in every granule
 pub record IsMemory (granules : List CapValue) : Type 0 where
-  pub size : is_ram_size (16 * length granules) ≡ true
+  pub size : is_ram_size (GRANULE_BYTES * length granules) ≡ true
   pub lawful : (k : ℕ) → IsLawfulValue (granule_at granules k)

@@ -1,13 +1,17 @@
--- The names of permissions in listings, in bit order, with the bit of each in CGetPerm's form.
+-- The names of permissions in listings, in bit order, with the set of each alone, in CGetPerm's form.
 use Rattle.std.specs.Prelude.{ℕ, List, [], ◌∷◌, codes, bit_and}
-use Rattle.cheri_model.specs.declared.perms.TheConstants.Perms.{ALL}
+use Rattle.cheri_model.specs.declared.perms.TheConstants.Perms.{GLOBAL, EXECUTE, LOAD, STORE, LOAD_CAP, STORE_CAP, STORE_LOCAL, SEAL, CINVOKE, UNSEAL, SYSREGS, SET_CID, SW0, SW1, SW2, SW3, ALL}
 
 abbrev pub permission_table : List (List ℕ × ℕ)
 permission_table =
-    (codes "global", 0x1) ∷ (codes "execute", 0x2) ∷ (codes "load", 0x4) ∷ (codes "store", 0x8)
-    ∷ (codes "load_cap", 0x10) ∷ (codes "store_cap", 0x20) ∷ (codes "store_local", 0x40) ∷ (codes "seal", 0x80)
-    ∷ (codes "cinvoke", 0x100) ∷ (codes "unseal", 0x200) ∷ (codes "sysregs", 0x400) ∷ (codes "set_cid", 0x800)
-    ∷ (codes "sw0", 0x8000) ∷ (codes "sw1", 0x10000) ∷ (codes "sw2", 0x20000) ∷ (codes "sw3", 0x40000)
+    (codes "global", GLOBAL.0) ∷ (codes "execute", EXECUTE.0)
+    ∷ (codes "load", LOAD.0) ∷ (codes "store", STORE.0)
+    ∷ (codes "load_cap", LOAD_CAP.0) ∷ (codes "store_cap", STORE_CAP.0)
+    ∷ (codes "store_local", STORE_LOCAL.0) ∷ (codes "seal", SEAL.0)
+    ∷ (codes "cinvoke", CINVOKE.0) ∷ (codes "unseal", UNSEAL.0)
+    ∷ (codes "sysregs", SYSREGS.0) ∷ (codes "set_cid", SET_CID.0)
+    ∷ (codes "sw0", SW0.0) ∷ (codes "sw1", SW1.0)
+    ∷ (codes "sw2", SW2.0) ∷ (codes "sw3", SW3.0)
     ∷ []
 
 -- all permissions

@@ -1,6 +1,7 @@
 -- The results of sealing and unsealing (CHERI ISA version 9, section 2.3.7 and chapter 7). Which object types can
 -- be sealed with, and that a sentry is made only of a capability with Execute, are this project's own.
 use Rattle.std.specs.Prelude.{ℕ, ◌*◌, ◌/◌, ◌%◌, ◌^◌, ◌==◌, nat_le, Bool, ◌&&◌, if◌then◌else◌}
+use Rattle.cheri_model.specs.declared.permission.TheConstants.{GLOBAL, EXECUTE, SEAL, UNSEAL}
 use Rattle.cheri_model.specs.Capability.{unsealed_type, sentry_type, last_sealable_type}
 use Rattle.cheri_model.specs.CapValue.{CapValue, bits_of, tag_of, parts_of, tagged_where}
 use Rattle.cheri_model.specs.EditedWords.{with_perms, with_otype, word_with_upper}
@@ -8,16 +9,16 @@ use Rattle.cheri_model.specs.Results.{address_of, is_open, has_permission, in_bo
 
 -- the numbers of the permissions that sealing asks for
 abbrev pub global_permission : ℕ
-global_permission = 0
+global_permission = GLOBAL
 
 abbrev pub execute_permission : ℕ
-execute_permission = 1
+execute_permission = EXECUTE
 
 abbrev pub seal_permission : ℕ
-seal_permission = 7
+seal_permission = SEAL
 
 abbrev pub unseal_permission : ℕ
-unseal_permission = 9
+unseal_permission = UNSEAL
 
 -- an object type that CSeal can give
 abbrev pub is_sealable : ℕ → Bool

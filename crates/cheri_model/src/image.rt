@@ -13,6 +13,7 @@ ghost use Rattle.cheri_model.specs.ImageForm.{image_of, is_image, are_granules, 
 ghost use Rattle.cheri_model.specs.Memory.{ram_base};
 
 use crate::instr::Instr;
+use crate::memory::{GRANULE_BYTES, MAX_RAM_BYTES, RAM_BASE};
 use crate::value::Value;
 use std::alloc::{AllocError, Global};
 use std::marker::Model;
@@ -20,8 +21,11 @@ use std::marker::Model;
 /// A refused growth of memory.
 pub type NoMemory = AllocError;
 
-/// Where RAM begins.
-const RAM_BASE: u64 = 0x8000_0000;
+/// The most instructions of a program; it has at least one.
+pub const MAX_INSTRUCTIONS: usize = 16_384;
+
+/// The most harts of an image; it has at least one.
+pub const MAX_HARTS: usize = 8;
 
 /// What a hart holds before its first step: PCC and the registers c1 to c31.
 #[derive(Clone, Copy, Debug, PartialEq, Eq)]
@@ -87,8 +91,8 @@ fn is_granule(ram: u32, from: u64, addr: u64, value: Value) -> bool
     ensures { result ≡ is_granule ram from addr value }
 {
     from <= addr
-        && addr % 16 == 0
-        && u128::from(addr) + 16 <= u128::from(RAM_BASE) + u128::from(ram)
+        && addr % u64::from(GRANULE_BYTES) == 0
+        && u128::from(addr) + u128::from(GRANULE_BYTES) <= u128::from(RAM_BASE) + u128::from(ram)
         && (value.tag() || value.bits() != 0)
 }
 
@@ -119,10 +123,10 @@ impl Image {
     ) -> Option<Image>
         ensures { result ≡ image_of program.items ram granules.items harts.items }
     {
-        let sizes = (1..=16_384).contains(&program.len())
-            && (16..=1_048_576).contains(&ram)
-            && ram % 16 == 0
-            && (1..=8).contains(&harts.len());
+        let sizes = (1..=MAX_INSTRUCTIONS).contains(&program.len())
+            && (GRANULE_BYTES..=MAX_RAM_BYTES).contains(&ram)
+            && ram % GRANULE_BYTES == 0
+            && (1..=MAX_HARTS).contains(&harts.len());
         if !sizes || !are_granules(ram, granules.as_slice()) {
             return None;
         }

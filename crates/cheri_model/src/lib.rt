@@ -5,18 +5,23 @@
 //! [`laws`] has the functions whose contracts are the laws over the definitions.
 #![tactic(auto)]
 
+mod encoding;
 mod image;
 mod instr;
 pub mod laws;
+mod memory;
 mod otype;
+pub mod permission;
 mod perms;
 mod trace;
 mod value;
 mod width;
 
-pub use image::{HartImage, Image, NoMemory};
+pub use encoding::{ADDRESS_SPACE, MAX_EXPONENT, NULL_FIELDS};
+pub use image::{HartImage, Image, MAX_HARTS, MAX_INSTRUCTIONS, NoMemory};
 pub use instr::{Action, Instr, Reg};
-pub use otype::OType;
+pub use memory::{GRANULE_BYTES, MAX_RAM_BYTES, RAM_BASE};
+pub use otype::{LAST_SEALABLE_TYPE, OType, SENTRY_TYPE, UNSEALED_TYPE};
 pub use perms::Perms;
 pub use trace::{Entry, Outcome, Status, Trap};
 pub use value::Value;

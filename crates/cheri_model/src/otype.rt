@@ -1,8 +1,17 @@
-//! Object types (CHERI ISA version 9, section 2.3.7).
+//! Object types (CHERI ISA v9, "object types"). Which numbers are sealable or reserved is this project's own.
 
 ghost use Rattle.std.specs.Prelude.{◌≡◌, ℕ, ◌^◌, ◌<◌};
 
 use std::marker::Model;
+
+/// The object type of what is not sealed: the greatest number of 18 bits.
+pub const UNSEALED_TYPE: u32 = 0x3_FFFF;
+
+/// The object type of a sealed entry (sentry), which can only be jumped to.
+pub const SENTRY_TYPE: u32 = 0x3_FFFE;
+
+/// The greatest object type that CSeal can give. The two numbers between it and the sentry's are reserved.
+pub const LAST_SEALABLE_TYPE: u32 = 0x3_FFFB;
 
 /// An object type: a number below 2^18.
 #[derive(Clone, Copy, Debug, PartialEq, Eq)]
@@ -23,16 +32,20 @@ impl Model for OType {
 impl OType {
     /// The type of a capability that is not sealed.
     pub fn unsealed() -> OType
-        ensures { result ≡ 0x3FFFF }
+        ensures { result ≡ UNSEALED_TYPE }
     {
-        OType { number: 0x3FFFF }
+        OType {
+            number: UNSEALED_TYPE,
+        }
     }
 
     /// The type of a sealed entry, which can only be jumped to.
     pub fn sentry() -> OType
-        ensures { result ≡ 0x3FFFE }
+        ensures { result ≡ SENTRY_TYPE }
     {
-        OType { number: 0x3FFFE }
+        OType {
+            number: SENTRY_TYPE,
+        }
     }
 
     /// The type with this number.

@@ -1,49 +1,50 @@
-//! Permission sets (CHERI ISA version 9, section 2.3.6).
+//! Permission sets (CHERI ISA v9, "capability permissions").
 
 ghost use Rattle.std.specs.Prelude.{⊤, ◌≡◌, [], ◌∷◌, codes, option_map};
 ghost use Rattle.bitflags.specs.Sets.{find_name};
 ghost use Rattle.cheri_model.specs.Capability.{IsPermissionSet};
 ghost use Rattle.cheri_model.specs.PermissionNames.{known_permissions};
 
+use crate::permission;
 use bitflags::{Flag, Flags};
 
-/// A set of permissions, as CGetPerm shows it: architectural permission i is bit i, for i from 0 to 11, and
-/// software permission j is bit 15 + j, for j from 0 to 3.
+/// A set of permissions in the form that CGetPerm shows: bit n is the permission with this number, from 0 to 11
+/// for the architectural ones and from 15 to 18 for those left to software.
 #[derive(Clone, Copy, Debug, PartialEq, Eq)]
 pub struct Perms(u32);
 
 impl Perms {
-    pub const GLOBAL: Perms = Perms(1);
+    pub const GLOBAL: Perms = Perms(1 << permission::GLOBAL);
 
-    pub const EXECUTE: Perms = Perms(2);
+    pub const EXECUTE: Perms = Perms(1 << permission::EXECUTE);
 
-    pub const LOAD: Perms = Perms(4);
+    pub const LOAD: Perms = Perms(1 << permission::LOAD);
 
-    pub const STORE: Perms = Perms(8);
+    pub const STORE: Perms = Perms(1 << permission::STORE);
 
-    pub const LOAD_CAP: Perms = Perms(0x10);
+    pub const LOAD_CAP: Perms = Perms(1 << permission::LOAD_CAP);
 
-    pub const STORE_CAP: Perms = Perms(0x20);
+    pub const STORE_CAP: Perms = Perms(1 << permission::STORE_CAP);
 
-    pub const STORE_LOCAL: Perms = Perms(0x40);
+    pub const STORE_LOCAL: Perms = Perms(1 << permission::STORE_LOCAL);
 
-    pub const SEAL: Perms = Perms(0x80);
+    pub const SEAL: Perms = Perms(1 << permission::SEAL);
 
-    pub const CINVOKE: Perms = Perms(0x100);
+    pub const CINVOKE: Perms = Perms(1 << permission::CINVOKE);
 
-    pub const UNSEAL: Perms = Perms(0x200);
+    pub const UNSEAL: Perms = Perms(1 << permission::UNSEAL);
 
-    pub const SYSREGS: Perms = Perms(0x400);
+    pub const SYSREGS: Perms = Perms(1 << permission::SYSREGS);
 
-    pub const SET_CID: Perms = Perms(0x800);
+    pub const SET_CID: Perms = Perms(1 << permission::SET_CID);
 
-    pub const SW0: Perms = Perms(0x8000);
+    pub const SW0: Perms = Perms(1 << permission::SW0);
 
-    pub const SW1: Perms = Perms(0x1_0000);
+    pub const SW1: Perms = Perms(1 << permission::SW1);
 
-    pub const SW2: Perms = Perms(0x2_0000);
+    pub const SW2: Perms = Perms(1 << permission::SW2);
 
-    pub const SW3: Perms = Perms(0x4_0000);
+    pub const SW3: Perms = Perms(1 << permission::SW3);
 
     /// Every permission that there is.
     pub const ALL: Perms = Perms(0x7_8FFF);

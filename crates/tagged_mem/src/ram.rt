@@ -7,15 +7,9 @@ ghost use Rattle.cheri_model.specs.Memory.{ram_base, bytes_of, granule_number, g
 use crate::bytes::{bytes_at, with_bytes};
 use crate::fault::MemFault;
 use cap_ops::Cap;
-use cheri_model::Width;
+use cheri_model::{GRANULE_BYTES, MAX_RAM_BYTES, RAM_BASE, Width};
 use std::alloc::Global;
 use std::marker::Model;
-
-/// Where RAM begins.
-const RAM_BASE: u64 = 0x8000_0000;
-
-/// The bytes of a granule, which has one tag.
-const GRANULE: u64 = 16;
 
 /// RAM from 0x8000_0000 on, of a multiple of 16 bytes from 16 to 1,048,576. Each granule of 16 aligned bytes has
 /// a tag.
@@ -41,7 +35,7 @@ fn granule_number(addr: u64) -> usize
     requires { ram_base ≤ addr }
     ensures { result ≡ granule_number addr }
 {
-    ((addr - RAM_BASE) / GRANULE) as usize
+    ((addr - RAM_BASE) / u64::from(GRANULE_BYTES)) as usize
 }
 
 impl Ram {
@@ -50,10 +44,10 @@ impl Ram {
         ensures cleared { IfOk result (λ ram. ram ≡ cleared_memory bytes) }
         ensures size { (result ≡ Err MemFault.Size) ↔ (is_ram_size bytes ≡ false) }
     {
-        if !(16..=1_048_576).contains(&bytes) || bytes % 16 != 0 {
+        if !(GRANULE_BYTES..=MAX_RAM_BYTES).contains(&bytes) || bytes % GRANULE_BYTES != 0 {
             return Err(MemFault::Size);
         }
-        let granules = vec![in alloc; Cap::null(); bytes as usize / 16]?;
+        let granules = vec![in alloc; Cap::null(); (bytes / GRANULE_BYTES) as usize]?;
         Ok(Ram { granules })
     }
 
@@ -69,9 +63,9 @@ impl Ram {
 
     /// The size in bytes.
     pub fn size(&self) -> u32
-        ensures { result ≡ 16 * length self.now }
+        ensures { result ≡ GRANULE_BYTES * length self.now }
     {
-        self.granule_count() as u32 * 16
+        self.granule_count() as u32 * GRANULE_BYTES
     }
 
     /// The number of granules.
@@ -108,7 +102,7 @@ impl Ram {
         ensures { result ≡ load_data self.now addr (bytes_of width) }
     {
         let word = self.granules[granule_number(addr)].bits();
-        bytes_at(word, addr % GRANULE, width)
+        bytes_at(word, addr % u64::from(GRANULE_BYTES), width)
     }
 
     /// Stores the low bytes of `number` from `addr` on, the least significant first. The granule loses its tag.
@@ -119,7 +113,7 @@ impl Ram {
     {
         let index = granule_number(addr);
         let word = self.granules[index].bits();
-        let stored = with_bytes(word, addr % GRANULE, width, number);
+        let stored = with_bytes(word, addr % u64::from(GRANULE_BYTES), width, number);
         self.granules[index] = Cap::from_word(stored);
     }
 
