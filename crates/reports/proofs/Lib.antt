@@ -1,2 +1,4 @@
 pub mod HexDigits
 pub mod ReportLines
+pub mod SinkLemmas
+pub mod ReportParts

@@ -1,2 +1,5 @@
 pub mod ReportText
 pub mod Report
+pub mod Failures
+pub mod Sinks
+pub mod ReportFaults

@@ -66,6 +66,15 @@ granule_line number v =
     if is_listed v then line (codes "mem " +++ hex_text 16 (ram_base + 16 * number) +++ codes " " +++ value_text v)
     else []
 
+-- the lines before the first entry
+unfoldable pub head_lines : ImageParts → List Entry → List ℕ
+head_lines image entries = title_line +++ image_line image +++ count_line (length entries)
+
+-- the lines of the entries, the harts and the granules
+unfoldable pub shown_lines : List Entry → MachineState → List ℕ
+shown_lines entries state =
+    numbered entry_line 0 entries +++ numbered hart_lines 0 state.harts +++ numbered granule_line 0 state.memory
+
 unfoldable pub report : ImageParts → List Entry → MachineState → List ℕ
 report image entries state =
     title_line +++ image_line image +++ count_line (length entries) +++ numbered entry_line 0 entries

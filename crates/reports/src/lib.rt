@@ -2,6 +2,11 @@
 #![tactic(auto)]
 
 mod report;
+mod sink;
 
-pub use report::report_text;
+pub use report::fault::ReportFault;
+pub use report::{report_text, write_report};
 pub use report::text::{Hex, TypeText};
+pub use sink::memory::MemSink;
+pub use sink::writer::ToWrite;
+pub use sink::{Sink, SinkFailed, put_whole};

@@ -1,15 +1,22 @@
 //! Report 1: the text that shows what a machine started from, the entries of its trace, and its state.
 
-ghost use Rattle.std.specs.Prelude.{◌≡◌, ◌++◌, OnOk, IfOk, string_bytes};
+ghost use Rattle.std.specs.Prelude.{◌≡◌, ◌+◌, ◌++◌, OnOk, IfOk, string_bytes};
+ghost use Rattle.std.specs.Io.KnownBytes.{Appends};
 ghost use Rattle.cheri_model.specs.ImageForm.{is_listed};
 ghost use Rattle.reports.specs.Report.{numbered, image_line, entry_line, register_line, register_lines, hart_lines, granule_line, report};
+ghost use Rattle.reports.specs.Report.{head_lines, shown_lines};
+ghost use Rattle.reports.specs.ReportFaults.{failures_of};
+ghost use Rattle.reports.specs.Sinks.{TakesAllBut, TakesBeginning};
 ghost use Rattle.hart_step.specs.View.{state_of};
 
+pub mod fault;
 pub mod text;
 
+use crate::sink::{Sink, put_whole};
 use cap_ops::Cap;
 use cheri_model::{Entry, Image, NoMemory, Reg};
 use hart_step::{Hart, View};
+use fault::ReportFault;
 use std::alloc::Global;
 use text::{Hex, OutcomeText, StatusText, ValueText};
 
@@ -144,4 +151,133 @@ pub fn report_text(alloc: Global, view: View<'_>) -> Result<String, NoMemory>
     write_granules(&mut out, view)?;
     writeln!(out, "end")?;
     Ok(out)
+}
+
+/// The most bytes of one put.
+const PIECE: usize = 65_536;
+
+/// More bytes than the lines of one hart have, which is the longest part that is written at once.
+const PART: usize = 4_096;
+
+/// Puts what is kept, where another part might not fit behind it.
+fn make_room<S: Sink>(out: &mut String, sink: &mut S) -> Result<(), ReportFault>
+    ensures whole { OnOk result (TakesAllBut (S.taken sink.old) (S.taken sink.new)
+        (string_bytes out.new) (string_bytes out.old)) }
+    ensures beginning { TakesBeginning (S.taken sink.old) (S.taken sink.new)
+        (string_bytes out.old) }
+    ensures failures { S.failures sink.new ≡ S.failures sink.old + failures_of result }
+    ensures place { S.place sink.new ≡ S.place sink.old }
+{
+    if out.len() > PIECE - PART {
+        put_whole(sink, out.as_bytes())?;
+        out.clear();
+    }
+    Ok(())
+}
+
+/// Writes the lines of the entries.
+fn put_entries<S: Sink>(
+    out: &mut String,
+    sink: &mut S,
+    entries: &[Entry],
+) -> Result<(), ReportFault>
+    ensures whole { OnOk result (TakesAllBut (S.taken sink.old) (S.taken sink.new)
+        (string_bytes out.new) (string_bytes out.old ++ numbered entry_line 0 entries.now)) }
+    ensures beginning { TakesBeginning (S.taken sink.old) (S.taken sink.new)
+        (string_bytes out.old ++ numbered entry_line 0 entries.now) }
+    ensures failures { S.failures sink.new ≡ S.failures sink.old + failures_of result }
+    ensures place { S.place sink.new ≡ S.place sink.old }
+{
+    for (place, entry) in entries.iter().enumerate() {
+        write_entry(out, place, entry)?;
+        make_room(out, sink)?;
+    }
+    Ok(())
+}
+
+/// Writes the lines of the harts.
+fn put_harts<S: Sink>(out: &mut String, sink: &mut S, harts: &[Hart]) -> Result<(), ReportFault>
+    ensures whole { OnOk result (TakesAllBut (S.taken sink.old) (S.taken sink.new)
+        (string_bytes out.new) (string_bytes out.old ++ numbered hart_lines 0 harts.now)) }
+    ensures beginning { TakesBeginning (S.taken sink.old) (S.taken sink.new)
+        (string_bytes out.old ++ numbered hart_lines 0 harts.now) }
+    ensures failures { S.failures sink.new ≡ S.failures sink.old + failures_of result }
+    ensures place { S.place sink.new ≡ S.place sink.old }
+{
+    for (number, hart) in harts.iter().enumerate() {
+        write_hart(out, number, hart)?;
+        make_room(out, sink)?;
+    }
+    Ok(())
+}
+
+/// Writes the lines of the granules.
+fn put_granules<S: Sink>(
+    out: &mut String,
+    sink: &mut S,
+    view: View<'_>,
+) -> Result<(), ReportFault>
+    ensures whole { OnOk result (TakesAllBut (S.taken sink.old) (S.taken sink.new)
+        (string_bytes out.new) (string_bytes out.old ++ numbered granule_line 0 (state_of view.entry).memory)) }
+    ensures beginning { TakesBeginning (S.taken sink.old) (S.taken sink.new)
+        (string_bytes out.old ++ numbered granule_line 0 (state_of view.entry).memory) }
+    ensures failures { S.failures sink.new ≡ S.failures sink.old + failures_of result }
+    ensures place { S.place sink.new ≡ S.place sink.old }
+{
+    for number in 0..view.granule_count() {
+        write_granule(out, number, view.granule(number))?;
+        make_room(out, sink)?;
+    }
+    Ok(())
+}
+
+/// Writes the lines of the entries, the harts and the granules.
+fn put_parts<S: Sink>(
+    out: &mut String,
+    sink: &mut S,
+    view: View<'_>,
+) -> Result<(), ReportFault>
+    ensures whole { OnOk result (TakesAllBut (S.taken sink.old) (S.taken sink.new)
+        (string_bytes out.new) (string_bytes out.old ++ shown_lines view.entry.entries.now (state_of view.entry))) }
+    ensures beginning { TakesBeginning (S.taken sink.old) (S.taken sink.new)
+        (string_bytes out.old ++ shown_lines view.entry.entries.now (state_of view.entry)) }
+    ensures failures { S.failures sink.new ≡ S.failures sink.old + failures_of result }
+    ensures place { S.place sink.new ≡ S.place sink.old }
+{
+    put_entries(out, sink, view.entries)?;
+    put_harts(out, sink, view.harts)?;
+    put_granules(out, sink, view)
+}
+
+/// Appends the lines of a report before the first entry.
+#[tactic(auto, unfolding(crate::specs::Report::title_line, crate::specs::Report::count_line))]
+fn write_head(out: &mut String, view: View<'_>) -> Result<(), NoMemory>
+    ensures { OnOk result (string_bytes out.new
+        ≡ string_bytes out.old ++ head_lines view.entry.image.now view.entry.entries.now) }
+{
+    writeln!(out, "cheri-sim report 1")?;
+    write_image(out, view.image)?;
+    writeln!(out, "entries {}", view.entries.len())?;
+    Ok(())
+}
+
+/// Writes report 1 of what a view shows, in pieces of at most 64 KiB. After a fault the sink took a beginning of it.
+pub fn write_report<S: Sink>(
+    alloc: Global,
+    view: View<'_>,
+    sink: &mut S,
+) -> Result<(), ReportFault>
+    ensures whole { OnOk result (Appends (S.taken sink.old) (S.taken sink.new)
+        (report view.entry.image.now view.entry.entries.now (state_of view.entry))) }
+    ensures beginning { TakesBeginning (S.taken sink.old) (S.taken sink.new)
+        (report view.entry.image.now view.entry.entries.now (state_of view.entry)) }
+    ensures failures { S.failures sink.new ≡ S.failures sink.old + failures_of result }
+    ensures place { S.place sink.new ≡ S.place sink.old }
+{
+    let mut out = String::with_capacity(alloc, PIECE)?;
+    write_head(&mut out, view)?;
+    put_parts(&mut out, sink, view)?;
+    writeln!(out, "end")?;
+    put_whole(sink, out.as_bytes())?;
+    Ok(())
 }

@@ -1,0 +1,12 @@
+use Rattle.std.proofs.Common.{◌≡◌, drop, rules, arith}
+use Rattle.std.proofs.lemmas.Grind.{common_steps}
+use Rattle.reports.proofs.SinkLemmas.{takes_more}
+use Rattle.reports.proofs.sink.put_whole.Goals as goal
+
+pub loop-left-preserved : goal.loop-left-preserved
+loop-left-preserved g c = record {
+  taken = takes_more _ _ _ c.loop-left.left.now _ _ c.in_ok-taken.taken (grind (arith, common_steps)) c.loop-left.invariant.taken
+      c.in_ok-taken.ensures.bytes;
+  failures = cc (c.in_ok-taken.ensures.count, c.loop-left.invariant.failures);
+  place = cc (c.put.ensures.place, c.loop-left.invariant.place);
+}
