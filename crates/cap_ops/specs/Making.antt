@@ -8,6 +8,12 @@ use Rattle.cheri_model.specs.Results.{is_exact}
 use Rattle.cap_ops.specs.declared.making.MakeFault.{MakeFault}
 use Rattle.cap_ops.specs.declared.making.MakeFault.TheVariants.{PastEnd, Inexact, Unrepresentable}
 
+-- the refusals' numbers
+abbrev pub make_fault_number : MakeFault → ℕ
+make_fault_number PastEnd = 1
+make_fault_number Inexact = 2
+make_fault_number Unrepresentable = 3
+
 -- a capability of a base, a length, an address, permissions and an object type; its flag is 0
 abbrev pub capability_with : ℕ → ℕ → ℕ → ℕ → ℕ → Capability
 capability_with base len addr perms otype =

@@ -2,22 +2,31 @@
 
 ghost use Rattle.std.specs.Prelude.{◌≡◌, ◌^◌, ◌≤◌, ◌<◌};
 ghost use Rattle.cheri_model.specs.Capability.{IsLawfulType, unsealed_type};
-ghost use Rattle.cap_ops.specs.Making.{made, root_with};
+ghost use Rattle.cap_ops.specs.Making.{make_fault_number, made, root_with};
 
 use crate::cap::Cap;
 use crate::fields::{with_otype, with_perms, with_rounded_fields};
 use cap_bounds::representable;
 use cheri_model::{ADDRESS_SPACE, OType, Perms};
 
-/// Why no capability has the asked parts. The first that holds is answered.
+/// Why no capability has these parts: the first reason that holds.
 #[derive(Clone, Copy, Debug, PartialEq, Eq)]
 pub enum MakeFault {
-    /// 1: base and length together exceed 2^64.
-    PastEnd,
-    /// 2: rounding would change a bound.
-    Inexact,
-    /// 3: the address is not in the window.
-    Unrepresentable,
+    /// Base and length together exceed 2^64.
+    PastEnd = 1,
+    /// Rounding would change a bound.
+    Inexact = 2,
+    /// The address is not in the window.
+    Unrepresentable = 3,
+}
+
+impl MakeFault {
+    /// The refusal's number, 1 to 3.
+    pub fn number(self) -> u8
+        ensures { result ≡ make_fault_number self }
+    {
+        self as u8
+    }
 }
 
 impl Cap {

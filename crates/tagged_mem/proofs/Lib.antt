@@ -1,3 +1,2 @@
 pub mod ClearedMemory
-pub mod EncodedWord
 pub mod WordBytes

@@ -1,15 +1,11 @@
 //! Expected values are those of a plain list of bytes, the least significant first.
 
 use super::*;
-use cheri_model::Value;
+use cheri_model::Perms;
 use std::process::Abort;
 use std::test::Fail;
 
 const WIDTHS: [Width; 4] = [Width::Byte, Width::Half, Width::Word, Width::Double];
-
-/// The word of the capability with the bounds [0x8000_0000, 0x8000_0010), the address 0x8000_0000 and the
-/// permissions Global and Load.
-const READABLE: u128 = 0x0005_0000_0405_8004_0000_0000_8000_0000;
 
 /// Byte i of this word is 0x11 * i.
 const COUNTED: u128 = 0xFFEE_DDCC_BBAA_9988_7766_5544_3322_1100;
@@ -34,9 +30,10 @@ const AFTER_STORES: [(u128, bool); 16] = [
     (0x0005_0000_0405_8004_0000_00b4_8000_0000, false),
 ];
 
-/// The tagged capability with the word READABLE.
-fn readable() -> Cap {
-    Cap::of_value(Value::tagged(READABLE))
+/// The sixteen bytes from 0x8000_0000 on, with the permissions Global and Load.
+fn readable(rt: &impl Abort) -> Cap {
+    let made = Cap::make(0x8000_0000, 16, 0x8000_0000, Perms::ALL);
+    made.expect(rt, "these bounds can be made").and_perm(5)
 }
 
 fn load_at(rt: &impl Abort, ram: &Ram, addr: u64, width: Width) -> u64 {
@@ -69,6 +66,12 @@ fn sizes(rt: HostRuntime) -> Result<(), Fail> {
         assert_eq!(rt; ram.granule_count(), bytes as usize / 16);
     }
     Ok(())
+}
+
+#[test]
+fn numbers_the_refusals(rt: HostRuntime) {
+    assert_eq!(rt; MemFault::Size.number(), 1);
+    assert_eq!(rt; MemFault::NoMemory.number(), 2);
 }
 
 #[test]
@@ -171,7 +174,7 @@ fn stores_at_each_offset(rt: HostRuntime) -> Result<(), Fail> {
 #[test]
 fn byte_store_clears_the_tag(rt: HostRuntime) -> Result<(), Fail> {
     let mut ram = Ram::new(rt.alloc(), 16)?;
-    store_cap_at(&rt, &mut ram, 0x8000_0000, readable());
+    store_cap_at(&rt, &mut ram, 0x8000_0000, readable(&rt));
     assert_eq!(rt;
         load_at(&rt, &ram, 0x8000_0008, Width::Double),
         0x0005_0000_0405_8004
@@ -195,11 +198,11 @@ fn byte_store_clears_the_tag(rt: HostRuntime) -> Result<(), Fail> {
 fn swaps_the_last_granule(rt: HostRuntime) -> Result<(), Fail> {
     let mut ram = Ram::new(rt.alloc(), 1_048_576)?;
     assert!(rt; ram.fits(0x800F_FFF0, 16));
-    assert_eq!(rt; ram.swap_cap(0x800F_FFF0, readable()), Cap::null());
+    assert_eq!(rt; ram.swap_cap(0x800F_FFF0, readable(&rt)), Cap::null());
     assert!(rt; ram.fits(0x800F_FFF0, 16));
     assert_eq!(rt;
         ram.swap_cap(0x800F_FFF0, Cap::from_word(COUNTED)),
-        readable()
+        readable(&rt)
     );
     assert_eq!(rt; load_at(&rt, &ram, 0x800F_FFFF, Width::Byte), 0xFF);
     assert!(rt; !ram.fits(0x8010_0000, 1));
@@ -214,7 +217,7 @@ fn swaps_the_last_granule(rt: HostRuntime) -> Result<(), Fail> {
 /// widths in turn.
 fn store_number(rt: &impl Abort, ram: &mut Ram, n: u64) {
     if n % 10 == 9 {
-        store_cap_at(rt, ram, 0x8000_0000 + n / 10 % 16 * 16, readable());
+        store_cap_at(rt, ram, 0x8000_0000 + n / 10 % 16 * 16, readable(rt));
         return;
     }
     let width = WIDTHS[n as usize % 4];

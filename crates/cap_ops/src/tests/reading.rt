@@ -1,0 +1,93 @@
+//! What is read off a value, and comparisons.
+
+use super::*;
+use cheri_model::Value;
+
+/// What is read off a word: the permissions, the type, the bounds, the length, the offset, the flag.
+type Read = (u32, u64, u64, u128, u64, u64, u8);
+
+/// The root capability: the whole address space with every permission.
+#[test]
+fn reads_the_root(rt: HostRuntime) {
+    let root = Cap::root(perms(ALL));
+    assert_eq!(rt; root.bounds(), (0, 1 << 64));
+    assert_eq!(rt; root.len(), 0xffff_ffff_ffff_ffff);
+    assert_eq!(rt; root.perm().bits(), ALL);
+    assert!(rt; !root.sealed());
+}
+
+#[test]
+fn reads_every_part_of_any_word(rt: HostRuntime) {
+    const UNSEALED: u64 = 0xffff_ffff_ffff_ffff;
+    let rows: [(u128, Read); 6] = [
+        (
+            0xffff0000_04058004_00000000_80000003,
+            (ALL, UNSEALED, 0x8000_0000, 0x8000_0010, 16, 3, 0),
+        ),
+        (
+            0x10052000_04058004_00000000_80000000,
+            (0x8005, UNSEALED, 0x8000_0000, 0x8000_0010, 16, 0, 1),
+        ),
+        (
+            0xffff0000_0c058004_00000000_80000000,
+            (ALL, UNSEALED - 1, 0x8000_0000, 0x8000_0010, 16, 0, 0),
+        ),
+        (
+            0xffff0000_1c058004_00000000_80000000,
+            (ALL, UNSEALED - 3, 0x8000_0000, 0x8000_0010, 16, 0, 0),
+        ),
+        (
+            0xffff0000_24058004_00000000_80000000,
+            (ALL, 0x3_fffb, 0x8000_0000, 0x8000_0010, 16, 0, 0),
+        ),
+        (
+            0x00000000_00004000_00000000_00000000,
+            (0, UNSEALED, 0, 1 << 64, UNSEALED, 0, 0),
+        ),
+    ];
+    for (word, want) in rows {
+        let cap = Cap::from_word(word);
+        let (base, top) = cap.bounds();
+        let perms = cap.perm().bits();
+        assert_eq!(rt;
+            (
+                perms,
+                cap.otype(),
+                base,
+                top,
+                cap.len(),
+                cap.offset(),
+                cap.flags()
+            ),
+            want,
+            "{word:x}"
+        );
+        assert_eq!(rt; cap.base(), base);
+        assert_eq!(rt; cap.sealed(), cap.object_type().number() != 0x3_ffff);
+        assert_eq!(rt; cap.has_permission(1), perms & 2 == 2);
+    }
+}
+
+#[test]
+fn compares_values(rt: HostRuntime) {
+    let k = sixteen_bytes(&rt);
+    let root = Cap::root(perms(ALL));
+    assert_eq!(rt;
+        (
+            root.test_subset(k),
+            k.test_subset(root),
+            root.test_subset(k.clear_tag())
+        ),
+        (true, false, false)
+    );
+    assert_eq!(rt;
+        (
+            k.equal_exact(k),
+            k.equal_exact(k.clear_tag()),
+            k.equal_exact(k.seal_entry())
+        ),
+        (true, false, false)
+    );
+    assert_eq!(rt; k, Cap::of_value(k.value()));
+    assert_eq!(rt; Cap::of_value(Value::raw(k.bits())), k.clear_tag());
+}
