@@ -29,7 +29,7 @@ use Rattle.cheri_model.specs.HartStep.{HartState, Stepped, null, register, put, 
 use Rattle.cheri_model.specs.Checks.{first_failing, fetch_table}
 use Rattle.cheri_model.specs.Image.{ImageParts, opening_hart, opening_memory}
 use Rattle.cheri_model.specs.Memory.{granule_number, store_capability}
-use Rattle.cheri_model.specs.Machine.{MachineState, Operation, opening_state, hart_at, no_hart, state_after_one}
+use Rattle.cheri_model.specs.Machine.{MachineState, Operation, step_of, opening_state, hart_at, no_hart, state_after_one}
 use Rattle.cheri_model.specs.Replay.{state_after, replayed_state}
 use Rattle.cheri_model.specs.Authority.{IsWithin, IsGranted, IsGrantedValue, EachOfHart, EachOfState, IsLawfulState, IsConfined, values_of_hart, values_of_image}
 
@@ -193,11 +193,11 @@ module _ (sources : List CapValue) where
   state_good : (image : ImageParts) (state : MachineState) (op : Operation) →
       EachOfState Good state → EachOfState Good (state_after_one image state op)
   unfolding state_after_one hart_at
-  state_good image state op good =
+  state_good image state (step_of number) good =
       let default : EachOfHart Good no_hart = record { pcc = IsGood-null; regs = All-nil Good } in
-      let here = good_at (EachOfHart Good) state.harts op no_hart default good.harts in
-      let after = step_good image.program (hart_at state op) state.memory here good.memory in
-      record { harts = All-set (EachOfHart Good) state.harts op _ after.hart good.harts; memory = after.memory }
+      let here = good_at (EachOfHart Good) state.harts number no_hart default good.harts in
+      let after = step_good image.program (hart_at state number) state.memory here good.memory in
+      record { harts = All-set (EachOfHart Good) state.harts number _ after.hart good.harts; memory = after.memory }
 
   run_good : (image : ImageParts) (order : List Operation) (state : MachineState) →
       EachOfState Good state → EachOfState Good (state_after image state order)

@@ -12,9 +12,10 @@ pub record MachineState : Type 0 where
   pub harts : List HartState
   pub memory : List CapValue
 
--- what a machine is asked to do next: a step of the hart with this number
-abbrev pub Operation : Type 0
-Operation = ℕ
+-- what a machine is asked to do next
+pub data Operation : Type 0 where
+  -- a step of the hart with this number
+  step_of : ℕ → Operation
 
 unfoldable pub opening_state : ImageParts → MachineState
 opening_state image =
@@ -34,21 +35,22 @@ hart_at state number = slice_index_or state.harts number no_hart
 
 -- whether an operation may be taken: there is this hart, and it runs
 unfoldable pub may_take : MachineState → Operation → Bool
-may_take state number = nat_lt number (length state.harts) && is_running (hart_at state number).status
+may_take state (step_of number) =
+    nat_lt number (length state.harts) && is_running (hart_at state number).status
 
 -- what the hart's step leaves
-abbrev pub stepped : ImageParts → MachineState → Operation → Stepped
+abbrev pub stepped : ImageParts → MachineState → ℕ → Stepped
 stepped image state number = hart_step image.program (hart_at state number) state.memory
 
 -- the state after an operation
 unfoldable pub state_after_one : ImageParts → MachineState → Operation → MachineState
-state_after_one image state number =
+state_after_one image state (step_of number) =
     let after = stepped image state number in
     record { harts = slice_set state.harts number after.hart; memory = after.memory }
 
 -- what an operation adds to the trace: the hart, PCC's address before, and the outcome
 unfoldable pub entry_of : ImageParts → MachineState → Operation → Entry
-entry_of image state number =
+entry_of image state (step_of number) =
     record {
       hart = number;
       pc = address_of (hart_at state number).pcc;

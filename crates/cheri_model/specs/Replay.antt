@@ -3,7 +3,7 @@
 use Rattle.std.specs.Prelude.{◌≡◌, ℕ, ◌==◌, Bool, true, ◌&&◌, List, [], ◌∷◌, ◌++◌, map, count_by, IsTrue}
 use Rattle.cheri_model.specs.declared.trace.Entry.{Entry}
 use Rattle.cheri_model.specs.Image.{ImageParts}
-use Rattle.cheri_model.specs.Machine.{MachineState, Operation, opening_state, may_take, state_after_one, entry_of}
+use Rattle.cheri_model.specs.Machine.{MachineState, Operation, step_of, opening_state, may_take, state_after_one, entry_of}
 
 -- the state after an order, run from this one
 unfoldable pub state_after : ImageParts → MachineState → List Operation → MachineState
@@ -28,9 +28,13 @@ replayed_state image order = state_after image (opening_state image) order
 unfoldable pub replayed_entries : ImageParts → List Operation → List Entry
 replayed_entries image order = entries_of image (opening_state image) order
 
--- the operations of a trace: the hart number of each entry
+-- the operation that an entry records: a step of its hart
+abbrev pub operation_of : Entry → Operation
+operation_of entry = step_of entry.hart
+
+-- the operations of a trace
 unfoldable pub operations_of : List Entry → List Operation
-operations_of trace = map (λ entry. entry.hart) trace
+operations_of trace = map operation_of trace
 
 -- the step count of a hart: how many entries of a trace are its own
 unfoldable pub step_count : List Entry → ℕ → ℕ
@@ -42,6 +46,6 @@ pub record IsReplay (image : ImageParts) (trace : List Entry) (now : MachineStat
   pub entries : trace ≡ replayed_entries image (operations_of trace)
   pub legal : IsTrue (is_legal image (opening_state image) (operations_of trace))
 
--- one trace is a beginning of another: the other is this one followed by some list
-abbrev pub IsBeginning : List Entry → List Entry → Type 0
-IsBeginning before after = (later : List Entry) × (after ≡ before ++ later)
+-- one list of entries, or of operations, is a beginning of another: the other is this one followed by some list
+abbrev pub IsBeginning : {A : Type 0} → List A → List A → Type 0
+IsBeginning {A} before after = (later : List A) × (after ≡ before ++ later)

@@ -3,6 +3,7 @@
 pub mod alignment;
 pub mod lengths;
 pub mod memory;
+pub mod replays;
 pub mod results;
 pub mod rounding;
 pub mod runs;

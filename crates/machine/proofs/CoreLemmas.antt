@@ -9,10 +9,10 @@ use Rattle.cheri_model.specs.CapValue.{CapValue, raw, IsLawfulValue}
 use Rattle.cheri_model.specs.Memory.{granule_at, IsMemory}
 use Rattle.cheri_model.specs.HartStep.{HartState}
 use Rattle.cheri_model.specs.Image.{ImageParts, opening_hart, opening_memory}
-use Rattle.cheri_model.specs.Machine.{MachineState, Operation, opening_state, is_running, hart_at, no_hart, may_take, entry_of, state_after_one}
+use Rattle.cheri_model.specs.Machine.{MachineState, Operation, step_of, opening_state, is_running, hart_at, no_hart, may_take, entry_of, state_after_one}
 use Rattle.cheri_model.specs.Replay.{IsReplay, operations_of}
 use Rattle.cheri_model.specs.Authority.{EachOfHart, IsLawfulState, IsConfined}
-use Rattle.cheri_model.proofs.Replays.{IsReplay-opening, IsReplay_push, operations_of_push, hart-entry_of}
+use Rattle.cheri_model.proofs.Replays.{IsReplay-opening, IsReplay_push, operations_of_push, operation-entry_of}
 use Rattle.cheri_model.proofs.Confined.{run_lawful}
 use Rattle.machine.specs.declared.faults.StepFault.TheVariants.{NoSuchHart, TraceFull, HartStopped}
 use Rattle.machine.specs.Cores.{CoreParts, parts_of_core, is_limit, IsCore, IsHartStep, refused, core_after}
@@ -43,12 +43,12 @@ booted image limit harts memory e f lawful is limited =
     }
 
 -- where a step is not refused there is this hart, the trace has room, and the hart may step
-pub record CanStep (core : CoreParts) (hart : Operation) : Type 0 where
+pub record CanStep (core : CoreParts) (hart : ℕ) : Type 0 where
   pub there : hart < length core.state.harts
   pub room : length core.trace < core.limit
-  pub may : may_take core.state hart ≡ true
+  pub may : may_take core.state (step_of hart) ≡ true
 
-pub not_refused : (core : CoreParts) (hart : Operation) → refused core hart ≡ None → CanStep core hart
+pub not_refused : (core : CoreParts) (hart : ℕ) → refused core (step_of hart) ≡ None → CanStep core hart
 unfolding refused may_take
 not_refused core hart is = by_there (nat_lt hart (length core.state.harts)) refl is
   where
@@ -75,10 +75,10 @@ not_refused core hart is = by_there (nat_lt hart (length core.state.harts)) refl
     by_there true e is = by_room (nat_lt count core.limit) refl e is
 
 -- a core after a step is a core
-pub stepped_core : (core : CoreParts) (hart : Operation) → IsCore core → CanStep core hart → IsCore (core_after core hart)
+pub stepped_core : (core : CoreParts) (hart : ℕ) → IsCore core → CanStep core hart → IsCore (core_after core (step_of hart))
 unfolding core_after
 stepped_core core hart is can = record {
-  replay = IsReplay_push core.image core.trace core.state hart is.replay can.may;
+  replay = IsReplay_push core.image core.trace core.state (step_of hart) is.replay can.may;
   lawful = is.lawful;
   limited = is.limited;
   within = (let room = can.room in rw (length-append core.trace _) (omega arith));
@@ -90,20 +90,20 @@ core_confined core is =
     subst (IsConfined core.image) (sym is.replay.state) (run_lawful core.image (operations_of core.trace) is.lawful).1
 
 -- what a step of a hart by itself says of the core
-module _ (core : CoreParts) (hart : Operation) (after : HartState) (entry : Entry)
+module _ (core : CoreParts) (hart : ℕ) (after : HartState) (entry : Entry)
     (step : IsHartStep core.image.program (hart_at core.state hart) hart after entry) where
-  pub entry_taken : entry ≡ entry_of core.image core.state hart
+  pub entry_taken : entry ≡ entry_of core.image core.state (step_of hart)
   unfolding entry_of
   entry_taken = step.entry_is core.state.memory
 
-  state_taken : ◌≡◌ {A = MachineState} (record { harts = slice_set core.state.harts hart after; memory = core.state.memory }) (state_after_one core.image core.state hart)
+  state_taken : ◌≡◌ {A = MachineState} (record { harts = slice_set core.state.harts hart after; memory = core.state.memory }) (state_after_one core.image core.state (step_of hart))
   unfolding state_after_one
   state_taken i = record {
     harts = slice_set core.state.harts hart (sym (step.after_is core.state.memory) i);
     memory = sym (step.memory_is core.state.memory) i;
   }
 
-  pub core_taken : parts_of_core core.image core.limit (core.trace ++ entry ∷ []) (slice_set core.state.harts hart after) core.state.memory ≡ core_after core hart
+  pub core_taken : parts_of_core core.image core.limit (core.trace ++ entry ∷ []) (slice_set core.state.harts hart after) core.state.memory ≡ core_after core (step_of hart)
   unfolding core_after
   core_taken i = record {
     image = core.image;
@@ -117,31 +117,35 @@ read_hart : (state : MachineState) (number : ℕ) (hart : HartState) → number 
 unfolding hart_at
 read_hart state number hart inside is = get_or_read state.harts number hart inside is no_hart
 
--- what a step that was not refused leaves of a core
-pub record Took (core : CoreParts) (hart number : Operation) (after : HartState) (entry : Entry) : Type 0 where
-  pub entry_is : entry ≡ entry_of core.image core.state hart
-  pub core_is : parts_of_core core.image core.limit (core.trace ++ entry ∷ []) (slice_set core.state.harts number after) core.state.memory ≡ core_after core hart
-  pub keeps : IsCore (core_after core hart)
+-- what a step that was not refused leaves of a core, which is seen as this
+pub record Took (core seen : CoreParts) (hart number : ℕ) (after : HartState) (entry : Entry) : Type 0 where
+  pub entry_is : entry ≡ entry_of seen.image seen.state (step_of hart)
+  pub core_is : parts_of_core core.image core.limit (core.trace ++ entry ∷ []) (slice_set core.state.harts number after) core.state.memory ≡ core_after seen (step_of hart)
+  pub keeps : IsCore (parts_of_core core.image core.limit (core.trace ++ entry ∷ []) (slice_set core.state.harts number after) core.state.memory)
 
-pub took : (core : CoreParts) (hart number : Operation) (program : List Instr) (before after : HartState) (entry : Entry) →
-    IsCore core → refused core hart ≡ None → number ≡ hart → program ≡ core.image.program → before ≡ get_or core.state.harts number before →
-    IsHartStep program before hart after entry → Took core hart number after entry
-took core hart number program before after entry is none same same_program read step =
-    let can = not_refused core hart none in
+pub can_step : (core seen : CoreParts) (hart : ℕ) → core ≡ seen → refused seen (step_of hart) ≡ None → CanStep core hart
+can_step core seen hart same none = not_refused core hart (subst (λ (k : CoreParts). refused k (step_of hart) ≡ None) (sym same) none)
+
+pub took : (core seen : CoreParts) (hart number : ℕ) (program : List Instr) (before after : HartState) (entry : Entry) →
+    core ≡ seen → IsCore core → refused seen (step_of hart) ≡ None → number ≡ hart → program ≡ core.image.program →
+    before ≡ get_or core.state.harts number before → IsHartStep program before hart after entry → Took core seen hart number after entry
+took core seen hart number program before after entry view is none same same_program read step =
+    let can = can_step core seen hart view none in
     let inside : number < length core.state.harts = (let there = can.there in omega arith) in
     let here : before ≡ hart_at core.state hart = read_hart core.state number before inside read ∙ ap (hart_at core.state) same in
     let stepped = subst (λ (p : List Instr). IsHartStep p (hart_at core.state hart) hart after entry) same_program
     (subst (λ (h : HartState). IsHartStep program h hart after entry) here step) in
+    let left = ap (λ n. parts_of_core core.image core.limit (core.trace ++ entry ∷ []) (slice_set core.state.harts n after) core.state.memory) same
+    ∙ core_taken core hart after entry stepped in
     record {
-      entry_is = entry_taken core hart after entry stepped;
-      core_is = ap (λ n. parts_of_core core.image core.limit (core.trace ++ entry ∷ []) (slice_set core.state.harts n after) core.state.memory) same
-          ∙ core_taken core hart after entry stepped;
-      keeps = stepped_core core hart is can;
+      entry_is = entry_taken core hart after entry stepped ∙ ap (λ (k : CoreParts). entry_of k.image k.state (step_of hart)) view;
+      core_is = left ∙ ap (λ (k : CoreParts). core_after k (step_of hart)) view;
+      keeps = subst IsCore (sym left) (stepped_core core hart is can);
     }
 
--- one more operation stands at the end of the trace's
-pub operations_after : (core : CoreParts) (hart : Operation) → operations_of (core_after core hart).trace ≡ operations_of core.trace ++ hart ∷ []
+-- one more operation is at the end of the trace's
+pub operations_after : (core : CoreParts) (op : Operation) → operations_of (core_after core op).trace ≡ operations_of core.trace ++ op ∷ []
 unfolding core_after
-operations_after core hart =
-    operations_of_push core.trace (entry_of core.image core.state hart)
-    ∙ ap (λ n. operations_of core.trace ++ n ∷ []) (hart-entry_of core.image core.state hart)
+operations_after core op =
+    operations_of_push core.trace (entry_of core.image core.state op)
+    ∙ ap (λ o. operations_of core.trace ++ o ∷ []) (operation-entry_of core.image core.state op)

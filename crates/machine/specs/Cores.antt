@@ -1,14 +1,15 @@
 -- What contracts see of a core, what it keeps, and what it answers.
-use Rattle.std.specs.Prelude.{◌≡◌, ℕ, ◌<◌, ◌≤◌, nat_lt, nat_le, not, ◌&&◌, if◌then◌else◌, Bool, true, List, [], ◌∷◌, ◌++◌, length, take, slice_index, Option, Some, None, Result, Ok, Err, MatchOption}
+use Rattle.std.specs.Prelude.{◌≡◌, ℕ, ◌≤◌, nat_lt, nat_le, not, ◌&&◌, if◌then◌else◌, Bool, true, List, [], ◌∷◌, ◌++◌, length, Option, Some, None, Result, Ok, Err}
+use Rattle.cheri_model.specs.declared.instr.Instr.{Instr}
 use Rattle.cheri_model.specs.declared.trace.Entry.{Entry}
 use Rattle.cheri_model.specs.CapValue.{CapValue}
 use Rattle.cheri_model.specs.HartStep.{HartState, hart_step}
 use Rattle.cheri_model.specs.Results.{address_of}
-use Rattle.cheri_model.specs.declared.instr.Instr.{Instr}
 use Rattle.cheri_model.specs.Image.{ImageParts}
-use Rattle.cheri_model.specs.Machine.{MachineState, Operation, opening_state, is_running, hart_at, entry_of, state_after_one}
-use Rattle.cheri_model.specs.Replay.{IsReplay, operations_of}
+use Rattle.cheri_model.specs.Machine.{MachineState, Operation, step_of, opening_state, is_running, hart_at, entry_of, state_after_one}
+use Rattle.cheri_model.specs.Replay.{IsReplay}
 use Rattle.cheri_model.specs.Authority.{IsLawfulState}
+use Rattle.machine.specs.declared.cores.TheConstants.{GREATEST_TRACE_LIMIT}
 use Rattle.machine.specs.declared.faults.StepFault.{StepFault}
 use Rattle.machine.specs.declared.faults.StepFault.TheVariants.{NoSuchHart, TraceFull, HartStopped}
 
@@ -26,7 +27,7 @@ parts_of_core image limit trace harts memory =
 
 -- the limits that a trace may have
 abbrev pub is_limit : ℕ → Bool
-is_limit limit = nat_le 1 limit && nat_le limit 100000
+is_limit limit = nat_le 1 limit && nat_le limit GREATEST_TRACE_LIMIT
 
 -- The trace and the state are the replay of the trace from the stored image, the trace is no longer than its limit,
 -- and the image's values are lawful.
@@ -36,21 +37,36 @@ pub record IsCore (core : CoreParts) : Type 0 where
   pub limited : is_limit core.limit ≡ true
   pub within : length core.trace ≤ core.limit
 
--- Why a step of a hart is refused, if it is: the first of these that is so.
+-- Why an operation is refused, if it is: the first of these that is so.
 unfoldable pub refused : CoreParts → Operation → Option StepFault
-refused core hart =
+refused core (step_of hart) =
     if not (nat_lt hart (length core.state.harts)) then Some NoSuchHart
     else if not (nat_lt (length core.trace) core.limit) then Some TraceFull
     else if not (is_running (hart_at core.state hart).status) then Some HartStopped
     else None
 
+-- what an operation answers: its refusal, else the entry that it adds to the trace
 abbrev pub unless_refused : Option StepFault → Entry → Result Entry StepFault
 unless_refused None entry = Ok entry
 unless_refused (Some fault) entry = Err fault
 
--- what a step of a hart answers: its refusal, else the entry that it adds to the trace
 unfoldable pub answered : CoreParts → Operation → Result Entry StepFault
-answered core hart = unless_refused (refused core hart) (entry_of core.image core.state hart)
+answered core op = unless_refused (refused core op) (entry_of core.image core.state op)
+
+-- the core with one more operation
+unfoldable pub core_after : CoreParts → Operation → CoreParts
+core_after core op = record core {
+  trace = core.trace ++ entry_of core.image core.state op ∷ [];
+  state = state_after_one core.image core.state op;
+}
+
+-- The core after an operation, whatever it is: one more where it is not refused, else the same core.
+abbrev pub unless_kept : Option StepFault → CoreParts → CoreParts → CoreParts
+unless_kept None core after = after
+unless_kept (Some fault) core after = core
+
+unfoldable pub applied : CoreParts → Operation → CoreParts
+applied core op = unless_kept (refused core op) core (core_after core op)
 
 -- what a step of a hart by itself leaves and answers, whatever memory holds
 pub record IsHartStep (program : List Instr) (before : HartState) (number : ℕ) (after : HartState) (entry : Entry) : Type 0 where
@@ -58,21 +74,3 @@ pub record IsHartStep (program : List Instr) (before : HartState) (number : ℕ)
   pub memory_is : (memory : List CapValue) → (hart_step program before memory).memory ≡ memory
   pub entry_is : (memory : List CapValue) →
       entry ≡ record { hart = number; pc = address_of before.pcc; outcome = (hart_step program before memory).outcome }
-
--- the core with one more operation
-unfoldable pub core_after : CoreParts → Operation → CoreParts
-core_after core hart = record core {
-  trace = core.trace ++ entry_of core.image core.state hart ∷ [];
-  state = state_after_one core.image core.state hart;
-}
-
--- An order was taken up to this place, and there a step of the hart that comes next is refused.
-pub record IsRefusedAt (order : List Operation) (place : ℕ) (fault : StepFault) (core : CoreParts) : Type 0 where
-  pub before_end : place < length order
-  pub taken : operations_of core.trace ≡ take place order
-  pub refused : answered core (slice_index order place) ≡ Err fault
-
--- What a run of an order leaves: the whole order was taken, or the longest beginning of it that is legal and no longer
--- than the limit. (That the beginning is legal, and no longer, is kept by the core.)
-abbrev pub IsRunOf : List Operation → CoreParts → Option (ℕ × StepFault) → Type 0
-IsRunOf order core end = MatchOption end (operations_of core.trace ≡ order) (λ stop. IsRefusedAt order stop.0 stop.1 core)

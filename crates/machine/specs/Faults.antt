@@ -1,10 +1,32 @@
--- The number and the name of a refused step.
-use Rattle.std.specs.Prelude.{ℕ, List, codes}
+-- The numbers and the texts of the refusals of booting, stepping and simulating.
+use Rattle.std.specs.Prelude.{ℕ, List, ◌++◌, codes, decimal}
+use Rattle.machine.specs.declared.faults.BootFault.{BootFault}
+use Rattle.machine.specs.declared.faults.BootFault.TheVariants as boot
 use Rattle.machine.specs.declared.faults.StepFault.{StepFault}
-use Rattle.machine.specs.declared.faults.StepFault.TheVariants.{NoSuchHart, TraceFull, HartStopped, NoMemory}
+use Rattle.machine.specs.declared.faults.StepFault.TheVariants as step
+
+abbrev pub boot_fault_number : BootFault → ℕ
+boot_fault_number boot.Limit = 1
+boot_fault_number boot.NoMemory = 2
+
+abbrev pub boot_fault_name : BootFault → List ℕ
+boot_fault_name boot.Limit = codes "Limit"
+boot_fault_name boot.NoMemory = codes "NoMemory"
+
+abbrev pub boot_fault_text : BootFault → List ℕ
+boot_fault_text fault = decimal (boot_fault_number fault) ++ (codes " " ++ boot_fault_name fault)
+
+abbrev pub step_fault_number : StepFault → ℕ
+step_fault_number step.NoSuchHart = 1
+step_fault_number step.TraceFull = 2
+step_fault_number step.HartStopped = 3
+step_fault_number step.NoMemory = 4
+
+abbrev pub step_fault_name : StepFault → List ℕ
+step_fault_name step.NoSuchHart = codes "NoSuchHart"
+step_fault_name step.TraceFull = codes "TraceFull"
+step_fault_name step.HartStopped = codes "HartStopped"
+step_fault_name step.NoMemory = codes "NoMemory"
 
 abbrev pub step_fault_text : StepFault → List ℕ
-step_fault_text NoSuchHart = codes "1 NoSuchHart"
-step_fault_text TraceFull = codes "2 TraceFull"
-step_fault_text HartStopped = codes "3 HartStopped"
-step_fault_text NoMemory = codes "4 NoMemory"
+step_fault_text fault = decimal (step_fault_number fault) ++ (codes " " ++ step_fault_name fault)

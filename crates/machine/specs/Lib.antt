@@ -1,3 +1,4 @@
 pub mod Faults
 pub mod Cores
+pub mod Runs
 pub mod Simulation

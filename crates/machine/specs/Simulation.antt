@@ -3,27 +3,25 @@ use Rattle.std.specs.Prelude.{◌≡◌, ℕ, List, Option, Ok, Err, IsOk, ⊤, 
 use Rattle.texts.specs.ListingFaults.{Gives}
 use Rattle.texts.specs.ListingMeaning.{listing_meaning}
 use Rattle.texts.specs.Orders.{GivesFault, order_of}
-use Rattle.cheri_model.specs.Authority.{IsConfined}
-use Rattle.cheri_model.specs.Replay.{IsReplay}
+use Rattle.cheri_model.specs.Image.{ImageParts}
 use Rattle.reports.specs.Report.{report}
 use Rattle.machine.specs.declared.faults.BootFault.{BootFault}
 use Rattle.machine.specs.declared.faults.BootFault.TheVariants as boot
 use Rattle.machine.specs.declared.faults.StepFault.{StepFault}
 use Rattle.machine.specs.declared.simulation.SimFault.{SimFault}
 use Rattle.machine.specs.declared.simulation.SimFault.TheVariants.{Listing, Order, Boot, Report}
-use Rattle.machine.specs.Cores.{CoreParts, IsRunOf, is_limit}
+use Rattle.machine.specs.Cores.{CoreParts, is_limit}
+use Rattle.machine.specs.Runs.{IsRunOf}
 
 -- A text shows a run of a listing in an order, which ended at a refused step or at none: it is the report of a machine
 -- that began as the image which the listing means and took the order as far as it can be taken.
 pub record IsShownRun (listing order : List ℕ) (limit : ℕ) (text : List ℕ) (end : Option (ℕ × StepFault)) : Type 0 where
-  pub core : CoreParts
+  pub image : ImageParts
   pub harts : List ℕ
-  pub listing_is : listing_meaning listing ≡ Ok core.image
+  pub core : CoreParts
+  pub listing_is : listing_meaning listing ≡ Ok image
   pub order_is : order_of order ≡ Ok harts
-  pub limit_is : core.limit ≡ limit
-  pub replay : IsReplay core.image core.trace core.state
-  pub confined : IsConfined core.image core.state
-  pub run_is : IsRunOf harts core end
+  pub run_is : IsRunOf image harts limit core end
   pub text_is : text ≡ report core.image core.trace core.state
 
 abbrev pub IsRefusedBoot : BootFault → ℕ → Type 0

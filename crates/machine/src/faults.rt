@@ -1,7 +1,6 @@
 //! Why a machine cannot be booted, and why a step is refused.
 
 ghost use Rattle.std.specs.Prelude.{◌≡◌};
-ghost use Rattle.machine.specs.declared.faults.BootFault.TheVariants.{NoMemory};
 
 use std::alloc::AllocError;
 use std::fmt;
@@ -10,13 +9,36 @@ use std::fmt;
 #[derive(Clone, Copy, Debug, PartialEq, Eq)]
 pub enum StepFault {
     /// No hart has this number.
-    NoSuchHart,
+    NoSuchHart = 1,
     /// The trace has as many entries as its limit.
-    TraceFull,
+    TraceFull = 2,
     /// The hart has halted or trapped.
-    HartStopped,
-    /// A growth of memory was refused.
-    NoMemory,
+    HartStopped = 3,
+    /// Out of memory.
+    NoMemory = 4,
+}
+
+impl StepFault {
+    ghost use Rattle.machine.specs.Faults.{step_fault_number, step_fault_name};
+
+    /// The number of the refusal.
+    pub fn number(self) -> u8
+        ensures { result ≡ step_fault_number self }
+    {
+        self as u8
+    }
+
+    /// The name of the refusal.
+    pub fn name(self) -> &'static str
+        ensures { result.now ≡ step_fault_name self }
+    {
+        match self {
+            StepFault::NoSuchHart => "NoSuchHart",
+            StepFault::TraceFull => "TraceFull",
+            StepFault::HartStopped => "HartStopped",
+            StepFault::NoMemory => "NoMemory",
+        }
+    }
 }
 
 impl fmt::Display for StepFault {
@@ -26,12 +48,7 @@ impl fmt::Display for StepFault {
     ghost output = { λ fault. Some (step_fault_text fault) };
 
     fn fmt<W: fmt::Write>(&self, f: &mut fmt::Formatter<W>) -> fmt::Result {
-        match self {
-            StepFault::NoSuchHart => write!(f, "1 NoSuchHart"),
-            StepFault::TraceFull => write!(f, "2 TraceFull"),
-            StepFault::HartStopped => write!(f, "3 HartStopped"),
-            StepFault::NoMemory => write!(f, "4 NoMemory"),
-        }
+        write!(f, "{} {}", self.number(), self.name())
     }
 }
 
@@ -39,15 +56,49 @@ impl fmt::Display for StepFault {
 #[derive(Clone, Copy, Debug, PartialEq, Eq)]
 pub enum BootFault {
     /// The limit of the trace is not from 1 to 100,000.
-    Limit,
-    /// A growth of memory was refused.
-    NoMemory,
+    Limit = 1,
+    /// Out of memory.
+    NoMemory = 2,
+}
+
+impl BootFault {
+    ghost use Rattle.machine.specs.Faults.{boot_fault_number, boot_fault_name};
+
+    /// The number of the refusal.
+    pub fn number(self) -> u8
+        ensures { result ≡ boot_fault_number self }
+    {
+        self as u8
+    }
+
+    /// The name of the refusal.
+    pub fn name(self) -> &'static str
+        ensures { result.now ≡ boot_fault_name self }
+    {
+        match self {
+            BootFault::Limit => "Limit",
+            BootFault::NoMemory => "NoMemory",
+        }
+    }
+}
+
+impl fmt::Display for BootFault {
+    ghost use Rattle.std.specs.Prelude.{Some};
+    ghost use Rattle.machine.specs.Faults.{boot_fault_text};
+
+    ghost output = { λ fault. Some (boot_fault_text fault) };
+
+    fn fmt<W: fmt::Write>(&self, f: &mut fmt::Formatter<W>) -> fmt::Result {
+        write!(f, "{} {}", self.number(), self.name())
+    }
 }
 
 impl From<AllocError> for BootFault {
-    ghost from_gives = { λ _ e. e ≡ NoMemory };
+    ghost use Rattle.machine.specs.declared.faults.BootFault.TheVariants.{NoMemory};
 
-    fn from(_error: AllocError) -> BootFault {
+    ghost from_gives = { λ _ fault. fault ≡ NoMemory };
+
+    fn from(_refused: AllocError) -> BootFault {
         BootFault::NoMemory
     }
 }

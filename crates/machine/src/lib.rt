@@ -4,10 +4,10 @@
 mod cores;
 mod faults;
 mod opening;
-mod run;
+mod runs;
 mod simulation;
 
-pub use cores::Core;
+pub use cores::{Core, GREATEST_TRACE_LIMIT};
 pub use faults::{BootFault, StepFault};
-pub use run::run_order;
+pub use runs::run_order;
 pub use simulation::{SimFault, Simulated, simulate};

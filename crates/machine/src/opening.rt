@@ -43,3 +43,10 @@ pub fn opening_ram(alloc: Global, image: &Image) -> Result<Ram, NoMemory>
     let _count = ram.granule_count();
     Ok(ram)
 }
+
+/// The same memory.
+pub fn copied_ram(alloc: Global, ram: &Ram) -> Result<Ram, NoMemory>
+    ensures { IfOk result (λ copy. copy ≡ ram.now) }
+{
+    ram.copy(alloc).map_err(|_| AllocError)
+}

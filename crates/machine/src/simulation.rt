@@ -4,7 +4,7 @@ ghost use Rattle.std.specs.Prelude.{◌≡◌, IfOk, IfErr, string_bytes};
 ghost use Rattle.machine.specs.Simulation.{IsShownRun, IsRefusedRun};
 
 use crate::faults::{BootFault, StepFault};
-use crate::run::run_order;
+use crate::runs::run_order;
 use reports::report_text;
 use std::alloc::{AllocError, Global};
 use texts::{ListingFault, OrderFault, read_listing, read_order};

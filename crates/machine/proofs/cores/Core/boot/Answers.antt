@@ -20,3 +20,10 @@ returns-clause-opened c =
     let harts = rw c.harts.ensures at c.in_ok-harts.ensures.same in
     let opened = state_opened c.args.image c.in_ok-harts.harts.items c.in_ok-ram.ram harts c.in_ok-ram.ensures.same in
     λ i. record { image = c.args.image; limit = c.args.limit; trace = c.in_ok-trace.ensures.items i; state = opened i }
+
+pub returns-clause-core : goal.returns-clause-core
+returns-clause-core c =
+    let harts = rw c.harts.ensures at c.in_ok-harts.ensures.same in
+    let range = c.if-not-contains.false in
+    let limited : is_limit c.args.limit ≡ true = grind (arith, common_steps, nat_tests) in
+    rw c.in_ok-trace.ensures.items (booted c.args.image c.args.limit c.in_ok-harts.harts.items c.in_ok-ram.ram harts c.in_ok-ram.ensures.same c.in_ok-harts.ensures.lawful c.in_ok-ram.ensures.memory limited)

@@ -1,8 +1,0 @@
--- the order so far was taken, by the machine of the image
-use Rattle.std.proofs.Common.{◌≡◌, take}
-use Rattle.cheri_model.specs.Replay.{operations_of}
-use Rattle.machine.proofs.run.run_order.Given as goal
-
-abbrev pub invariant-loop-place : goal.invariant-loop-place
-invariant-loop-place l =
-    (operations_of l.core.trace ≡ take l.place l.order) × (l.core.image ≡ l.fn.image) × (l.core.limit ≡ l.limit)
