@@ -1,3 +1,5 @@
-pub mod NumberAnswers
-pub mod ProgramFaults
-pub mod ProgramWords
+-- The program: what it is asked for, what it prints, and how it ends.
+pub mod Answers
+pub mod Faults
+pub mod Files
+pub mod Program

@@ -1,12 +1,14 @@
-//! The lines that answer what an asked range is rounded to, and what a word of 128 bits says.
+//! The lines that answer what a listing means, what a range is rounded to, and what a word of 128
+//! bits says.
 
 ghost use Rattle.std.specs.Prelude.{◌≡◌, ◌^◌, ◌≤◌, ◌++◌, IfOk, OnOk, Some, string_bytes};
-ghost use Rattle.cheri_sim.specs.NumberAnswers.{yes_or_no, bounds_line, fields_part, bounds_part, decode_line};
+ghost use Rattle.cheri_sim.specs.Answers.{yes_or_no, check_line, bounds_line, fields_part};
+ghost use Rattle.cheri_sim.specs.Answers.{bounds_part, decode_line};
 
 use bitflags::Flags;
 use cap_bounds::{Fields, fields, set_bounds};
 use cap_ops::Cap;
-use cheri_model::NoMemory;
+use cheri_model::{Image, NoMemory};
 use reports::{Hex, TypeText};
 use std::alloc::Global;
 use std::fmt;
@@ -32,9 +34,22 @@ fn hex(width: usize, number: u128) -> Hex
     Hex { number, width }
 }
 
-/// The line of the rounding of the `len` addresses from `base` on (CHERI Concentrate, section 3.3): the fields IE, E,
-/// T and B, the bounds, and whether they are the asked range. Only want of memory is refused.
-#[tactic(auto, unfolding(crate::specs::NumberAnswers::bounds_line))]
+/// The line of an image: how many harts, bytes of RAM and instructions it has. Fails only when out
+/// of memory.
+#[tactic(auto, unfolding(crate::specs::Answers::check_line))]
+pub fn check_text(alloc: Global, image: &Image) -> Result<String, NoMemory>
+    ensures { IfOk result (λ text. string_bytes text ≡ check_line image.now) }
+{
+    let (harts, code) = (image.harts().len(), image.program().len());
+    let mut out = String::new(alloc);
+    writeln!(out, "ok harts={harts} ram={} code={code}", image.ram())?;
+    Ok(out)
+}
+
+/// The line of the rounding of the `len` addresses from `base` on (CHERI Concentrate,
+/// "representable region"): the fields IE, E, T and B, the bounds, and whether they are the asked
+/// range. Fails only when out of memory.
+#[tactic(auto, unfolding(crate::specs::Answers::bounds_line))]
 pub fn bounds_text(alloc: Global, base: u64, len: u128) -> Result<String, NoMemory>
     requires { len ≤ 2 ^ 64 }
     ensures { IfOk result (λ text. string_bytes text ≡ bounds_line base len) }
@@ -55,7 +70,7 @@ pub fn bounds_text(alloc: Global, base: u64, len: u128) -> Result<String, NoMemo
 }
 
 /// Appends the permissions, the flag, the object type and the exponent of a value.
-#[tactic(auto, unfolding(crate::specs::NumberAnswers::fields_part))]
+#[tactic(auto, unfolding(crate::specs::Answers::fields_part))]
 fn write_fields(out: &mut String, held: Cap) -> Result<(), NoMemory>
     ensures { OnOk result (string_bytes out.new ≡ string_bytes out.old ++ fields_part held) }
 {
@@ -68,7 +83,7 @@ fn write_fields(out: &mut String, held: Cap) -> Result<(), NoMemory>
 }
 
 /// Appends the bounds, the address and the length of a value, up to the end of the line.
-#[tactic(auto, unfolding(crate::specs::NumberAnswers::bounds_part))]
+#[tactic(auto, unfolding(crate::specs::Answers::bounds_part))]
 fn write_bounds(out: &mut String, held: Cap) -> Result<(), NoMemory>
     ensures { OnOk result (string_bytes out.new ≡ string_bytes out.old ++ bounds_part held) }
 {
@@ -81,9 +96,9 @@ fn write_bounds(out: &mut String, held: Cap) -> Result<(), NoMemory>
     Ok(())
 }
 
-/// The line of a word of 128 bits (CHERI ISA version 9, section 3.5), whether or not a capability has this word: its
-/// permissions, flag and object type, its exponent, the bounds and the address, and the length as CGetLen gives it.
-/// Only want of memory is refused.
+/// The line of a word of 128 bits (CHERI ISA v9, "capability encoding"), whether or not a
+/// capability has this word: its permissions, flag and object type, its exponent, the bounds and
+/// the address, and the length as CGetLen gives it. Fails only when out of memory.
 pub fn decode_text(alloc: Global, word: u128) -> Result<String, NoMemory>
     ensures { IfOk result (λ text. string_bytes text ≡ decode_line word) }
 {

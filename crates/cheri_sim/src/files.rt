@@ -1,5 +1,8 @@
 //! Where the program's files come from.
 
+ghost use Rattle.std.specs.Prelude.{◌≡◌, IfOk, None};
+ghost use Rattle.cheri_sim.specs.Files.{KnownFiles, AreBytesOf};
+
 use std::io::ErrorKind;
 use std::{fs, rt};
 
@@ -7,18 +10,23 @@ use std::{fs, rt};
 #[derive(Clone, Copy, Debug, PartialEq, Eq)]
 pub enum FileFault {
     /// There is no such file, or it cannot be read.
-    CannotRead,
-    /// A growth of memory was refused.
-    NoMemory,
+    CannotRead = 1,
+    /// An allocation failed.
+    NoMemory = 2,
 }
 
-/// Files by their names. Nothing is claimed of what a file holds.
+/// Files by their names. Reading a file changes no file.
 pub trait Files {
+    // What each file holds, where that is known.
+    ghost bytes_of: { Self → KnownFiles } = { λ _ _. None };
+
     /// The bytes of a file.
-    fn read(&mut self, name: &str) -> Result<Vec<u8>, FileFault>;
+    fn read(&mut self, name: &str) -> Result<Vec<u8>, FileFault>
+        ensures bytes { IfOk result (λ bytes. AreBytesOf (bytes_of self.old name.now) bytes.items) }
+        ensures kept { bytes_of self.new ≡ bytes_of self.old };
 }
 
-/// The files of the system.
+/// The files of the system, of which nothing is known.
 #[derive(Clone, Copy)]
 pub struct SystemFiles<'a, R>(pub &'a R);
 

@@ -2,11 +2,13 @@
 #![tactic(auto)]
 
 mod answers;
+mod faults;
 mod files;
 mod program;
 
+use crate::faults::Fault;
 use crate::files::SystemFiles;
-use crate::program::{Fault, perform, tell};
+use crate::program::{perform, report_fault};
 use std::process::ExitCode;
 use std::{env, io, rt};
 
@@ -25,8 +27,11 @@ fn main(rt: HostRuntime) -> ExitCode {
             &mut rt.stdout(),
             &mut err,
         ),
-        Err(error) if error.kind() == io::ErrorKind::OutOfMemory => tell(&mut err, Fault::NoMemory),
-        Err(_) => tell(&mut err, Fault::Usage),
+        Err(error) if error.kind() == io::ErrorKind::OutOfMemory => report_fault(
+            &mut err,
+            Fault::NoMemory,
+        ),
+        Err(_) => report_fault(&mut err, Fault::Usage),
     };
     ExitCode::from(status)
 }

@@ -1,35 +1,38 @@
-//! The program: what a command line asks for is done, or the fault that stands in its way is told.
+//! The program: runs one command, or reports why it failed.
 
-ghost use Rattle.std.specs.Prelude.{◌≡◌, ◌≢◌, ◌≤◌, ◌⊎◌, IfOk, IfErr, Err, None};
-ghost use Rattle.command_line.specs.Commands.{asked};
-ghost use Rattle.cheri_sim.specs.ProgramFaults.{status_of};
-ghost use Rattle.cheri_sim.specs.NumberAnswers.{number_given};
-ghost use Rattle.cheri_sim.specs.ProgramWords.{command_line, texts_of};
+ghost use Rattle.std.specs.Prelude.{◌≡◌, ◌≢◌, ◌≤◌, ◌⊎◌, IfOk, IfErr, IsErr, OnOk, Err, Some, None};
+ghost use Rattle.std.specs.Io.KnownBytes.{Appends};
+ghost use Rattle.command_line.specs.Requests.{Asked, asked, Check, Run, Bounds, Decode};
+ghost use Rattle.texts.specs.ListingWords.{texts};
+ghost use Rattle.cheri_sim.specs.Answers.{number_given};
+ghost use Rattle.cheri_sim.specs.Faults.{fault_text, status_of};
+ghost use Rattle.cheri_sim.specs.Files.{AreBytesOf};
+ghost use Rattle.reports.specs.Report.{line};
+ghost use Rattle.cheri_sim.specs.Program.{command_line, HasBadNumber, IsAnswer, IsBoundsAnswer};
+ghost use Rattle.cheri_sim.specs.Program.{IsCheckAnswer, IsDecodeAnswer, IsRunAnswer, LeavesAnswer};
+ghost use Rattle.cheri_sim.specs.Program.{LeavesOutput, LeavesRefusal, Prints, PrintsFor};
 
-mod fault;
-
-use crate::answers::{bounds_text, decode_text};
+use crate::answers::{bounds_text, check_text, decode_text};
+use crate::faults::Fault;
 use crate::files::{FileFault, Files};
-use cheri_model::NoMemory;
+use cheri_model::{ADDRESS_SPACE, NoMemory};
 use command_line::{Request, parse};
-pub use fault::Fault;
-use machine::simulate;
+use machine::{GREATEST_TRACE_LIMIT, simulate};
 use std::alloc::Global;
-use std::io::Write;
-use texts::number_of;
-
-/// The most steps that a machine of this program takes.
-const TRACE_LIMIT: u32 = 100_000;
+use std::io::{self, Write};
+use texts::{number_of, read_listing};
 
 /// The greatest address.
-const GREATEST_ADDRESS: u128 = (1 << 64) - 1;
+const GREATEST_ADDRESS: u128 = ADDRESS_SPACE - 1;
 
-/// The length of the whole address space.
-const GREATEST_LENGTH: u128 = 1 << 64;
+/// The greatest word of a value.
+const GREATEST_WORD: u128 = u128::MAX;
 
 /// The bytes of a file, or this fault where it cannot be read.
 fn read<F: Files>(files: &mut F, name: &str, cannot_read: Fault) -> Result<Vec<u8>, Fault>
-    ensures { IfErr result (λ fault. (fault ≡ cannot_read) ⊎ (fault ≡ Fault.NoMemory)) }
+    ensures bytes { IfOk result (λ bytes. AreBytesOf (F.bytes_of files.old name.now) bytes.items) }
+    ensures kept { F.bytes_of files.new ≡ F.bytes_of files.old }
+    ensures refused { IfErr result (λ fault. (fault ≡ cannot_read) ⊎ (fault ≡ Fault.NoMemory)) }
 {
     match files.read(name) {
         Ok(bytes) => Ok(bytes),
@@ -38,15 +41,43 @@ fn read<F: Files>(files: &mut F, name: &str, cannot_read: Fault) -> Result<Vec<u
     }
 }
 
-/// Writes all of a text.
+/// Writes all of a text, and flushes.
 fn print<O: Write>(out: &mut O, text: &str) -> Result<(), Fault>
-    ensures { IfErr result (λ fault. fault ≡ Fault.CannotWrite) }
+    ensures printed { OnOk result (Appends (O.contents out.old) (O.contents out.new) text.now) }
+    ensures refused { IfErr result (λ fault. fault ≡ Fault.CannotWrite) }
 {
-    let written = out.write_all(text.as_bytes()).and_then(|_| out.flush());
-    written.map_err(|_| Fault::CannotWrite)
+    if out.write_all(text.as_bytes()).is_err() {
+        return Err(Fault::CannotWrite);
+    }
+    match out.flush() {
+        Ok(()) => Ok(()),
+        Err(_) => Err(Fault::CannotWrite),
+    }
+}
+
+/// `check LISTING`.
+#[tactic(auto, using(crate::proofs::ProgramLemmas::listing_fault_leaves_output))]
+fn check<F: Files, O: Write>(
+    alloc: Global,
+    listing: &str,
+    files: &mut F,
+    out: &mut O,
+) -> Result<(), Fault>
+    ensures printed { OnOk result (Prints (IsCheckAnswer (F.bytes_of files.old) listing.now)
+        (O.contents out.old) (O.contents out.new)) }
+    ensures left { IfErr result (λ fault.
+        LeavesOutput (F.bytes_of files.old) (Some (Check listing.now)) fault
+        (O.contents out.old) (O.contents out.new)) }
+    ensures command { result ≢ Err Fault.Usage }
+    ensures numbers { result ≢ Err Fault.BadNumber }
+{
+    let bytes = read(files, listing, Fault::CannotReadListing)?;
+    let image = read_listing(alloc, bytes.as_slice())?;
+    print(out, check_text(alloc, &image)?.as_str())
 }
 
 /// `run LISTING --order FILE`: both files are read before either is judged.
+#[tactic(auto, using(crate::proofs::ProgramLemmas::sim_fault_leaves_output))]
 fn run<F: Files, O: Write>(
     alloc: Global,
     listing: &str,
@@ -54,11 +85,23 @@ fn run<F: Files, O: Write>(
     files: &mut F,
     out: &mut O,
 ) -> Result<(), Fault>
-    ensures { result ≢ Err Fault.Usage }
+    ensures printed { OnOk result (Prints
+        (IsRunAnswer (F.bytes_of files.old) listing.now order.now None)
+        (O.contents out.old) (O.contents out.new)) }
+    ensures left { IfErr result (λ fault.
+        LeavesOutput (F.bytes_of files.old) (Some (Run listing.now order.now)) fault
+        (O.contents out.old) (O.contents out.new)) }
+    ensures command { result ≢ Err Fault.Usage }
+    ensures numbers { result ≢ Err Fault.BadNumber }
 {
     let listing = read(files, listing, Fault::CannotReadListing)?;
     let order = read(files, order, Fault::CannotReadOrder)?;
-    let ran = simulate(alloc, listing.as_slice(), order.as_slice(), TRACE_LIMIT)?;
+    let ran = simulate(
+        alloc,
+        listing.as_slice(),
+        order.as_slice(),
+        GREATEST_TRACE_LIMIT,
+    )?;
     print(out, ran.report.as_str())?;
     match ran.refused {
         None => Ok(()),
@@ -66,8 +109,8 @@ fn run<F: Files, O: Write>(
     }
 }
 
-/// The number that a word of the command line writes as in a listing, which is at most the limit.
-#[tactic(auto, unfolding(crate::specs::NumberAnswers::number_given))]
+/// The number that an argument writes as in a listing, which is at most the limit.
+#[tactic(auto, unfolding(crate::specs::Answers::number_given))]
 fn number_given(limit: u128, word: &str) -> Result<u128, Fault>
     ensures value { result ≡ number_given limit word.now }
     ensures at_most { IfOk result (λ number. number ≤ limit) }
@@ -81,24 +124,34 @@ fn number_given(limit: u128, word: &str) -> Result<u128, Fault>
 
 /// `bounds BASE LEN`: both numbers are read before the range is rounded.
 fn bounds<O: Write>(alloc: Global, base: &str, len: &str, out: &mut O) -> Result<(), Fault>
-    ensures { result ≢ Err Fault.Usage }
+    ensures printed { OnOk result (Prints (IsBoundsAnswer base.now len.now)
+        (O.contents out.old) (O.contents out.new)) }
+    ensures left { IfErr result (λ fault.
+        LeavesAnswer fault (O.contents out.old) (O.contents out.new)) }
+    ensures command { result ≢ Err Fault.Usage }
+    ensures numbers { result ≡ Err Fault.BadNumber → HasBadNumber (Some (Bounds base.now len.now)) }
 {
     let base = number_given(GREATEST_ADDRESS, base)?;
-    let len = number_given(GREATEST_LENGTH, len)?;
+    let len = number_given(ADDRESS_SPACE, len)?;
     print(out, bounds_text(alloc, base as u64, len)?.as_str())
 }
 
 /// `decode WORD`.
 fn decode<O: Write>(alloc: Global, word: &str, out: &mut O) -> Result<(), Fault>
-    ensures { result ≢ Err Fault.Usage }
+    ensures printed { OnOk result (Prints (IsDecodeAnswer word.now)
+        (O.contents out.old) (O.contents out.new)) }
+    ensures left { IfErr result (λ fault.
+        LeavesAnswer fault (O.contents out.old) (O.contents out.new)) }
+    ensures command { result ≢ Err Fault.Usage }
+    ensures numbers { result ≡ Err Fault.BadNumber → HasBadNumber (Some (Decode word.now)) }
 {
-    let word = number_given(u128::MAX, word)?;
+    let word = number_given(GREATEST_WORD, word)?;
     print(out, decode_text(alloc, word)?.as_str())
 }
 
-/// The words of a command line, behind the program's name.
+/// The words of a command line, after the program's name.
 fn with_program_name<'a>(alloc: Global, words: &'a [String]) -> Result<Vec<&'a str>, NoMemory>
-    ensures { IfOk result (λ all. texts_of all.items ≡ command_line words.now) }
+    ensures { IfOk result (λ all. texts all.items ≡ command_line words.now) }
 {
     let mut all = Vec::new(alloc);
     all.push("cheri_sim")?;
@@ -109,34 +162,54 @@ fn with_program_name<'a>(alloc: Global, words: &'a [String]) -> Result<Vec<&'a s
 }
 
 /// Does what the words ask for. The command line is judged first.
+#[tactic(auto, using(crate::proofs::ProgramLemmas::leaves_answer))]
 fn answer<F: Files, O: Write>(
     alloc: Global,
     words: &[String],
     files: &mut F,
     out: &mut O,
 ) -> Result<(), Fault>
+    ensures printed { OnOk result (PrintsFor (IsAnswer (F.bytes_of files.old))
+        (asked (command_line words.now)) (O.contents out.old) (O.contents out.new)) }
+    ensures left { IfErr result (λ fault.
+        LeavesOutput (F.bytes_of files.old) (asked (command_line words.now)) fault
+        (O.contents out.old) (O.contents out.new)) }
     ensures usage { result ≡ Err Fault.Usage → asked (command_line words.now) ≡ None }
-    ensures nothing { asked (command_line words.now) ≡ None → (result ≡ Err Fault.Usage) ⊎ (result ≡ Err Fault.NoMemory) }
+    ensures nothing { asked (command_line words.now) ≡ None
+        → (result ≡ Err Fault.Usage) ⊎ (result ≡ Err Fault.NoMemory) }
+    ensures numbers { result ≡ Err Fault.BadNumber → HasBadNumber (asked (command_line words.now)) }
 {
     let words = with_program_name(alloc, words)?;
     match parse(alloc, words.as_slice())? {
+        Request::Check { listing } => check(alloc, listing, files, out),
         Request::Run { listing, order } => run(alloc, listing, order, files, out),
         Request::Bounds { base, len } => bounds(alloc, base, len, out),
         Request::Decode { word } => decode(alloc, word, out),
     }
 }
 
-/// Tells of a fault in one line, and gives its status, whether the line was taken or not.
-pub fn tell<E: Write>(err: &mut E, fault: Fault) -> u8
+/// Writes the line of a fault.
+fn write_fault<E: Write>(err: &mut E, fault: Fault) -> io::Result<()>
+    ensures { OnOk result (Appends
+        (E.contents err.old) (E.contents err.new) (line (fault_text fault))) }
+{
+    writeln!(err, "{fault}")
+}
+
+/// Reports a fault in one line, and gives its status, whether the line was taken or not.
+pub fn report_fault<E: Write>(err: &mut E, fault: Fault) -> u8
     ensures { result ≡ status_of fault }
 {
-    let _ = writeln!(err, "{fault}");
+    let _ = write_fault(err, fault);
     fault.status()
 }
 
-/// Does what the words of a command line ask for, which are those after the program's name, and gives the exit
-/// status: 0 where it was done, 1 where a number, a text or a step was refused, 2 where the command line was, and 3 for every
-/// other fault. A fault has one line of `err`, and that `err` takes no line changes nothing of the status.
+/// Does what the words of a command line ask for, which are those after the program's name, and
+/// gives the exit status: 0 where it was done, 1 where a number, a text or a step was refused, 2
+/// where the command line was, and 3 for every other fault. With status 0 `out` got the whole
+/// answer and `err` nothing. With any other status `err` gets the one line of the fault; a write to
+/// `err` that fails does not change the status.
+#[tactic(auto, using(crate::proofs::ProgramLemmas::refusal_left))]
 pub fn perform<F: Files, O: Write, E: Write>(
     alloc: Global,
     words: &[String],
@@ -145,12 +218,21 @@ pub fn perform<F: Files, O: Write, E: Write>(
     err: &mut E,
 ) -> u8
     ensures status { result ≤ 3 }
+    ensures printed { result ≡ 0 → PrintsFor (IsAnswer (F.bytes_of files.old))
+        (asked (command_line words.now)) (O.contents out.old) (O.contents out.new) }
+    ensures quiet { result ≡ 0 → E.contents err.new ≡ E.contents err.old }
+
+    // Status 1: the words have a bad number, or a step was refused and the report up to it was
+    // printed, or a text was refused and nothing was printed.
+    ensures refused { result ≡ 1 → LeavesRefusal (F.bytes_of files.old)
+        (asked (command_line words.now)) (O.contents out.old) (O.contents out.new) }
     ensures usage { result ≡ 2 → asked (command_line words.now) ≡ None }
+    ensures unasked { result ≡ 2 → O.contents out.new ≡ O.contents out.old }
     ensures nothing { asked (command_line words.now) ≡ None → (result ≡ 2) ⊎ (result ≡ 3) }
 {
     match answer(alloc, words, files, out) {
         Ok(()) => 0,
-        Err(fault) => tell(err, fault),
+        Err(fault) => report_fault(err, fault),
     }
 }
 

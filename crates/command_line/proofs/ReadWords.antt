@@ -6,10 +6,12 @@ use Rattle.clap.specs.declared.error.Error.{Error}
 use Rattle.clap.proofs.OnLiterals.{clap_on_literals}
 use Rattle.clap.specs.declared.error.kind.ErrorKind.{ErrorKind}
 use Rattle.clap.specs.declared.error.kind.ErrorKind.TheVariants as kinds
-use Rattle.command_line.specs.declared.CommandFault.{CommandFault}
-use Rattle.command_line.specs.declared.CommandFault.TheVariants.{Usage}
-use Rattle.command_line.specs.declared.Request.{Request}
-use Rattle.command_line.specs.Commands.{asked, asked_by, asked_of, fault_of_kind, program}
+use Rattle.command_line.specs.declared.faults.CommandFault.{CommandFault}
+use Rattle.command_line.specs.declared.faults.CommandFault.TheVariants.{Usage}
+use Rattle.command_line.specs.declared.requests.Request.{Request}
+use Rattle.command_line.specs.Commands.{program}
+use Rattle.command_line.specs.Faults.{fault_of_kind}
+use Rattle.command_line.specs.Requests.{asked, asked_by, asked_of}
 
 pub program_is_simple : is_simple program ≡ true
 unfolding clap_on_literals

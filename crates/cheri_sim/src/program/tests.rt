@@ -8,6 +8,7 @@ use std::process::Abort;
 use std::test::Fail;
 use std::{io, str};
 
+mod checks;
 mod commands;
 mod devices;
 mod numbers;
@@ -80,6 +81,20 @@ impl Write for Full {
     }
 }
 
+/// A writer that takes everything and cannot pass it on.
+#[derive(Clone, Copy)]
+struct Unflushed;
+
+impl Write for Unflushed {
+    fn write(&mut self, bytes: &[u8]) -> io::Result<usize> {
+        Ok(bytes.len())
+    }
+
+    fn flush(&mut self) -> io::Result<()> {
+        Err(io::Error::from(io::ErrorKind::StorageFull))
+    }
+}
+
 /// Words as a command line has them.
 fn owned(alloc: Global, words: &[&str]) -> Result<Vec<String>, Fail> {
     let mut all = Vec::new(alloc);
@@ -89,7 +104,7 @@ fn owned(alloc: Global, words: &[&str]) -> Result<Vec<String>, Fail> {
     Ok(all)
 }
 
-/// Compares a run with its status, what it prints and what it tells.
+/// Compares a run with its status and with what it writes to standard output and standard error.
 fn compare<R: Abort + AllocGlobal>(
     rt: &R,
     words: &[&str],
@@ -97,7 +112,7 @@ fn compare<R: Abort + AllocGlobal>(
     wanted: (u8, &str, &str),
 ) -> Result<(), Fail> {
     let alloc = rt.alloc();
-    let (status, printed, told) = wanted;
+    let (status, printed, reported) = wanted;
     let all = owned(alloc, words)?;
     let (mut out, mut err) = (Vec::new(alloc), Vec::new(alloc));
     let mut folder = Folder {
@@ -106,7 +121,7 @@ fn compare<R: Abort + AllocGlobal>(
         too_large: "",
     };
     let given = perform(alloc, all.as_slice(), &mut folder, &mut out, &mut err);
-    assert_eq!(rt; str::from_utf8(err.as_slice())?, told, "{words:?}");
+    assert_eq!(rt; str::from_utf8(err.as_slice())?, reported, "{words:?}");
     assert_eq!(rt; str::from_utf8(out.as_slice())?, printed, "{words:?}");
     assert_eq!(rt; given, status, "{words:?}");
     Ok(())

@@ -1,6 +1,6 @@
 use Rattle.std.proofs.Common.{refl}
 use Rattle.clap.proofs.OnLiterals.{clap_on_literals}
-use Rattle.command_line.specs.Commands.{asked, asked_of}
+use Rattle.command_line.specs.Requests.{asked, asked_of}
 use Rattle.command_line.proofs.known_command_lines.Goals as goal
 
 pub returns-clause-run : goal.returns-clause-run
@@ -42,3 +42,7 @@ returns-clause-one_more c = refl
 pub returns-clause-minus : goal.returns-clause-minus
 unfolding clap_on_literals asked asked_of
 returns-clause-minus c = refl
+
+pub returns-clause-check : goal.returns-clause-check
+unfolding clap_on_literals asked asked_of
+returns-clause-check c = refl

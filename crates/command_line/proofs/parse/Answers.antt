@@ -1,6 +1,6 @@
 use Rattle.std.proofs.Common.{◌∙◌, ◌≡◌, map, option_map, ap}
 use Rattle.clap.specs.Words.{app_of, is_simple, is_simple_and_free}
-use Rattle.command_line.specs.Commands.{asked, asked_by}
+use Rattle.command_line.specs.Requests.{asked, asked_by}
 use Rattle.command_line.proofs.ReadWords.{asked_is_met, no_request_told, program_is_free, program_is_simple, request_told, usage_told}
 use Rattle.command_line.proofs.parse.Goals as goal
 

@@ -4,13 +4,18 @@ use crate::program::tests::{FIRST, OPENING_REPORT, compare};
 use std::test::Fail;
 
 /// Words that are no command, a request for help among them.
-const REFUSED: [&[&str]; 26] = [
+const REFUSED: [&[&str]; 31] = [
     &[],
     &["help"],
     &["--help"],
     &["-h"],
     &["--version"],
     &["walk"],
+    &["check"],
+    &["check", "listing", "more"],
+    &["check", "-listing"],
+    &["check", "listing", "--order", "order"],
+    &["Check", "listing"],
     &["run"],
     &["run", "--help"],
     &["run", "listing"],

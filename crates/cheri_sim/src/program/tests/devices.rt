@@ -1,11 +1,11 @@
 //! Files that cannot be read, and output that is not taken.
 
 use crate::program::perform;
-use crate::program::tests::{FIRST, Folder, Full, RUN, compare, owned};
+use crate::program::tests::{FIRST, Folder, Full, RUN, Unflushed, compare, owned};
 use std::str;
 use std::test::Fail;
 
-/// A file that cannot be read is told before a text is judged, the listing's first.
+/// A file that cannot be read is reported before a text is judged, the listing's first.
 #[test]
 fn files(rt: HostRuntime) -> Result<(), Fail> {
     compare(
@@ -20,10 +20,17 @@ fn files(rt: HostRuntime) -> Result<(), Fail> {
         &[("listing", "walk")],
         (3, "", "cannot read order\n"),
     )?;
+    compare(
+        &rt,
+        &["check", "listing"],
+        &[("order", "")],
+        (3, "", "cannot read listing\n"),
+    )?;
     compare(&rt, &RUN, &[], (3, "", "cannot read listing\n"))
 }
 
-/// Output that takes nothing is told, also where a step was refused; a line that cannot be told changes no status.
+/// Output that takes nothing is reported, also where a step was refused; a line that cannot be
+/// written changes no status.
 #[test]
 fn full_writers(rt: HostRuntime) -> Result<(), Fail> {
     let alloc = rt.alloc();
@@ -36,30 +43,48 @@ fn full_writers(rt: HostRuntime) -> Result<(), Fail> {
             too_large: "",
         };
         let mut err = Vec::new(alloc);
-        let told = perform(alloc, words.as_slice(), &mut folder, &mut Full, &mut err);
-        let untold = perform(alloc, words.as_slice(), &mut folder, &mut Full, &mut Full);
-        assert_eq!(rt; (told, untold), (status, status), "{order}");
+        let reported = perform(alloc, words.as_slice(), &mut folder, &mut Full, &mut err);
+        let unreported = perform(alloc, words.as_slice(), &mut folder, &mut Full, &mut Full);
+        assert_eq!(rt; (reported, unreported), (status, status), "{order}");
     }
     Ok(())
 }
 
-/// Output that takes no answer is told.
+/// Output that takes no answer, or cannot pass it on, is reported.
 #[test]
 fn full_answers(rt: HostRuntime) -> Result<(), Fail> {
     let alloc = rt.alloc();
-    let asked: [&[&str]; 2] = [&["bounds", "0", "1"], &["decode", "0"]];
+    let asked: [&[&str]; 4] = [
+        &["bounds", "0", "1"],
+        &["decode", "0"],
+        &["check", "listing"],
+        &RUN,
+    ];
     for words in asked {
         let all = owned(alloc, words)?;
+        let files = [("listing", FIRST), ("order", "0")];
         let mut folder = Folder {
             alloc,
-            files: &[],
+            files: &files,
             too_large: "",
         };
-        let mut err = Vec::new(alloc);
-        let status = perform(alloc, all.as_slice(), &mut folder, &mut Full, &mut err);
-        assert_eq!(rt; status, 3, "{words:?}");
+        let (mut err, mut other) = (Vec::new(alloc), Vec::new(alloc));
+        let full = perform(alloc, all.as_slice(), &mut folder, &mut Full, &mut err);
+        let unflushed = perform(
+            alloc,
+            all.as_slice(),
+            &mut folder,
+            &mut Unflushed,
+            &mut other,
+        );
+        assert_eq!(rt; (full, unflushed), (3, 3), "{words:?}");
         assert_eq!(rt;
             str::from_utf8(err.as_slice())?,
+            "cannot write\n",
+            "{words:?}"
+        );
+        assert_eq!(rt;
+            str::from_utf8(other.as_slice())?,
             "cannot write\n",
             "{words:?}"
         );
@@ -67,7 +92,7 @@ fn full_answers(rt: HostRuntime) -> Result<(), Fail> {
     Ok(())
 }
 
-/// Want of memory for a file is `memory`.
+/// A file larger than memory is `memory`.
 #[test]
 fn large_files(rt: HostRuntime) -> Result<(), Fail> {
     let alloc = rt.alloc();

@@ -40,10 +40,11 @@ c5 1 000c000000018004_0000000080000000 0000000080000000 00000000080001000 0000c 
 end
 ";
 
-/// A run prints its report; where a step is refused it prints it too, and then tells of the step.
+/// A run prints its report; where a step is refused it prints the report of the steps before, and
+/// then reports the step.
 #[test]
 fn orders(rt: HostRuntime) -> Result<(), Fail> {
-    for (order, status, printed, told) in [
+    for (order, status, printed, reported) in [
         ("0000", 0, HALTED_REPORT, ""),
         ("0 0\n00\n", 0, HALTED_REPORT, ""),
         ("", 0, OPENING_REPORT, ""),
@@ -55,16 +56,16 @@ fn orders(rt: HostRuntime) -> Result<(), Fail> {
             &rt,
             &RUN,
             &[("listing", FIRST), ("order", order)],
-            (status, printed, told),
+            (status, printed, reported),
         )?;
     }
     Ok(())
 }
 
-/// A faulty listing is told by its line, and nothing is printed.
+/// A faulty listing is reported by its line, by `check` as by `run`, and nothing is printed.
 #[test]
 fn listings(rt: HostRuntime) -> Result<(), Fail> {
-    for (listing, told) in [
+    for (listing, reported) in [
         ("", "listing line 0: 8 NoHart\n"),
         (".hart 0 0 0 none\n", "listing line 0: 9 Size\n"),
         ("# \u{7f}\n", "listing line 1: 1 NotAscii\n"),
@@ -85,7 +86,13 @@ fn listings(rt: HostRuntime) -> Result<(), Fail> {
             &rt,
             &RUN,
             &[("listing", listing), ("order", "x")],
-            (1, "", told),
+            (1, "", reported),
+        )?;
+        compare(
+            &rt,
+            &["check", "listing"],
+            &[("listing", listing)],
+            (1, "", reported),
         )?;
     }
     Ok(())

@@ -1,15 +1,16 @@
--- The lines that the program answers about an asked range and about a word, and the numbers that ask for them.
-use Rattle.std.specs.Prelude.{ℕ, nat_le, Bool, if◌then◌else◌, List, ◌++◌, codes, decimal, Option, Some, Result, Ok, Err}
+-- The lines that the program answers about a listing, a range and a word, and the numbers that ask for them.
+use Rattle.std.specs.Prelude.{ℕ, nat_le, Bool, if◌then◌else◌, List, ◌++◌, codes, decimal, Option, Some, Result, Ok, Err, length}
 use Rattle.cheri_model.specs.Fields.{word_ie, word_exponent}
 use Rattle.cheri_model.specs.Lengths.{internal_exponent}
 use Rattle.cheri_model.specs.Rounding.{rounding_exponent, rounded_base, rounded_top}
 use Rattle.cheri_model.specs.Capability.{b_field, t_field}
 use Rattle.cheri_model.specs.CapValue.{CapValue, raw}
+use Rattle.cheri_model.specs.Image.{ImageParts}
 use Rattle.cheri_model.specs.Results.{is_exact, address_of, length_of}
 use Rattle.cheri_model.specs.Readings.{permissions_of, flags_of, object_type_of, high_of, base_of, top_of}
 use Rattle.texts.specs.declared.listing.fault.ListingFaultKind.{ListingFaultKind}
-use Rattle.cheri_sim.specs.declared.program.fault.Fault.{Fault}
-use Rattle.cheri_sim.specs.declared.program.fault.Fault.TheVariants.{BadNumber}
+use Rattle.cheri_sim.specs.declared.faults.Fault.{Fault}
+use Rattle.cheri_sim.specs.declared.faults.Fault.TheVariants.{BadNumber}
 use Rattle.texts.specs.ListingNumbers.{number_of}
 use Rattle.reports.specs.Report.{line}
 use Rattle.reports.specs.ReportText.{◌+++◌, hex_text, type_text}
@@ -19,9 +20,15 @@ abbrev pub number_within : ℕ → Result (Option ℕ) ListingFaultKind → Resu
 number_within limit (Ok (Some number)) = if nat_le number limit then Ok number else Err BadNumber
 number_within limit _ = Err BadNumber
 
--- a word of the command line as a number of at most the limit
+-- an argument as a number of at most the limit
 unfoldable pub number_given : ℕ → List ℕ → Result ℕ Fault
 number_given limit word = number_within limit (number_of word)
+
+-- what an image has: harts, bytes of RAM, instructions
+unfoldable pub check_line : ImageParts → List ℕ
+check_line image =
+    line (codes "ok harts=" +++ decimal (length image.harts) +++ codes " ram=" +++ decimal image.ram
+    +++ codes " code=" +++ decimal (length image.program))
 
 abbrev pub yes_or_no : Bool → List ℕ
 yes_or_no holds = if holds then codes "yes" else codes "no"

@@ -1,9 +1,9 @@
 -- The lines of standard error, and the exit statuses.
 use Rattle.std.specs.Prelude.{ℕ, List, ◌++◌, codes, decimal}
-use Rattle.cheri_sim.specs.declared.program.fault.Fault.{Fault}
-use Rattle.cheri_sim.specs.declared.program.fault.Fault.TheVariants.{Usage, NoMemory, BadNumber, CannotReadListing, CannotReadOrder, CannotWrite, Listing, Order, Step}
-use Rattle.command_line.specs.declared.CommandFault.{CommandFault}
-use Rattle.command_line.specs.declared.CommandFault.TheVariants as commands
+use Rattle.cheri_sim.specs.declared.faults.Fault.{Fault}
+use Rattle.cheri_sim.specs.declared.faults.Fault.TheVariants.{Usage, NoMemory, BadNumber, CannotReadListing, CannotReadOrder, CannotWrite, Listing, Order, Step}
+use Rattle.command_line.specs.declared.faults.CommandFault.{CommandFault}
+use Rattle.command_line.specs.declared.faults.CommandFault.TheVariants as commands
 use Rattle.texts.specs.declared.listing.fault.ListingFault.{ListingFault}
 use Rattle.texts.specs.declared.listing.fault.ListingFaultKind.{ListingFaultKind}
 use Rattle.texts.specs.declared.listing.fault.ListingFaultKind.TheVariants as listing_kinds
@@ -37,7 +37,7 @@ status_of (Order fault) = 1
 status_of (Step place fault) = 1
 status_of _ = 3
 
--- Refusals as faults of the program. Want of memory says nothing of a text, so it has no line of that text.
+-- Refusals as faults of the program. Running out of memory says nothing of a text, so it has no line of that text.
 abbrev pub command_fault : CommandFault → Fault
 command_fault commands.Usage = Usage
 command_fault commands.NoMemory = NoMemory

@@ -1,7 +1,7 @@
 //! Why the program does not end with status 0.
 
 ghost use Rattle.std.specs.Prelude.{◌≡◌};
-ghost use Rattle.cheri_sim.specs.ProgramFaults.{fault_text, status_of};
+ghost use Rattle.cheri_sim.specs.Faults.{fault_text, status_of};
 
 use command_line::CommandFault;
 use machine::{SimFault, StepFault};
@@ -14,9 +14,9 @@ use texts::{ListingFault, ListingFaultKind, OrderFault, OrderFaultKind};
 pub enum Fault {
     /// The words are no command of this program.
     Usage,
-    /// A growth of memory was refused.
+    /// An allocation failed.
     NoMemory,
-    /// A word of the command line is no number, or none in its range.
+    /// An argument is no number, or none in its range.
     BadNumber,
     /// The listing's file cannot be read.
     CannotReadListing,
@@ -69,7 +69,7 @@ impl fmt::Display for Fault {
 }
 
 impl From<AllocError> for Fault {
-    ghost use Rattle.cheri_sim.specs.declared.program.fault.Fault.TheVariants.{NoMemory};
+    ghost use Rattle.cheri_sim.specs.declared.faults.Fault.TheVariants.{NoMemory};
 
     ghost from_gives = { λ _ fault. fault ≡ NoMemory };
 
@@ -79,7 +79,7 @@ impl From<AllocError> for Fault {
 }
 
 impl From<CommandFault> for Fault {
-    ghost use Rattle.cheri_sim.specs.ProgramFaults.{command_fault};
+    ghost use Rattle.cheri_sim.specs.Faults.{command_fault};
 
     ghost from_gives = { λ refused fault. fault ≡ command_fault refused };
 
@@ -92,7 +92,7 @@ impl From<CommandFault> for Fault {
 }
 
 impl From<ListingFault> for Fault {
-    ghost use Rattle.cheri_sim.specs.ProgramFaults.{listing_fault};
+    ghost use Rattle.cheri_sim.specs.Faults.{listing_fault};
 
     ghost from_gives = { λ refused fault. fault ≡ listing_fault refused };
 
@@ -105,7 +105,7 @@ impl From<ListingFault> for Fault {
 }
 
 impl From<OrderFault> for Fault {
-    ghost use Rattle.cheri_sim.specs.ProgramFaults.{order_fault};
+    ghost use Rattle.cheri_sim.specs.Faults.{order_fault};
 
     ghost from_gives = { λ refused fault. fault ≡ order_fault refused };
 
@@ -118,7 +118,7 @@ impl From<OrderFault> for Fault {
 }
 
 impl From<SimFault> for Fault {
-    ghost use Rattle.cheri_sim.specs.ProgramFaults.{sim_fault};
+    ghost use Rattle.cheri_sim.specs.Faults.{sim_fault};
 
     ghost from_gives = { λ refused fault. fault ≡ sim_fault refused };
 

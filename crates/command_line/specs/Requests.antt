@@ -1,0 +1,50 @@
+-- What the words of a command line ask for.
+use Rattle.std.specs.Prelude.{List, Option, Some, None, option_and_then, codes, if◌then◌else◌, [], ◌∷◌}
+use Rattle.std.specs.Str.{bytes_eq}
+use Rattle.clap.specs.Words.{Kinds, Row, Text, fault_of, first_of, subcommand_of}
+use Rattle.command_line.specs.Commands.{program}
+use Rattle.command_line.specs.declared.requests.Request.{Request}
+use Rattle.command_line.specs.declared.requests.Request.TheVariants as requests
+
+-- a request by the texts of its words
+pub data Asked : Type 0 where
+  Check : Text → Asked
+  Run : Text → Text → Asked
+  Bounds : Text → Text → Asked
+  Decode : Text → Asked
+
+abbrev pub asked_by : Request → Asked
+asked_by (requests.Check listing) = Check listing.now
+asked_by (requests.Run listing order) = Run listing.now order.now
+asked_by (requests.Bounds base len) = Bounds base.now len.now
+asked_by (requests.Decode word) = Decode word.now
+
+-- the values of two words, and of one, if they are there
+abbrev pub with_two : (Text → Text → Asked) → Option Text → Option Text → Option Asked
+with_two make (Some first) (Some second) = Some (make first second)
+with_two make _ _ = None
+
+abbrev pub with_one : (Text → Asked) → Option Text → Option Asked
+with_one make (Some first) = Some (make first)
+with_one make None = None
+
+-- what the command of this name asks for with these words
+unfoldable pub asked_of : Text → List Row → Option Asked
+asked_of name rows =
+    if bytes_eq name (codes "check") then with_one Check (first_of (codes "listing") rows)
+    else if bytes_eq name (codes "run") then with_two Run (first_of (codes "listing") rows) (first_of (codes "order") rows)
+    else if bytes_eq name (codes "bounds") then with_two Bounds (first_of (codes "base") rows) (first_of (codes "len") rows)
+    else if bytes_eq name (codes "decode") then with_one Decode (first_of (codes "word") rows)
+    else None
+
+-- nothing is asked for where there is a fault
+abbrev pub unless_faulty : Kinds → Option Asked → Option Asked
+unless_faulty [] found = found
+unless_faulty (kind ∷ kinds) found = None
+
+-- What the words of a command line ask for, the first of which is the program's name: nothing where `clap` finds a
+-- fault in them, or else what the command among them asks for.
+unfoldable pub asked : List Text → Option Asked
+asked words =
+    unless_faulty (fault_of program words)
+    (option_and_then (λ found. asked_of found.0 found.1) (subcommand_of program words))

@@ -1,0 +1,65 @@
+//! The commands of the program, as `clap` is given them.
+
+ghost use Rattle.std.specs.Prelude.{◌≡◌, IfOk, false};
+ghost use Rattle.clap.specs.Words.{app_of, rule_of};
+ghost use Rattle.command_line.specs.Commands.{has_globals, required_word, check_command};
+ghost use Rattle.command_line.specs.Commands.{run_command, bounds_command, decode_command, program};
+
+use clap::{Arg, ArgAction, Command};
+use std::alloc::{AllocError, Global};
+
+/// A word that a command must have.
+fn required<'a>(alloc: Global, name: &'a str) -> Arg<'a>
+    ensures rule { rule_of result ≡ required_word name.now }
+    ensures local { result.global ≡ false }
+{
+    Arg::new(alloc, name).required(true).action(ArgAction::Set)
+}
+
+/// `check LISTING`.
+fn check_command<'a>(alloc: Global) -> Result<Command<'a>, AllocError>
+    ensures app { IfOk result (λ command. app_of command ≡ check_command) }
+    ensures local { IfOk result (λ command. has_globals command ≡ false) }
+{
+    Command::new(alloc, "check").arg(required(alloc, "listing"))
+}
+
+/// `run LISTING --order FILE`.
+fn run_command<'a>(alloc: Global) -> Result<Command<'a>, AllocError>
+    ensures app { IfOk result (λ command. app_of command ≡ run_command) }
+    ensures local { IfOk result (λ command. has_globals command ≡ false) }
+{
+    let order = required(alloc, "order").long("order");
+    Command::new(alloc, "run")
+        .arg(required(alloc, "listing"))?
+        .arg(order)
+}
+
+/// `bounds BASE LEN`.
+fn bounds_command<'a>(alloc: Global) -> Result<Command<'a>, AllocError>
+    ensures app { IfOk result (λ command. app_of command ≡ bounds_command) }
+    ensures local { IfOk result (λ command. has_globals command ≡ false) }
+{
+    Command::new(alloc, "bounds")
+        .arg(required(alloc, "base"))?
+        .arg(required(alloc, "len"))
+}
+
+/// `decode WORD`.
+fn decode_command<'a>(alloc: Global) -> Result<Command<'a>, AllocError>
+    ensures app { IfOk result (λ command. app_of command ≡ decode_command) }
+    ensures local { IfOk result (λ command. has_globals command ≡ false) }
+{
+    Command::new(alloc, "decode").arg(required(alloc, "word"))
+}
+
+/// The program's command: it wants one of these subcommands.
+pub(crate) fn program_command<'a>(alloc: Global) -> Result<Command<'a>, AllocError>
+    ensures { IfOk result (λ command. app_of command ≡ program) }
+{
+    let alone = Command::new(alloc, "cheri_sim").subcommand_required(true);
+    let with_check = alone.subcommand(check_command(alloc)?)?;
+    let with_run = with_check.subcommand(run_command(alloc)?)?;
+    let with_bounds = with_run.subcommand(bounds_command(alloc)?)?;
+    with_bounds.subcommand(decode_command(alloc)?)
+}
