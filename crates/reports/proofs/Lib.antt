@@ -2,3 +2,4 @@ pub mod HexDigits
 pub mod ReportLines
 pub mod SinkLemmas
 pub mod ReportParts
+pub mod JsonLemmas

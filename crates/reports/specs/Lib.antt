@@ -3,3 +3,4 @@ pub mod Report
 pub mod Failures
 pub mod Sinks
 pub mod ReportFaults
+pub mod Json

@@ -8,7 +8,7 @@ use Rattle.cheri_model.specs.HartStep.{HartState, register}
 use Rattle.cheri_model.specs.Image.{ImageParts}
 use Rattle.cheri_model.specs.ImageForm.{is_listed}
 use Rattle.cheri_model.specs.Machine.{MachineState}
-use Rattle.cheri_model.specs.Memory.{ram_base}
+use Rattle.cheri_model.specs.declared.memory.TheConstants.{RAM_BASE, GRANULE_BYTES}
 use Rattle.reports.specs.ReportText.{◌+++◌, hex_text, outcome_text, status_text, value_text}
 
 -- every line ends with a newline
@@ -63,7 +63,8 @@ hart_lines number hart = status_line number hart.status +++ pcc_line hart.pcc ++
 -- a granule that is an untagged 0 has no line
 unfoldable pub granule_line : ℕ → CapValue → List ℕ
 granule_line number v =
-    if is_listed v then line (codes "mem " +++ hex_text 16 (ram_base + 16 * number) +++ codes " " +++ value_text v)
+    if is_listed v then line
+      (codes "mem " +++ hex_text 16 (RAM_BASE + GRANULE_BYTES * number) +++ codes " " +++ value_text v)
     else []
 
 -- the lines before the first entry

@@ -18,16 +18,10 @@ use cheri_model::{Entry, Image, NoMemory, Reg};
 use hart_step::{Hart, View};
 use fault::ReportFault;
 use std::alloc::Global;
-use text::{Hex, OutcomeText, StatusText, ValueText};
-
-/// Where RAM begins.
-const RAM_BASE: u128 = 0x8000_0000;
-
-/// The bytes of a granule.
-const GRANULE: u128 = 16;
+use text::{Hex, OutcomeText, StatusText, ValueText, granule_address};
 
 /// Whether a value is tagged or not all 0: the others have no line in a report.
-fn is_listed(value: Cap) -> bool
+pub(crate) fn is_listed(value: Cap) -> bool
     ensures { result ≡ is_listed value }
 {
     value.tag() || value.bits() != 0
@@ -98,11 +92,7 @@ fn write_granule(out: &mut String, number: usize, value: Cap) -> Result<(), NoMe
     ensures { OnOk result (string_bytes out.new ≡ string_bytes out.old ++ granule_line number value) }
 {
     if is_listed(value) {
-        let addr = Hex {
-            number: RAM_BASE + GRANULE * number as u128,
-            width: 16,
-        };
-        writeln!(out, "mem {addr} {}", ValueText(value))?;
+        writeln!(out, "mem {} {}", granule_address(number), ValueText(value))?;
     }
     Ok(())
 }
@@ -137,7 +127,7 @@ fn write_granules(out: &mut String, view: View<'_>) -> Result<(), NoMemory>
     Ok(())
 }
 
-/// Report 1 of what is shown, as text. Only want of memory is refused.
+/// Report 1 of what is shown, as text. Fails only when out of memory.
 #[tactic(auto, unfolding(crate::specs::Report::report, crate::specs::Report::title_line, crate::specs::Report::count_line))]
 pub fn report_text(alloc: Global, view: View<'_>) -> Result<String, NoMemory>
     ensures { IfOk result (λ text. string_bytes text ≡ report view.entry.image.now view.entry.entries.now (state_of view.entry)) }
@@ -159,7 +149,7 @@ const PIECE: usize = 65_536;
 /// More bytes than the lines of one hart have, which is the longest part that is written at once.
 const PART: usize = 4_096;
 
-/// Puts what is kept, where another part might not fit behind it.
+/// Puts what is kept, where another part might not fit after it.
 fn make_room<S: Sink>(out: &mut String, sink: &mut S) -> Result<(), ReportFault>
     ensures whole { OnOk result (TakesAllBut (S.taken sink.old) (S.taken sink.new)
         (string_bytes out.new) (string_bytes out.old)) }

@@ -1,6 +1,6 @@
 //! How numbers, outcomes, statuses and values stand in a report.
 
-ghost use Rattle.std.specs.Prelude.{◌≡◌, ◌-◌, ◌<◌, ◌≤◌, Some, drop};
+ghost use Rattle.std.specs.Prelude.{◌≡◌, ◌+◌, ◌-◌, ◌*◌, ◌<◌, ◌≤◌, Some, drop};
 ghost use Rattle.std.specs.Fmt.{DisplaysOnOk};
 ghost use Rattle.std.specs.Char.{digit_char};
 ghost use Rattle.reports.specs.ReportText.{hex_text, cause_text, outcome_text, status_text, type_text, value_text, word_text, parts_text};
@@ -8,7 +8,7 @@ ghost use Rattle.cheri_model.specs.CapValue.{parts_of};
 
 use bitflags::Flags;
 use cap_ops::Cap;
-use cheri_model::{OType, Outcome, Status, Trap};
+use cheri_model::{GRANULE_BYTES, OType, Outcome, RAM_BASE, Status, Trap};
 use std::{fmt, str};
 
 /// The most hexadecimal digits that stand together in a report: those of the top of a capability.
@@ -20,6 +20,25 @@ pub struct Hex {
     pub number: u128,
     pub width: usize,
     ghost within: { width ≤ 17 },
+}
+
+impl Hex {
+    /// The lowest hexadecimal digits of a number, as many as `width` says: at most 17.
+    pub fn new(number: u128, width: usize) -> Hex
+        requires { width ≤ 17 }
+        ensures number { result.number ≡ number }
+        ensures width { result.width ≡ width }
+    {
+        Hex { number, width }
+    }
+}
+
+/// The address of a granule, by its number from 0 on.
+pub fn granule_address(number: usize) -> Hex
+    ensures number { result.number ≡ RAM_BASE + GRANULE_BYTES * number }
+    ensures width { result.width ≡ 16 }
+{
+    Hex::new(u128::from(RAM_BASE) + u128::from(GRANULE_BYTES) * number as u128, 16)
 }
 
 /// The ASCII digit with this value.
@@ -120,7 +139,7 @@ impl fmt::Display for TypeText {
 
 /// A word of 128 bits, in two halves.
 #[derive(Clone, Copy)]
-struct Word(u128);
+pub struct Word(pub u128);
 
 impl fmt::Display for Word {
     ghost output = { λ w. Some (word_text w.0) };

@@ -1,0 +1,11 @@
+-- The members so far, with the other granules, are those of all.
+use Rattle.std.proofs.Common.{◌≡◌, drop}
+use Rattle.serde_json.specs.Data.{no_members}
+use Rattle.serde_json.specs.View.{members_view}
+use Rattle.reports.specs.Json.{put_granules}
+use Rattle.reports.proofs.json.granules_json.Given as goal
+
+abbrev pub invariant-loop-number : goal.invariant-loop-number
+invariant-loop-number l =
+    put_granules l.number (drop l.number l.view.ram.now) (members_view l.members.entries)
+    ≡ put_granules 0 l.view.ram.now no_members
