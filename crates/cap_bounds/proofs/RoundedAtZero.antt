@@ -6,7 +6,7 @@ use Rattle.cheri_model.specs.Lengths.{internal_exponent}
 use Rattle.cheri_model.specs.Rounding.{rounding_exponent, rounded_top}
 use Rattle.cheri_model.specs.Alignment.{length_at_zero, alignment_mask}
 use Rattle.cheri_model.proofs.Exponents.{internal_exponent_small, internal_exponent_long}
-use Rattle.cheri_model.proofs.Roundings.{rounding_exponent_at_most, granule_of_rounding, rounding_granule_small, rounding_granule_long, rounded_base_at_most}
+use Rattle.cheri_model.proofs.Roundings.{rounding_holds, rounding_exponent_at_most, granule_of_rounding, rounding_granule_small, rounding_granule_long, rounded_base_at_most}
 
 pub length_is_top : (len : ℕ) → rounded_top 0 len ≡ length_at_zero len
 length_is_top len = omega (arith, rounded_base_at_most 0 len)
@@ -28,3 +28,6 @@ mask_long len e fits not_short same_e =
           ones_shl 64 (e + 3) (omega (arith, rounding_exponent_at_most 0 len fits)) ∙
           rw (granule_of_rounding 0 len fits, rounding_granule_long 0 len long, ← same_e) refl
     ]
+
+-- the alignment masks of short and of long ranges
+pub ruleset alignment_masks = (rounding_holds, mask_short, mask_long)

@@ -6,7 +6,8 @@ use Rattle.cheri_model.specs.Lengths.{exponent, internal_exponent}
 use Rattle.cheri_model.specs.Rounding.{rounding_exponent, rounded_base, rounded_top}
 use Rattle.cheri_model.specs.Capability.{b_field, t_field}
 use Rattle.cheri_model.proofs.Exponents.{internal_exponent_small, internal_exponent_long}
-use Rattle.cheri_model.proofs.Roundings.{rounding_exponent_small, rounding_bits_long, rounded_base_is, rounded_top_is, rounded_base_small, rounded_top_small}
+use Rattle.cheri_model.proofs.Roundings.{rounding_holds, short_rounding, rounding_exponent_small, rounding_bits_long, rounded_base_is, rounded_top_is, rounded_base_small, rounded_top_small}
+use Rattle.cheri_model.proofs.RoundedFields.{field_widths}
 use Rattle.cheri_model.proofs.RoundingSteps.{rounding_exponent_same, rounding_exponent_next}
 
 -- the fields of a length below 2^12 are the digits of the bounds
@@ -35,7 +36,7 @@ t_field_long base len e high long same_e same_high =
     let mask : bit_and (high / 2 ^ e) 0xfff ≡ high / 2 ^ e % 2 ^ 12 = and_mask (high / 2 ^ e) 12 in
     rw (← same_e, ← same_high, internal_exponent_long len long) (omega arith)
 
--- the exponent of the rounding, told by the range that is widened at the length's own
+-- the exponent of the rounding from the range that is widened at the length's own
 pub tight_exponent : (base len e low high : ℕ) → 2 ^ 12 ≤ len → len ≤ 2 ^ 64 → e ≡ exponent len → low ≡ round_down (2 ^ (e + 3)) base → high ≡ round_up (2 ^ (e + 3)) (base + len) → high - low < 2 ^ (e + 13) → e ≡ rounding_exponent base len
 tight_exponent base len e low high long within same_e same_low same_high fits =
     same_e ∙ sym (rounding_exponent_same base len long within (rw (← same_e, ← same_low, ← same_high) fits))
@@ -57,3 +58,10 @@ widened_top base len e high long same_e same_high =
 pub ruleset short_fields = (internal_exponent_small, b_field_short, t_field_short)
 
 pub ruleset long_fields = (internal_exponent_long, b_field_long, t_field_long)
+
+-- what is known of a rounding, and its fields
+pub ruleset short_parts = (short_rounding, short_fields)
+
+pub ruleset long_parts = (rounding_holds, long_fields)
+
+pub ruleset rounded_parts = (rounding_holds, field_widths)

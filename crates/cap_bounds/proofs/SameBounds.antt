@@ -1,19 +1,11 @@
 -- The bounds of a word are the same with two addresses exactly where the addresses' regions begin at the same
 -- place modulo 2^64.
-use Rattle.std.proofs.Common.{◌≡◌, ℕ, ◌+◌, ◌%◌, ◌^◌, ◌<◌, ◌≤◌, ◌==◌, arith, sym, ◌∙◌, ap, inl, inr}
-use Rattle.std.proofs.lemmas.Bool.{cases_lt, cases_Bool}
-use Rattle.cheri_model.specs.Fields.{word_ie, word_exponent, word_b, word_t14}
+use Rattle.std.proofs.Common.{◌≡◌, ℕ, ◌+◌, ◌%◌, ◌^◌, ◌<◌, ◌≤◌, arith, sym, ◌∙◌, ap, inl, inr}
+use Rattle.std.proofs.lemmas.Bool.{cases_lt}
+use Rattle.cheri_model.specs.Fields.{word_exponent, word_b, word_t14}
 use Rattle.cheri_model.specs.RawBounds.{region_start, region_offset, raw_base, uncorrected_top, corrected_top, raw_top}
+use Rattle.cheri_model.proofs.RawWords.{word_exponent_at_most, raw_base_lt}
 use Rattle.cap_bounds.proofs.SameRegion.{start_51, start_52, top_from_start}
-
--- a word's exponent is at most 52
-exponent_at_most : (meta : ℕ) → word_exponent meta ≤ 52
-unfolding word_exponent
-exponent_at_most meta =
-    elim (cases_Bool (word_ie meta == 0)) [
-      | inl none ↦ rw none (omega arith)
-      | inr some ↦ rw some (omega arith)
-    ]
 
 -- the same top from the same bases, where the regions begin at the same place modulo 2^64
 top_alike : (e b base old new more : ℕ) → e ≤ 52 → base < 2 ^ 64 →
@@ -48,11 +40,6 @@ pub base_from_start : (meta old new : ℕ) →
 unfolding raw_base
 base_from_start meta old new same = omega arith
 
--- a word's base is an address
-base_below : (meta addr : ℕ) → raw_base meta addr < 2 ^ 64
-unfolding raw_base
-base_below meta addr = omega arith
-
 -- and to equal tops
 pub top_from_start_of_word : (meta old new : ℕ) →
     region_start (word_exponent meta) (word_b meta) old % 2 ^ 64 ≡ region_start (word_exponent meta) (word_b meta) new % 2 ^ 64 →
@@ -63,4 +50,4 @@ top_from_start_of_word meta old new same =
     rw equal
     (top_alike (word_exponent meta) (word_b meta) (raw_base meta old) old new
     (region_offset (word_exponent meta) (word_b meta) (word_t14 meta))
-    (exponent_at_most meta) (base_below meta old) same)
+    (word_exponent_at_most meta) (raw_base_lt meta old) same)

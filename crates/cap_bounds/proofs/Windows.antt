@@ -23,3 +23,6 @@ pub start_from_window : (c : Capability) → IsLawful c → (meta old new : ℕ)
 start_from_window c h meta old new its_upper its_addr inside =
     let there = same_bounds_in_window c h new in
     start_from_base meta old new ((rw (← its_upper, ← its_addr) at there).1 inside).0
+
+-- equal bounds, regions that begin at one place, and the window
+pub ruleset same_bounds = (start_from_base, base_from_start, top_from_start_of_word, window_from_start, start_from_window)

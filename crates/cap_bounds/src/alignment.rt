@@ -1,4 +1,4 @@
-//! The length and the alignment that a program asks for to get exact bounds (CHERI ISA version 9, the instructions
+//! The length and the alignment that a program asks for to get exact bounds (CHERI ISA v9,
 //! CRoundRepresentableLength and CRepresentableAlignmentMask).
 
 ghost use Rattle.std.specs.Prelude.{◌≡◌};
@@ -15,8 +15,9 @@ pub fn crrl(len: u64) -> u64
     (rounded.top % (1 << 64)) as u64
 }
 
-/// CRAM: the mask that aligns a base for a length that `crrl` gives: 2^64 less the granule of that length.
-#[tactic(auto, using(cheri_model::proofs::Roundings::rounding_holds, crate::proofs::RoundedAtZero::mask_short, crate::proofs::RoundedAtZero::mask_long))]
+/// CRAM: the mask that aligns a base for a length that `crrl` gives: 2^64 less the granule of that
+/// length.
+#[tactic(auto, using(crate::proofs::RoundedAtZero::alignment_masks))]
 pub fn cram(len: u64) -> u64
     ensures { result ≡ alignment_mask len }
 {

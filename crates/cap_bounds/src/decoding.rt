@@ -1,11 +1,19 @@
-//! The bounds of every 128-bit word (CHERI Concentrate, section 3.2; CHERI ISA version 9, section 3.5.4).
+//! The bounds of every 128-bit word (CHERI Concentrate, "decoding of bounds"; CHERI ISA v9,
+//! "capability encoding").
 //!
-//! All is counted in steps of 2^E: where the address's region begins, and how far into it each bound lies. The
-//! one shift by E comes last, so that no size of a region is computed and no shift is too far.
+//! All is counted in steps of 2^E: where the address's region begins, and how far into it each
+//! bound lies. The one shift by E comes last, so that no size of a region is computed and no shift
+//! is too far.
 
 ghost use Rattle.std.specs.Prelude.{◌≡◌, ◌+◌, ◌-◌, ◌*◌, ◌%◌, ◌^◌, ◌≤◌, ◌<◌};
 ghost use Rattle.cheri_model.specs.Fields.{word_exponent, word_b};
-ghost use Rattle.cheri_model.specs.RawBounds.{region_floor, region_start, raw_base, raw_top, corrected_top};
+ghost use Rattle.cheri_model.specs.RawBounds.{
+  region_floor,
+  region_start,
+  raw_base,
+  raw_top,
+  corrected_top,
+};
 
 use crate::word::{b_digits, exponent_field, full_t_digits};
 
@@ -17,8 +25,8 @@ const FIRST_UNCORRECTED_EXPONENT: u8 = 51;
 
 /// The base and the top of the word with this upper half and this address, tagged or not.
 ///
-/// The base is below 2^64 and the top below 2^65. The top of a word that no instruction makes may lie below its
-/// base.
+/// The base is below 2^64 and the top below 2^65. The top of a word that no instruction makes may
+/// lie below its base.
 #[tactic(auto, using(crate::proofs::Regions::same_below_64, crate::proofs::Regions::same_below_65), unfolding(cheri_model::specs::RawBounds::raw_base, cheri_model::specs::RawBounds::raw_top, cheri_model::specs::RawBounds::uncorrected_top, cheri_model::specs::RawBounds::region_offset))]
 pub fn decode(meta: u64, addr: u64) -> (u64, u128)
     ensures base { result.0 ≡ raw_base meta addr }
@@ -41,7 +49,8 @@ pub(crate) fn region_origin(meta: u64, addr: u64) -> u64
     address_of_steps(e, region_steps(e, b_digits(meta), addr))
 }
 
-/// Where regions begin, modulo their size, in steps of 2^E: one step of the top three bits of B below them.
+/// Where regions begin, modulo their size, in steps of 2^E: one step of the top three bits of B
+/// below them.
 #[tactic(auto, unfolding(cheri_model::specs::RawBounds::region_floor))]
 fn floor_steps(b: u16) -> u64
     requires { b < 2 ^ 14 }
@@ -51,8 +60,8 @@ fn floor_steps(b: u16) -> u64
     u64::from(((b >> 11) + 7) % 8) << 11
 }
 
-/// Where the region of the address begins, in steps of 2^E. It is counted from 2^66 steps below 0, as it may lie
-/// below 0; the model counts it from 2^66 below 0. Either is 0 modulo 2^65.
+/// Where the region of the address begins, in steps of 2^E. It is counted from 2^66 steps below 0,
+/// as it may lie below 0; the model counts it from 2^66 below 0. Either is 0 modulo 2^65.
 #[tactic(auto, using(crate::proofs::Regions::steps_of_start), unfolding(cheri_model::specs::RawBounds::region_start))]
 fn region_steps(e: u8, b: u16, addr: u64) -> u128
     requires exponent { e ≤ 52 }
@@ -113,7 +122,8 @@ mod tests {
 
     /// Words as upper half and address, with their bases and tops.
     const DECODED: [(u64, u64, u64, u128); 19] = [
-        // The root capability, and one of sixteen bytes with addresses at both ends of its window and beyond.
+        // The root capability, and one of sixteen bytes with addresses at both ends of its window
+        // and beyond.
         (0xffff_0000_0000_0000, 0, 0, 0x1_0000_0000_0000_0000),
         (0xffff_0000_0405_8004, 0x8000_0000, 0x8000_0000, 0x8000_0010),
         (0xffff_0000_0405_8004, 0x7fff_f800, 0x8000_0000, 0x8000_0010),

@@ -1,6 +1,7 @@
-//! The bounds of compressed capabilities (CHERI Concentrate; CHERI ISA version 9, section 3.5): decoding of every
-//! word, its fields, which addresses keep the bounds, the rounding of an asked range, and the length and the
-//! alignment that make bounds exact. Every function is total, takes no memory and searches for nothing.
+//! The bounds of compressed capabilities (CHERI Concentrate; CHERI ISA v9, "capability encoding"):
+//! decoding of every word, its fields, which addresses keep the bounds, the rounding of a requested
+//! range, and the length and the alignment that make bounds exact. Every function is total, takes
+//! no memory and searches for nothing.
 #![tactic(auto)]
 
 mod alignment;

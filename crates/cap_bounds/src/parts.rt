@@ -1,10 +1,11 @@
 //! The fields of a word's upper half, each on its own.
 
-/// The fields of a 128-bit word, tagged or not, as they stand before the exclusive-or with null's fields
-/// (CHERI ISA version 9, section 3.5). No bounds are among them: these depend on the address too.
+/// The fields of a 128-bit word, tagged or not, before the exclusive-or with null's fields (CHERI
+/// ISA v9, "capability encoding"). No bounds are among them: these depend on the address too.
 #[derive(Clone, Copy, PartialEq, Eq, Debug)]
 pub struct Fields {
-    /// The permissions as CGetPerm shows them: bits 0 to 11, and the software permissions in bits 15 to 18.
+    /// The permissions as CGetPerm shows them: bits 0 to 11, and the software permissions in bits
+    /// 15 to 18.
     pub perms: u32,
     /// The object type, of 18 bits.
     pub otype: u32,

@@ -1,4 +1,4 @@
-//! Which change of the address keeps a word's bounds (CHERI Concentrate, section 3.2).
+//! Which change of the address keeps a word's bounds (CHERI Concentrate, "representable region").
 
 ghost use Rattle.std.specs.Prelude.{◌≡◌, ◌-◌, ◌↔◌, IsTrue};
 ghost use Rattle.cheri_model.specs.RawBounds.{raw_base, raw_top};
@@ -9,12 +9,13 @@ use crate::decoding::region_origin;
 
 /// Whether the bounds are the same with both addresses.
 ///
-/// That is so exactly where the regions of both addresses begin at the same place modulo 2^64: where two tops then
-/// differ in bit 64, the last correction takes them to one. For the word of a lawful capability the new address is
-/// then in its window.
-#[tactic(auto, using(crate::proofs::SameBounds::start_from_base, crate::proofs::SameBounds::base_from_start, crate::proofs::SameBounds::top_from_start_of_word, crate::proofs::Windows::window_from_start, crate::proofs::Windows::start_from_window))]
+/// That is so exactly where the regions of both addresses begin at the same place modulo 2^64:
+/// where two tops then differ in bit 64, the last correction takes them to one. For the word of a
+/// lawful capability the new address is then in its window.
+#[tactic(auto, using(crate::proofs::Windows::same_bounds))]
 pub fn representable(meta: u64, old: u64, new: u64) -> bool
-    ensures same { IsTrue result ↔ ((raw_base meta new ≡ raw_base meta old) × (raw_top meta new ≡ raw_top meta old)) }
+    ensures same { IsTrue result ↔ ((raw_base meta new ≡ raw_base meta old) × (raw_top meta new ≡
+        raw_top meta old)) }
     ensures window { (c : Capability) → IsLawful c → meta ≡ upper_of c → old ≡ c.addr →
         (IsTrue result ↔ IsInWindow c.base (c.top - c.base) new) }
 {

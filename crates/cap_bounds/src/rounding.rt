@@ -1,5 +1,5 @@
-//! Rounding of an asked range to bounds that a capability can have (CHERI Concentrate, section 3.3; CHERI ISA
-//! version 9, the instruction CSetBounds).
+//! Rounding of a requested range to bounds that a capability can have (CHERI Concentrate, "encoding
+//! of bounds"; CHERI ISA v9, CSetBounds).
 
 ghost use Rattle.std.specs.Prelude.{◌≡◌, ◌+◌, ◌-◌, ◌^◌, ◌<◌, ◌≤◌, ◌↔◌, IsTrue};
 ghost use Rattle.cheri_model.specs.Numbers.{round_down, round_up};
@@ -7,8 +7,9 @@ ghost use Rattle.cheri_model.specs.Lengths.{exponent, internal_exponent};
 ghost use Rattle.cheri_model.specs.Rounding.{rounding_exponent, rounded_base, rounded_top};
 ghost use Rattle.cheri_model.specs.Capability.{b_field, t_field};
 
-/// The rounding of an asked range: the fields that say its bounds in a capability's word, the bounds, and whether
-/// they are the asked ones. The top has up to 66 bits where the asked range ends past the address space.
+/// The rounding of a requested range: the fields that encode its bounds in a capability's word, the
+/// bounds, and whether they are the requested ones. The top has up to 66 bits where the requested
+/// range ends past the address space.
 #[derive(Clone, Copy, Debug, PartialEq, Eq)]
 pub struct Rounded {
     /// The internal exponent bit: 1 where the length is 2^12 or more.
@@ -23,7 +24,7 @@ pub struct Rounded {
     pub base: u64,
     /// The first address above the bounds.
     pub top: u128,
-    /// Whether the bounds are the asked range.
+    /// Whether the bounds are the requested range.
     pub exact: bool,
 }
 
@@ -36,7 +37,7 @@ struct Widened {
 }
 
 /// The exponent of a length: the number of binary digits from bit 13 on.
-#[tactic(auto, using(crate::proofs::Digits::exponent_from_zeros, cheri_model::proofs::Exponents::exponent_at_most,))]
+#[tactic(auto, using(crate::proofs::Digits::exponent_by_zeros))]
 fn exponent_of(len: u128) -> u8
     requires { len ≤ 2 ^ 64 }
     ensures value { result ≡ exponent len }
@@ -45,7 +46,7 @@ fn exponent_of(len: u128) -> u8
     (64 - ((len >> 13) as u64).leading_zeros()) as u8
 }
 
-/// The asked range, its ends moved out to multiples of 2^(e+3).
+/// The requested range, its ends moved out to multiples of 2^(e+3).
 fn widen(base: u64, len: u128, e: u8) -> Widened
     requires length { len ≤ 2 ^ 64 }
     requires exponent { e ≤ 53 }
@@ -62,7 +63,7 @@ fn widen(base: u64, len: u128, e: u8) -> Widened
     }
 }
 
-/// The asked range, its ends moved out at the exponent of its rounding.
+/// The requested range, its ends moved out at the exponent of its rounding.
 fn round_long(base: u64, len: u128) -> Widened
     requires long { 2 ^ 12 ≤ len }
     requires length { len ≤ 2 ^ 64 }
@@ -79,7 +80,7 @@ fn round_long(base: u64, len: u128) -> Widened
 }
 
 /// A range that is shorter than 2^12: it needs no rounding.
-#[tactic(auto, using(cheri_model::proofs::Roundings::short_rounding, crate::proofs::RoundedParts::short_fields))]
+#[tactic(auto, using(crate::proofs::RoundedParts::short_parts))]
 fn short_bounds(base: u64, len: u128) -> Rounded
     requires { len < 2 ^ 12 }
     ensures ie { result.ie ≡ internal_exponent len }
@@ -103,7 +104,7 @@ fn short_bounds(base: u64, len: u128) -> Rounded
 }
 
 /// A range of 2^12 or more, rounded at its exponent, of which B and T hold the two halves.
-#[tactic(auto, using(cheri_model::proofs::Roundings::rounding_holds, crate::proofs::RoundedParts::long_fields))]
+#[tactic(auto, using(crate::proofs::RoundedParts::long_parts))]
 fn long_bounds(base: u64, len: u128) -> Rounded
     requires long { 2 ^ 12 ≤ len }
     requires length { len ≤ 2 ^ 64 }
@@ -128,10 +129,10 @@ fn long_bounds(base: u64, len: u128) -> Rounded
     }
 }
 
-/// The rounding of the range of `len` addresses from `base` on: the least bounds that hold it, at the least exponent
-/// that can say them, and their fields. Where the range ends past the address space the same rules apply to whole
-/// numbers.
-#[tactic(auto, using(cheri_model::proofs::Roundings::rounding_holds, cheri_model::proofs::RoundedFields::field_widths))]
+/// The rounding of the range of `len` addresses from `base` on: the least bounds that hold it, at
+/// the least exponent that can encode them, and their fields. Where the range ends past the address
+/// space the same rules apply to whole numbers.
+#[tactic(auto, using(crate::proofs::RoundedParts::rounded_parts))]
 pub fn set_bounds(base: u64, len: u128) -> Rounded
     requires { len ≤ 2 ^ 64 }
     ensures ie { result.ie ≡ internal_exponent len }
@@ -146,7 +147,7 @@ pub fn set_bounds(base: u64, len: u128) -> Rounded
     ensures b_below { result.b < 2 ^ 14 }
     ensures t_below { result.t < 2 ^ 12 }
 
-    // The rounding holds the asked range, and is exact where it is that range.
+    // The rounding holds the requested range, and is exact where it is that range.
     ensures holds { (result.base ≤ base) × (base + len ≤ result.top) }
     ensures exact { IsTrue result.exact ↔ ((result.base ≡ base) × (result.top ≡ base + len)) }
 {
@@ -171,7 +172,17 @@ mod tests {
         (1, 4096, 1, 0, 8, 0, 0, 0x1008, false),
         (1, 8191, 1, 1, 0, 1, 0, 0x2000, false),
         (0, ADDRESS_SPACE - 1, 1, 52, 6, 4, 0, ADDRESS_SPACE, false),
-        (u64::MAX, 2, 0, 0, 1, 0x3fff, u64::MAX, ADDRESS_SPACE + 1, true),
+        (
+            u64::MAX,
+            2,
+            0,
+            0,
+            1,
+            0x3fff,
+            u64::MAX,
+            ADDRESS_SPACE + 1,
+            true,
+        ),
         (
             0x8000_0001,
             1 << 20,

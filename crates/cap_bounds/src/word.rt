@@ -1,7 +1,20 @@
-//! The fields of a 128-bit word, taken out of its upper half (CHERI ISA version 9, section 3.5).
+//! The fields of a 128-bit word, taken out of its upper half (CHERI ISA v9, "capability encoding").
 
 ghost use Rattle.std.specs.Prelude.{◌≡◌, ◌≤◌, ◌<◌, ◌^◌};
-ghost use Rattle.cheri_model.specs.Fields.{with_null_fields, word_perms, word_otype, word_flag, word_reserved, word_ie, stored_t, stored_b, word_exponent, word_b, word_t, word_t14};
+ghost use Rattle.cheri_model.specs.Fields.{
+  with_null_fields,
+  word_perms,
+  word_otype,
+  word_flag,
+  word_reserved,
+  word_ie,
+  stored_t,
+  stored_b,
+  word_exponent,
+  word_b,
+  word_t,
+  word_t14,
+};
 
 use crate::parts::Fields;
 use cheri_model::{MAX_EXPONENT, NULL_FIELDS};
@@ -25,7 +38,7 @@ pub fn fields(meta: u64) -> Fields
     }
 }
 
-/// The fields as they stand, without the exclusive-or.
+/// The fields without the exclusive-or.
 #[tactic(auto, unfolding(cheri_model::specs::Fields::with_null_fields))]
 fn plain_fields(meta: u64) -> u64
     ensures { result ≡ with_null_fields meta }
@@ -70,7 +83,7 @@ fn ie_field(meta: u64) -> u8
     ((plain_fields(meta) >> 26) & 1) as u8
 }
 
-/// T as it stands: with IE 1 its low three bits are the exponent's high ones.
+/// T as stored: with IE 1 its low three bits are the exponent's high ones.
 #[tactic(auto, unfolding(cheri_model::specs::Fields::stored_t))]
 fn stored_t_field(meta: u64) -> u16
     ensures value { result ≡ stored_t meta }
@@ -79,7 +92,7 @@ fn stored_t_field(meta: u64) -> u16
     ((plain_fields(meta) >> 14) & 0xfff) as u16
 }
 
-/// B as it stands: with IE 1 its low three bits are the exponent's low ones.
+/// B as stored: with IE 1 its low three bits are the exponent's low ones.
 #[tactic(auto, unfolding(cheri_model::specs::Fields::stored_b))]
 fn stored_b_field(meta: u64) -> u16
     ensures value { result ≡ stored_b meta }
@@ -130,8 +143,8 @@ fn t_digits(meta: u64) -> u16
     }
 }
 
-/// T of fourteen bits: the two that are not stored follow from B, from a carry where T's stored bits lie below
-/// B's, and from IE (CHERI Concentrate, section 3.2).
+/// T of fourteen bits: the two that are not stored follow from B, from a carry where T's stored
+/// bits lie below B's, and from IE (CHERI Concentrate, "decoding of bounds").
 #[tactic(auto, unfolding(cheri_model::specs::Fields::word_t14))]
 pub(crate) fn full_t_digits(meta: u64) -> u16
     ensures value { result ≡ word_t14 meta }
@@ -148,7 +161,6 @@ pub(crate) fn full_t_digits(meta: u64) -> u16
 mod tests {
     use super::*;
     use cheri_model::UNSEALED_TYPE;
-
 
     fn of_word(perms: u32, otype: u32, flag: u8, reserved: u8, ie: u8, e: u8) -> Fields {
         Fields {
@@ -185,8 +197,14 @@ mod tests {
                 0xffff_0000_2405_8004,
                 of_word(0x7_8fff, 262_139, 0, 0, 0, 0),
             ),
-            (0x1005_0000_0405_8004, of_word(0x8005, UNSEALED_TYPE, 0, 0, 0, 0)),
-            (0x000c_c000_0418_8004, of_word(0xc, UNSEALED_TYPE, 0, 3, 0, 0)),
+            (
+                0x1005_0000_0405_8004,
+                of_word(0x8005, UNSEALED_TYPE, 0, 0, 0, 0),
+            ),
+            (
+                0x000c_c000_0418_8004,
+                of_word(0xc, UNSEALED_TYPE, 0, 3, 0, 0),
+            ),
         ];
         for (meta, parts) in table {
             assert_eq!(rt; fields(meta), parts, "upper half {meta:x}");

@@ -1,3 +1,4 @@
 pub mod Exactness
 pub mod Made
 pub mod Makings
+pub mod MadeAgain

@@ -14,7 +14,7 @@ use Rattle.cheri_model.specs.EditedWords.{word_of_halves, with_perms, with_otype
 use Rattle.cheri_model.specs.Results.{is_exact}
 use Rattle.cheri_model.proofs.PermissionSets.{dropped_bits_leave_set}
 use Rattle.cheri_model.proofs.Roundings.{rounded_length, rounded_base_multiple, rounded_top_multiple}
-use Rattle.cheri_model.proofs.RoundingsWithin.{asked_base_in_window}
+use Rattle.cheri_model.proofs.RoundingsWithin.{requested_base_in_window}
 use Rattle.cheri_model.proofs.FieldsBack.{HasFields, with_null_fields_twice}
 use Rattle.cheri_model.proofs.WordsBack.{word_lt}
 use Rattle.cheri_model.proofs.WindowsEnd.{same_bounds_in_window}
@@ -71,7 +71,7 @@ unbounded_has_fields perms otype known below = record {
   b_below = omega arith;
 }
 
--- what is asked for can be made but for the address
+-- what is requested can be made but for the address
 pub record IsMakeable (base len perms otype : ℕ) : Type 0 where
   pub perms_known : IsPermissionSet perms
   pub otype_lawful : IsLawfulType otype
@@ -129,7 +129,7 @@ module _ (base len perms otype : ℕ) (m : IsMakeable base len perms otype) wher
         base_fits = rw (m.base_exact, m.top_exact) at (rounded_base_multiple base len fits);
         top_fits = rw (m.base_exact, m.top_exact) at (rounded_top_multiple base len fits);
         addr_below = m.base_below;
-        in_window = rw (m.base_exact, m.top_exact) at (asked_base_in_window base len fits);
+        in_window = rw (m.base_exact, m.top_exact) at (requested_base_in_window base len fits);
       }
 
   -- the bounds are decoded to the same just at the addresses of the window

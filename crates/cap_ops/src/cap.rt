@@ -1,7 +1,15 @@
-//! The capability value, and how it goes to words and back.
+//! The capability value, and its conversions to words and back.
 
 ghost use Rattle.std.specs.Prelude.{◌≡◌, ◌+◌, ◌*◌, ◌/◌, ◌%◌, ◌^◌};
-ghost use Rattle.cheri_model.specs.CapValue.{raw, bits_of, tag_of, parts_of, value_at, IsLawfulValue, IsTaggedWord};
+ghost use Rattle.cheri_model.specs.CapValue.{
+  raw,
+  bits_of,
+  tag_of,
+  parts_of,
+  value_at,
+  IsLawfulValue,
+  IsTaggedWord,
+};
 ghost use Rattle.cheri_model.specs.Capability.{capability_at};
 ghost use Rattle.cheri_model.specs.EditedWords.{word_of_halves};
 ghost use Rattle.cheri_model.specs.Results.{address_of};
@@ -9,8 +17,8 @@ ghost use Rattle.cheri_model.specs.Results.{address_of};
 use cheri_model::Value;
 use std::marker::Model;
 
-/// What a register or a granule holds, ready for instructions: 128 bits and a tag. A tagged one is the word of a
-/// lawful capability (CHERI ISA version 9, section 2.2).
+/// What a register or a granule holds, as instructions use it: 128 bits and a tag. A tagged one is
+/// the word of a lawful capability (CHERI ISA v9, "tags").
 #[derive(Clone, Copy, Debug, PartialEq, Eq)]
 pub struct Cap {
     value: Value,
@@ -67,11 +75,12 @@ impl Cap {
         ensures lawful { IsLawfulValue self }
     {
         let value = self.value;
+        // The contract of `bits` says that the value is lawful.
         let _bits = value.bits();
         value
     }
 
-    /// The 128 bits as they stand in memory.
+    /// The 128 bits as in memory.
     pub fn bits(self) -> u128
         ensures value { result ≡ bits_of self }
         ensures lawful { IsLawfulValue self }
@@ -87,7 +96,7 @@ impl Cap {
         self.value.tag()
     }
 
-    /// The upper 64 bits as they stand in memory (CGetHigh).
+    /// The upper 64 bits as in memory (CGetHigh).
     pub fn high(self) -> u64
         ensures value { result ≡ bits_of self / 2 ^ 64 }
         ensures parts { parts_of self ≡ capability_at (bits_of self) }

@@ -1,9 +1,20 @@
-//! Changes of one part of a value. A value that is not open, or a change that is not allowed, gives the same edited
-//! word without a tag (CHERI ISA version 9, section 2.4 and chapter 7).
+//! Changes of one part of a value. A value that is not open, or a change that is not allowed, gives
+//! the same edited word without a tag (CHERI ISA v9, "capability instructions").
 
 ghost use Rattle.std.specs.Prelude.{◌≡◌, ◌+◌, ◌%◌, ◌^◌, ◌&&◌};
 ghost use Rattle.cheri_model.specs.CapValue.{parts_of, IsLawfulValue};
-ghost use Rattle.cheri_model.specs.Results.{address_of, is_open, in_bounds, keeps_bounds, is_exact, clear_tag, set_address, inc_offset, set_bounds, set_bounds_exact};
+ghost use Rattle.cheri_model.specs.Results.{
+  address_of,
+  is_open,
+  in_bounds,
+  keeps_bounds,
+  is_exact,
+  clear_tag,
+  set_address,
+  inc_offset,
+  set_bounds,
+  set_bounds_exact,
+};
 ghost use Rattle.cheri_model.specs.FieldResults.{and_perm, set_flags, set_high};
 
 use crate::cap::Cap;
@@ -45,8 +56,9 @@ impl Cap {
         representable(self.high(), self.addr(), addr)
     }
 
-    /// The bounds of `len` addresses from the address on, rounded to bounds that a capability can have (CSetBounds).
-    /// The tag stays where this is open and the asked range lies in its bounds.
+    /// The bounds of `len` addresses from the address on, rounded to bounds that a capability can
+    /// have (CSetBounds). The tag stays where this is open and the requested range lies in its
+    /// bounds.
     pub fn set_bounds(self, len: u64) -> Cap
         ensures { result ≡ set_bounds self len }
     {
@@ -64,7 +76,8 @@ impl Cap {
         Cap::from_halves(kept, upper, self.addr())
     }
 
-    /// Whether this is open and the range of `len` addresses from its address on lies in its bounds.
+    /// Whether this is open and the range of `len` addresses from its address on lies in its
+    /// bounds.
     #[tactic(auto, unfolding(cheri_model::specs::Results::address_of))]
     fn may_narrow(self, len: u64) -> bool
         ensures value { result ≡ (is_open self && in_bounds self (address_of self) len) }
@@ -85,8 +98,8 @@ impl Cap {
         if exact { kept } else { false }
     }
 
-    /// The permissions that are also in the mask, which has CGetPerm's form (CAndPerm). The tag stays where this is
-    /// open.
+    /// The permissions that are also in the mask, which has CGetPerm's form (CAndPerm). The tag
+    /// stays where this is open.
     #[tactic(auto, using(std::proofs::lemmas::Nat::and_le_l))]
     pub fn and_perm(self, mask: u64) -> Cap
         ensures { result ≡ and_perm self mask }

@@ -1,4 +1,4 @@
-//! Comparisons of two values, tagged or not (CHERI ISA version 9, chapter 7).
+//! Comparisons of two values, tagged or not (CHERI ISA v9, "capability instructions").
 
 ghost use Rattle.std.specs.Prelude.{◌≡◌};
 ghost use Rattle.cheri_model.specs.Readings.{same_tag, is_subset, is_equal_exact};
@@ -13,8 +13,8 @@ fn same_tag(first: bool, second: bool) -> bool
 }
 
 impl Cap {
-    /// Whether the tags are equal, and the other's bounds and permissions lie in this one's (CTestSubset). Object
-    /// types are not compared.
+    /// Whether the tags are equal, and the other's bounds and permissions lie in this one's
+    /// (CTestSubset). Object types are not compared.
     #[tactic(auto, unfolding(cheri_model::specs::Readings::is_subset))]
     pub fn test_subset(self, other: Cap) -> bool
         ensures { result ≡ is_subset self other }

@@ -2,7 +2,13 @@
 
 ghost use Rattle.std.specs.Prelude.{◌≡◌, ◌^◌, ◌<◌, ◌≤◌};
 ghost use Rattle.cheri_model.specs.Fields.{with_null_fields};
-ghost use Rattle.cheri_model.specs.EditedWords.{with_perms, with_flag, with_otype, with_bounds_fields, with_rounded_fields};
+ghost use Rattle.cheri_model.specs.EditedWords.{
+  with_perms,
+  with_flag,
+  with_otype,
+  with_bounds_fields,
+  with_rounded_fields,
+};
 ghost use Rattle.cheri_model.specs.Results.{is_exact};
 
 use cap_bounds::set_bounds;
@@ -58,7 +64,8 @@ pub(crate) fn with_bounds_fields(upper: u64, ie: u8, t: u16, b: u16) -> u64
     exclusive_or_null(high + (u64::from(ie) << 26) + (u64::from(t) << 14) + u64::from(b))
 }
 
-/// The upper half whose bounds fields are those of the rounding of base and length, and whether that is exact.
+/// The upper half whose bounds fields are those of the rounding of base and length, and whether
+/// that is exact.
 #[tactic(auto, using(crate::proofs::Exactness::exact_test, cheri_model::proofs::AddressResults::internal_exponent_lt), unfolding(cheri_model::specs::EditedWords::with_rounded_fields))]
 pub(crate) fn with_rounded_fields(upper: u64, base: u64, len: u128) -> (u64, bool)
     requires { len ≤ 2 ^ 64 }

@@ -1,4 +1,4 @@
-//! Making capabilities from their parts (CHERI ISA version 9, section 2.3).
+//! Making capabilities from their parts (CHERI ISA v9, "architectural capabilities").
 
 ghost use Rattle.std.specs.Prelude.{◌≡◌, ◌^◌, ◌≤◌, ◌<◌};
 ghost use Rattle.cheri_model.specs.Capability.{IsLawfulType, unsealed_type};
@@ -30,23 +30,26 @@ impl MakeFault {
 }
 
 impl Cap {
-    /// The capability of the whole address space with these permissions, unsealed, at address 0. Bits of `perms`
-    /// that no permission has are dropped, here and below.
+    /// The capability of the whole address space with these permissions, unsealed, at address 0.
+    /// Bits of `perms` that no permission has are dropped, here and below.
     pub fn root(perms: Perms) -> Cap
         ensures { result ≡ root_with perms.0 }
     {
-        // The bounds fields of a word 0 say the whole address space, and its object type is unsealed.
+        // The bounds fields of a word 0 encode the whole address space, and its object type is
+        // unsealed.
         Cap::from_halves(true, with_perms(0, perms.known_bits()), 0)
     }
 
-    /// The unsealed capability of just the `len` addresses from `base` on, with this address and these permissions.
+    /// The unsealed capability of just the `len` addresses from `base` on, with this address and
+    /// these permissions.
     pub fn make(base: u64, len: u128, addr: u64, perms: Perms) -> Result<Cap, MakeFault>
         ensures { result ≡ made base len addr perms.0 unsealed_type }
     {
         Cap::make_sealed(base, len, addr, perms, OType::unsealed())
     }
 
-    /// The same, sealed with an object type: a sealable one, or sentry. (With unsealed it is what `make` gives.)
+    /// The same, sealed with an object type: a sealable one, or sentry. With the unsealed type this
+    /// is `make`.
     pub fn make_sealed(
         base: u64,
         len: u128,

@@ -1,10 +1,20 @@
-//! What instructions read off a value, tagged or not. Nothing here decodes the bounds more than once.
+//! What instructions read off a value, tagged or not. Nothing here decodes the bounds more than
+//! once.
 
 ghost use Rattle.std.specs.Prelude.{◌≡◌, ◌+◌, ◌^◌, ◌<◌, ◌≤◌, ◌&&◌};
 ghost use Rattle.cheri_model.specs.CapValue.{tag_of, parts_of, IsLawfulValue};
 ghost use Rattle.cheri_model.specs.Capability.{IsPermissionSet};
 ghost use Rattle.cheri_model.specs.Results.{is_open, has_permission, length_of};
-ghost use Rattle.cheri_model.specs.Readings.{permissions_of, object_type_of, type_number_of, base_of, top_of, flags_of, offset_of, is_sealed};
+ghost use Rattle.cheri_model.specs.Readings.{
+  permissions_of,
+  object_type_of,
+  type_number_of,
+  base_of,
+  top_of,
+  flags_of,
+  offset_of,
+  is_sealed,
+};
 
 use crate::cap::Cap;
 use bitflags::Flags;
@@ -12,8 +22,8 @@ use cap_bounds::{decode, fields};
 use cheri_model::{LAST_SEALABLE_TYPE, OType, Perms, UNSEALED_TYPE};
 
 impl Cap {
-    /// The bounds: the base, and the top, which is the first address above them. The top of a word that no
-    /// instruction makes may lie below its base.
+    /// The bounds: the base, and the top, which is the first address above them. The top of a word
+    /// that no instruction makes may lie below its base.
     #[tactic(auto, using(cheri_model::proofs::Values::top_lt), unfolding(cheri_model::specs::Capability::capability_at))]
     pub fn bounds(self) -> (u64, u128)
         ensures base { result.0 ≡ base_of self }
@@ -21,6 +31,7 @@ impl Cap {
         ensures top_below { result.1 < 2 ^ 65 }
         ensures lawful { IsLawfulValue self }
     {
+        // The contract of `tag` says that the value is lawful.
         let _tag = self.tag();
         decode(self.high(), self.addr())
     }
@@ -64,6 +75,7 @@ impl Cap {
         ensures value { result ≡ permissions_of self }
         ensures known { IsPermissionSet result }
     {
+        // The contract of `tag` says that the value is lawful.
         let _tag = self.tag();
         fields(self.high()).perms
     }
@@ -76,8 +88,8 @@ impl Cap {
         OType::new(fields(self.high()).otype)
     }
 
-    /// The object type as an integer register has it (CGetType): a type above the sealable ones is sign-extended
-    /// from 18 bits, so that unsealed is 2^64 - 1.
+    /// The object type as an integer register has it (CGetType): a type above the sealable ones is
+    /// sign-extended from 18 bits, so that unsealed is 2^64 - 1.
     #[tactic(auto, unfolding(cheri_model::specs::Readings::type_number_of))]
     pub fn otype(self) -> u64
         ensures { result ≡ type_number_of self }
@@ -105,7 +117,8 @@ impl Cap {
         self.object_type().number() != UNSEALED_TYPE
     }
 
-    /// Whether this is open: tagged and not sealed. Most changes keep the tag of such a value alone.
+    /// Whether this is open: tagged and not sealed. Most changes keep the tag of such a value
+    /// alone.
     pub fn is_open(self) -> bool
         ensures value { result ≡ is_open self }
         ensures lawful { IsLawfulValue self }
@@ -116,8 +129,8 @@ impl Cap {
         self.object_type().number() == UNSEALED_TYPE
     }
 
-    /// Whether the permission with this number is there, as CGetPerm numbers them: 0 to 11, and the software
-    /// permissions from 15 to 18.
+    /// Whether this has the permission with this number: 0 to 11, or 15 to 18 for one left to
+    /// software.
     pub fn has_permission(self, number: u32) -> bool
         requires { number < 19 }
         ensures { result ≡ has_permission self number }

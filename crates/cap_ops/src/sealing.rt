@@ -1,18 +1,30 @@
-//! Sealing and unsealing by object type (CHERI ISA version 9, section 2.3.7 and chapter 7).
+//! Sealing and unsealing by object type (CHERI ISA v9, "sealed capabilities").
 
 ghost use Rattle.std.specs.Prelude.{◌≡◌, ◌%◌, ◌^◌, ◌<◌, ◌==◌, ◌&&◌};
 ghost use Rattle.cheri_model.specs.CapValue.{tag_of, parts_of, IsLawfulValue};
 ghost use Rattle.cheri_model.specs.Capability.{IsPermissionSet};
 ghost use Rattle.cheri_model.specs.Results.{address_of, is_open, has_permission};
-ghost use Rattle.cheri_model.specs.SealResults.{seal_permission, unseal_permission, execute_permission, is_sealable, has_type_authority, seal, unsealed_perms, unseal, seal_entry, unsealed};
+ghost use Rattle.cheri_model.specs.SealResults.{
+  seal_permission,
+  unseal_permission,
+  execute_permission,
+  is_sealable,
+  has_type_authority,
+  seal,
+  unsealed_perms,
+  unseal,
+  seal_entry,
+  unsealed,
+};
 
 use crate::cap::Cap;
 use crate::fields::{with_otype, with_perms};
 use cheri_model::{LAST_SEALABLE_TYPE, SENTRY_TYPE, UNSEALED_TYPE, permission};
 
 impl Cap {
-    /// Sealed with the authority's address as its object type (CSeal). The tag stays where this is open, the
-    /// authority is open, has Seal and its address in its bounds, and the type is a sealable one.
+    /// Sealed with the authority's address as its object type (CSeal). The tag stays where this is
+    /// open, the authority is open, has Seal and its address in its bounds, and the type is a
+    /// sealable one.
     pub fn seal(self, authority: Cap) -> Cap
         ensures { result ≡ seal self authority }
     {
@@ -25,8 +37,9 @@ impl Cap {
         )
     }
 
-    /// Unsealed (CUnseal). Global stays only where both have it. The tag stays where this is tagged with a sealable
-    /// type, and the authority is open, has Unseal and this type as its address, in its bounds.
+    /// Unsealed (CUnseal). Global stays only where both have it. The tag stays where this is tagged
+    /// with a sealable type, and the authority is open, has Unseal and this type as its address, in
+    /// its bounds.
     pub fn unseal(self, authority: Cap) -> Cap
         ensures { result ≡ unseal self authority }
     {
@@ -36,8 +49,8 @@ impl Cap {
         Cap::from_halves(kept, upper, self.addr())
     }
 
-    /// Sealed as a sentry, which can only be jumped to (CSealEntry). The tag stays where this is open and has
-    /// Execute.
+    /// Sealed as a sentry, which can only be jumped to (CSealEntry). The tag stays where this is
+    /// open and has Execute.
     pub fn seal_entry(self) -> Cap
         ensures { result ≡ seal_entry self }
     {
@@ -45,8 +58,8 @@ impl Cap {
         Cap::from_halves(kept, with_otype(self.high(), SENTRY_TYPE), self.addr())
     }
 
-    /// Unsealed, with the tag as it is: what a jump makes of a sentry, and of a sealed pair (CJALR, CInvoke). No
-    /// authority is asked for; the jump's own checks stand in its place.
+    /// Unsealed, with the tag as it is: what a jump makes of a sentry, and of a sealed pair (CJALR,
+    /// CInvoke). No authority is asked for; the jump makes its own checks.
     pub fn unsealed(self) -> Cap
         ensures { result ≡ unsealed self }
     {
@@ -60,7 +73,8 @@ impl Cap {
     /// Whether this may be sealed under the authority.
     #[tactic(auto, unfolding(cheri_model::specs::Results::address_of))]
     fn may_seal(self, authority: Cap) -> bool
-        ensures value { result ≡ (is_open self && has_type_authority authority seal_permission && is_sealable (address_of authority)) }
+        ensures value { result ≡ (is_open self && has_type_authority authority seal_permission
+            && is_sealable (address_of authority)) }
         ensures lawful { IsLawfulValue self }
     {
         if !self.is_open() {
@@ -75,7 +89,9 @@ impl Cap {
     /// Whether this may be unsealed under the authority.
     #[tactic(auto, unfolding(cheri_model::specs::Results::address_of))]
     fn may_unseal(self, authority: Cap) -> bool
-        ensures value { result ≡ (tag_of self && is_sealable (parts_of self).otype && has_type_authority authority unseal_permission && (address_of authority == (parts_of self).otype)) }
+        ensures value { result ≡ (tag_of self && is_sealable (parts_of self).otype
+            && has_type_authority authority unseal_permission
+            && (address_of authority == (parts_of self).otype)) }
         ensures lawful { IsLawfulValue self }
     {
         let tagged = self.tag();
@@ -103,7 +119,8 @@ impl Cap {
         self.has_permission(permission::EXECUTE)
     }
 
-    /// Whether this has authority, by the permission with this number, over the object type that is its address.
+    /// Whether this has authority, by the permission with this number, over the object type that is
+    /// its address.
     #[tactic(auto, unfolding(cheri_model::specs::Results::address_of))]
     fn has_type_authority(self, permission: u32) -> bool
         requires { permission < 19 }
@@ -126,6 +143,7 @@ impl Cap {
         ensures value { result ≡ unsealed_perms self authority }
         ensures known { IsPermissionSet result }
     {
+        // The contract of `tag` says that the value is lawful.
         let _tag = self.tag();
         let perms = self.permission_bits();
         if authority.has_permission(permission::GLOBAL) {

@@ -6,7 +6,7 @@ use Rattle.cheri_model.specs.Rounding.{rounded_base, rounded_top}
 use Rattle.cheri_model.specs.Capability.{Capability, IsLawful, b_field, t_field, upper_of, word_of}
 use Rattle.cheri_model.specs.EditedWords.{with_bounds_fields, with_rounded_fields, with_rounded_bounds}
 use Rattle.cheri_model.proofs.Roundings.{rounded_length, rounded_base_below, rounding_ordered, rounded_base_multiple, rounded_top_multiple, exponent_of_rounding, internal_exponent_of_rounding}
-use Rattle.cheri_model.proofs.RoundingsWithin.{IsAligned, rounded_base_within, rounded_top_within, asked_base_in_window}
+use Rattle.cheri_model.proofs.RoundingsWithin.{IsAligned, rounded_base_within, rounded_top_within, requested_base_in_window}
 use Rattle.cheri_model.proofs.WordsBack.{upper_of_word}
 use Rattle.cheri_model.proofs.FieldsEdited.{upper_with_bounds}
 use Rattle.cheri_model.proofs.WordsEdited.{IsWordOf, word_from_upper}
@@ -45,7 +45,7 @@ lawful_with_rounding c len h from to =
       base_fits = rounded_base_multiple c.addr len fits;
       top_fits = rounded_top_multiple c.addr len fits;
       addr_below = h.addr_below;
-      in_window = asked_base_in_window c.addr len fits;
+      in_window = requested_base_in_window c.addr len fits;
     }
 
 pub word_with_rounded_bounds : (c : Capability) (len : ℕ) → IsLawful c → c.base ≤ c.addr → c.addr + len ≤ c.top →

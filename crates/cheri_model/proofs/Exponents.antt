@@ -125,3 +125,6 @@ granule_is_power len = (granule_bits len, granule_power len)
 pub ruleset exponent_laws = (exponent_small, exponent_bottom, exponent_top, exponent_greatest, exponent_at_most)
 
 pub ruleset granule_laws = (granule_small, granule_long, granule_is_power)
+
+-- the internal exponent bit on either side of 2^12
+pub ruleset internal_exponent_laws = (internal_exponent_small, internal_exponent_long)

@@ -1,5 +1,5 @@
--- The fields B and T of a rounding have 14 and 12 bits: with IE 1 the digits of the bounds have three zeros, in which
--- the exponent stands.
+-- The fields B and T of a rounding have 14 and 12 bits: with IE 1 the digits of the bounds have three zeros, in
+-- which the exponent is.
 use Rattle.std.proofs.Common.{◌≡◌, ℕ, ◌+◌, ◌-◌, ◌*◌, ◌/◌, ◌^◌, ◌<◌, ◌≤◌, refl, inl, inr, ◌∙◌, arith}
 use Rattle.std.proofs.lemmas.Bool.{cases_lt}
 use Rattle.std.proofs.lemmas.Nat.{pow_pos, pow-add}

@@ -1,4 +1,5 @@
--- The exponent of a rounding is that of the asked length, or one more where the widened range is too long for it.
+-- The exponent of a rounding is that of the requested length, or one more where the widened range is too long
+-- for it.
 use Rattle.std.proofs.Common.{◌≡◌, ℕ, ◌+◌, ◌*◌, ◌^◌, ◌<◌, ◌≤◌, inl, inr, ◌∙◌, arith}
 use Rattle.std.proofs.lemmas.Bool.{cases_lt}
 use Rattle.std.proofs.lemmas.Nat.{pow_pos, pow-add}
@@ -29,3 +30,6 @@ rounding_exponent_next base len long within too_long =
       | inl earlier ↦ omega (arith, no_exponent_before len m earlier, widened_length_above base len m)
       | inr not_earlier ↦ (let same : m ≡ e = omega arith in rw same too_long)
     ])
+
+-- the exponent of a rounding: the length's own, or one more
+pub ruleset rounding_steps = (rounding_exponent_same, rounding_exponent_next)

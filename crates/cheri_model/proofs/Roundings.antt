@@ -1,5 +1,5 @@
--- The rounding of an asked range: how long it is at each exponent, at which exponent the search ends, and what
--- the rounded bounds are multiples of.
+-- The rounding of a requested range: how long it is at each exponent, at which exponent the search ends, and
+-- what the rounded bounds are multiples of.
 use Rattle.std.proofs.Common.{◌≡◌, ℕ, ◌+◌, ◌-◌, ◌*◌, ◌%◌, ◌^◌, ◌<◌, ◌≤◌, zero, suc, nat_lt, if◌then◌else◌, refl, sym, ◌∙◌, inl, inr, le_trans, lit<, lt-ltb, le-ltb, arith}
 use Rattle.std.proofs.lemmas.Bool.{cases_lt}
 use Rattle.std.proofs.lemmas.Nat.{pow_pos}
@@ -68,7 +68,7 @@ pub rounded_top_is : (base len : ℕ) → rounded_top base len ≡ round_up (2 ^
 unfolding rounded_top
 rounded_top_is base len = rw (rounding_granule_power base len) refl
 
--- the rounding holds the asked range
+-- the rounding holds the requested range
 pub rounded_base_at_most : (base len : ℕ) → rounded_base base len ≤ base
 rounded_base_at_most base len =
     let bits = rounding_bits base len in
@@ -132,7 +132,8 @@ pub rounded_length_bottom : (base len : ℕ) → 2 ^ 12 ≤ len → 2 ^ (roundin
 rounded_length_bottom base len long =
     rw (rounded_length_long base len long, rounding_exponent_long base len long) (widened_length_from base len _ long refl)
 
--- the rounded length has the rounding's exponent, the asked length's internal exponent bit, and the rounding's granule
+-- the rounded length has the rounding's exponent, the requested length's internal exponent bit, and the
+-- rounding's granule
 pub exponent_of_rounding : (base len : ℕ) → len ≤ 2 ^ 64 → exponent (rounded_length base len) ≡ rounding_exponent base len
 exponent_of_rounding base len fits =
     elim (cases_lt len (2 ^ 12)) [
@@ -184,7 +185,7 @@ rounded_top_below base len fits within =
     (round_up_least (2 ^ bits) (2 ^ 64) (base + len) (pow_pos bits)
     (multiple_of_lower_power bits 64 (2 ^ 64) (omega (arith, rounding_bits_at_most base len fits)) refl) within)
 
--- what the rounded length has of the asked one and of the rounding
+-- what the rounded length has of the requested one and of the rounding
 pub ruleset rounded_length_laws = (exponent_of_rounding, internal_exponent_of_rounding, granule_of_rounding, rounded_length_bottom, rounded_length_top)
 
 -- that the rounding is bounds that a capability can have

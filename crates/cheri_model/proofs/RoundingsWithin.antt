@@ -1,5 +1,5 @@
--- Roundings inside bounds: a range inside bounds that a capability can have is rounded inside them, such bounds are
--- rounded to themselves, and the asked base is in the window of the rounding.
+-- Roundings inside bounds: a range inside bounds that a capability can have is rounded inside them, such bounds
+-- are rounded to themselves, and the requested base is in the window of the rounding.
 use Rattle.std.proofs.Common.{◌≡◌, ℕ, ◌+◌, ◌-◌, ◌*◌, ◌%◌, ◌^◌, ◌<◌, ◌≤◌, inl, inr, lit<, le_antisymm, arith}
 use Rattle.std.proofs.lemmas.Bool.{cases_lt}
 use Rattle.std.proofs.lemmas.Nat.{pow_pos, pow-add}
@@ -10,7 +10,7 @@ use Rattle.cheri_model.specs.Window.{IsInWindow, window_offset}
 use Rattle.cheri_model.specs.Rounding.{rounding_exponent, rounded_base, rounded_top}
 use Rattle.cheri_model.proofs.Exponents.{least_fit_least, exponent_top, granule_bits, granule_bits_long, granule_power, granule_long}
 use Rattle.cheri_model.proofs.Multiples.{round_down_at_most, round_down_near, round_down_greatest, round_up_least, multiple_of_lower_power}
-use Rattle.cheri_model.proofs.Roundings.{widened_length, rounding_exponent_long, rounding_bits, rounding_bits_small, rounding_bits_long, rounded_length, rounded_base_is, rounded_top_is, rounded_base_at_most, rounded_top_at_least, exponent_of_rounding, rounded_base_multiple, rounded_top_multiple}
+use Rattle.cheri_model.proofs.Roundings.{rounded_bounds_laws, widened_length, rounding_exponent_long, rounding_bits, rounding_bits_small, rounding_bits_long, rounded_length, rounded_base_is, rounded_top_is, rounded_base_at_most, rounded_top_at_least, exponent_of_rounding, rounded_base_multiple, rounded_top_multiple}
 
 -- bounds that are multiples of the granule of their length
 pub record IsAligned (base top : ℕ) : Type 0 where
@@ -105,10 +105,10 @@ rounding_bits_near base len =
       | inr long ↦ pow-le-pow_right {n = 2} (lit< tt) (omega (arith, rounding_bits_long base len long))
     ]
 
--- the asked base is in the window of the rounding
-pub asked_base_in_window : (base len : ℕ) → len ≤ 2 ^ 64 → IsInWindow (rounded_base base len) (rounded_length base len) base
+-- the requested base is in the window of the rounding
+pub requested_base_in_window : (base len : ℕ) → len ≤ 2 ^ 64 → IsInWindow (rounded_base base len) (rounded_length base len) base
 unfolding IsInWindow
-asked_base_in_window base len fits =
+requested_base_in_window base len fits =
     let bits = rounding_bits base len in
     rw (exponent_of_rounding base len fits)
     (λ small. window_offset_near (rounding_exponent base len) (rounded_base base len) base small (rounded_base_at_most base len)
@@ -116,3 +116,8 @@ asked_base_in_window base len fits =
 
 -- which ranges are rounded to themselves
 pub ruleset exact_laws = (rounded_base_exact, rounded_top_exact, exact_base_fits, exact_top_fits)
+
+-- roundings are bounds, with the requested base in their window, and stay inside bounds
+pub ruleset lawful_rounding = (rounded_bounds_laws, requested_base_in_window)
+
+pub ruleset rounded_inside = (rounded_base_inside, rounded_top_inside)

@@ -1,15 +1,15 @@
 -- Values: what is known of a lawful one, and when a result is lawful.
-use Rattle.std.specs.Prelude.{◌≡◌, ℕ, ◌+◌, ◌-◌, ◌/◌, ◌%◌, ◌^◌, ◌<◌, nat_lt, Bool, true, false}
-use Rattle.std.proofs.Common.{arith, refl, ap, sym, ◌∙◌, subst, eqb-true, inl, inr}
-use Rattle.std.proofs.lemmas.Bool.{and_parts, cases_Bool, false≢true}
+use Rattle.std.specs.Prelude.{◌≡◌, ℕ, ◌/◌, ◌^◌, ◌<◌, Bool, true, false}
+use Rattle.std.proofs.Common.{arith, refl, ap, sym, ◌∙◌, subst, eqb-true}
+use Rattle.std.proofs.lemmas.Bool.{and_parts, false≢true}
 use Rattle.cheri_model.specs.Fields.{word_perms}
-use Rattle.cheri_model.specs.RawBounds.{corrected_top, uncorrected_top, raw_top}
 use Rattle.cheri_model.specs.Capability.{Capability, IsPermissionSet, IsLawful, unsealed_type, word_of, capability_at}
 use Rattle.cheri_model.specs.CapValue.{CapValue, valid, raw, bits_of, tag_of, parts_of, value_at, tagged_where, IsLawfulValue, IsEncoding, IsTaggedWord}
 use Rattle.cheri_model.specs.ValueFacts.{IsLawfulValue-value_at}
 use Rattle.cheri_model.specs.EditedWords.{word_with_address, word_with_upper}
 use Rattle.cheri_model.specs.Results.{is_open}
 use Rattle.cheri_model.proofs.FieldsBack.{with_null_fields_lt}
+use Rattle.cheri_model.proofs.RawWords.{raw_top_lt}
 use Rattle.cheri_model.proofs.WordsBack.{word_lt, capability_at_word_of, encoding_of}
 use Rattle.cheri_model.proofs.WordsEdited.{IsWordOf}
 
@@ -70,17 +70,6 @@ unfolding word_with_address
 word_with_address_lt word a h p = omega arith
 
 -- a top has 65 bits
-corrected_top_lt : (e base top : ℕ) → top < 2 ^ 65 → corrected_top e base top < 2 ^ 65
-unfolding corrected_top
-corrected_top_lt e base top h = elim (cases_Bool (nat_lt e 51)) [
-  | inl low ↦ rw low (elim (cases_Bool (nat_lt 1 ((top / 2 ^ 63 + 4 - base / 2 ^ 63) % 4))) [ inl apart ↦ rw apart (omega arith) | inr near ↦ rw near h ])
-  | inr high ↦ rw high h
-]
-
-raw_top_lt : (upper addr : ℕ) → raw_top upper addr < 2 ^ 65
-unfolding raw_top uncorrected_top
-raw_top_lt upper addr = corrected_top_lt _ _ _ (omega arith)
-
 pub top_lt : (v : CapValue) → IsLawfulValue v → (parts_of v).top < 2 ^ 65
 unfolding capability_at
 top_lt (valid c) h = omega (arith, h.top_at_most)

@@ -13,12 +13,13 @@ pub record IsWordOf (c : Capability) (word : ℕ) : Type 0 where
   pub lawful : IsLawful c
   pub same : word_of c ≡ word
 
--- a lawful capability with one part replaced
-pub lawful_with_otype : (c : Capability) (n : ℕ) → IsLawful c → IsLawfulType n → IsLawful (record c { otype = n })
-lawful_with_otype c n h fits = record {
-  perms = h.perms;
-  flag = h.flag;
-  otype = fits;
+-- a lawful capability with other permissions, another flag and another object type
+lawful_with_fields : (c : Capability) (perms flag otype : ℕ) → IsLawful c → IsPermissionSet perms → flag < 2 → IsLawfulType otype →
+    IsLawful (record c { perms = perms; flag = flag; otype = otype })
+lawful_with_fields c perms flag otype h known low lawful = record {
+  perms = known;
+  flag = low;
+  otype = lawful;
   base_below = h.base_below;
   ordered = h.ordered;
   top_at_most = h.top_at_most;
@@ -27,34 +28,15 @@ lawful_with_otype c n h fits = record {
   addr_below = h.addr_below;
   in_window = h.in_window;
 }
+
+pub lawful_with_otype : (c : Capability) (n : ℕ) → IsLawful c → IsLawfulType n → IsLawful (record c { otype = n })
+lawful_with_otype c n h fits = lawful_with_fields c c.perms c.flag n h h.perms h.flag fits
 
 pub lawful_with_flag : (c : Capability) (n : ℕ) → IsLawful c → n < 2 → IsLawful (record c { flag = n })
-lawful_with_flag c n h fits = record {
-  perms = h.perms;
-  flag = fits;
-  otype = h.otype;
-  base_below = h.base_below;
-  ordered = h.ordered;
-  top_at_most = h.top_at_most;
-  base_fits = h.base_fits;
-  top_fits = h.top_fits;
-  addr_below = h.addr_below;
-  in_window = h.in_window;
-}
+lawful_with_flag c n h fits = lawful_with_fields c c.perms n c.otype h h.perms fits h.otype
 
 pub lawful_with_perms : (c : Capability) (n : ℕ) → IsLawful c → IsPermissionSet n → IsLawful (record c { perms = n })
-lawful_with_perms c n h fits = record {
-  perms = fits;
-  flag = h.flag;
-  otype = h.otype;
-  base_below = h.base_below;
-  ordered = h.ordered;
-  top_at_most = h.top_at_most;
-  base_fits = h.base_fits;
-  top_fits = h.top_fits;
-  addr_below = h.addr_below;
-  in_window = h.in_window;
-}
+lawful_with_perms c n h fits = lawful_with_fields c n c.flag c.otype h fits h.flag h.otype
 
 -- the word with the upper half of another capability with the same address
 pub word_from_upper : (c d : Capability) (upper : ℕ) → IsLawful c → d.addr ≡ c.addr → upper ≡ upper_of d → word_of d ≡ word_with_upper (word_of c) upper

@@ -1,4 +1,4 @@
--- The length and the alignment that a program asks for to get exact bounds (CHERI ISA version 9, the instructions
+-- The length and the alignment that a program asks for to get exact bounds (CHERI ISA v9,
 -- CRoundRepresentableLength, CRRL, and CRepresentableAlignmentMask, CRAM).
 use Rattle.std.specs.Prelude.{ℕ, ◌-◌, ◌%◌, ◌^◌}
 use Rattle.cheri_model.specs.Lengths.{granule}

@@ -1,5 +1,4 @@
--- What a register or a granule holds: a valid capability, or a raw word without a tag (CHERI ISA version 9,
--- section 2.2, "Tags").
+-- What a register or a granule holds: a valid capability, or a raw word without a tag (CHERI ISA v9, "tags").
 use Rattle.std.specs.Prelude.{◌≡◌, ℕ, ◌^◌, ◌<◌, Bool, true, false}
 use Rattle.cheri_model.specs.Capability.{Capability, IsLawful, word_of, capability_at}
 

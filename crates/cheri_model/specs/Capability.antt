@@ -1,4 +1,4 @@
--- A capability as whole numbers, when it is lawful, and its word (CHERI ISA version 9, sections 2.3 and 3.5).
+-- A capability as whole numbers, when it is lawful, and its word (CHERI ISA v9, "capability encoding").
 use Rattle.std.specs.Prelude.{◌≡◌, ◌≢◌, ℕ, ◌+◌, ◌-◌, ◌*◌, ◌/◌, ◌%◌, ◌^◌, ◌<◌, ◌≤◌}
 use Rattle.cheri_model.specs.declared.otype.TheConstants.{UNSEALED_TYPE, SENTRY_TYPE, LAST_SEALABLE_TYPE}
 use Rattle.cheri_model.specs.Lengths.{exponent, internal_exponent, granule}

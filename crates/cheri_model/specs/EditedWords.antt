@@ -1,5 +1,5 @@
--- Edited words: a 128-bit word with one of its fields replaced. A capability instruction whose tag condition fails
--- gives such a word without a tag (CHERI ISA version 9, section 2.4 and chapter 7).
+-- Edited words: a 128-bit word with one of its fields replaced. A capability instruction whose tag condition
+-- fails gives such a word without a tag (CHERI ISA v9, "capability instructions").
 use Rattle.std.specs.Prelude.{ℕ, ◌+◌, ◌*◌, ◌/◌, ◌%◌, ◌^◌}
 use Rattle.cheri_model.specs.Lengths.{internal_exponent}
 use Rattle.cheri_model.specs.Rounding.{rounding_exponent, rounded_base, rounded_top}

@@ -1,4 +1,4 @@
--- The results of instructions that replace one field of a capability (CHERI ISA version 9, chapter 7).
+-- The results of instructions that replace one field of a capability (CHERI ISA v9, "capability instructions").
 use Rattle.std.specs.Prelude.{ℕ, ◌/◌, ◌%◌, ◌^◌, bit_and}
 use Rattle.cheri_model.specs.CapValue.{CapValue, raw, bits_of, parts_of, tagged_where}
 use Rattle.cheri_model.specs.EditedWords.{with_perms, with_flag, word_with_upper}

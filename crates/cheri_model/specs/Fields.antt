@@ -1,5 +1,5 @@
--- The fields of the upper half of a 128-bit word in memory. The places of the fields and null's fields are
--- this project's own profile; the fields are those of CHERI ISA version 9, section 3.5.
+-- The fields of the upper half of a 128-bit word in memory. The places of the fields and null's fields are this
+-- project's own profile; the fields are those of CHERI ISA v9, "capability encoding".
 use Rattle.std.specs.Prelude.{ℕ, ◌+◌, ◌*◌, ◌/◌, ◌%◌, ◌^◌, ◌==◌, nat_lt, min, bit_xor, if◌then◌else◌}
 use Rattle.cheri_model.specs.declared.encoding.TheConstants.{NULL_FIELDS, MAX_EXPONENT}
 use Rattle.cheri_model.specs.Numbers.{round_down}
@@ -35,7 +35,7 @@ word_otype upper = with_null_fields upper / 2 ^ 27 % 2 ^ 18
 unfoldable pub word_ie : ℕ → ℕ
 word_ie upper = with_null_fields upper / 2 ^ 26 % 2
 
--- T and B as they stand: with IE 1 their low three bits are the two halves of the exponent
+-- T and B as stored: with IE 1 their low three bits are the two halves of the exponent
 unfoldable pub stored_t : ℕ → ℕ
 stored_t upper = with_null_fields upper / 2 ^ 14 % 2 ^ 12
 

@@ -1,5 +1,5 @@
--- How a length fixes the encoding: its exponent and its granule (CHERI Concentrate, section 3.1;
--- CHERI ISA version 9, section 3.5.4. The widths of T and B are this project's own profile.)
+-- How a length fixes the encoding: its exponent and its granule (CHERI Concentrate, "internal exponents"; CHERI
+-- ISA v9, "capability encoding". The widths of T and B are this project's own profile.)
 use Rattle.std.specs.Prelude.{ℕ, ◌+◌, ◌^◌, nat_lt, if◌then◌else◌}
 use Rattle.cheri_model.specs.Numbers.{first_from}
 

@@ -1,6 +1,6 @@
--- Tagged memory: a map from granules of 16 bytes to values (CHERI ISA version 9, section 2.2). RAM begins at
--- 0x8000_0000 (this project's own), and granule k has the 16 bytes from there + 16 * k on. The map of n granules
--- is the list of their values.
+-- Tagged memory: a map from granules of 16 bytes to values (CHERI ISA v9, "tags"). RAM begins at 0x8000_0000
+-- (this project's own), and granule k has the 16 bytes from there + 16 * k on. The map of n granules is the
+-- list of their values.
 use Rattle.std.specs.Prelude.{◌≡◌, ℕ, ◌+◌, ◌-◌, ◌*◌, ◌/◌, ◌%◌, ◌^◌, ◌==◌, nat_lt, nat_le, Bool, true, ◌&&◌, List, length, replicate, slice_index_or, slice_set}
 use Rattle.cheri_model.specs.declared.memory.TheConstants.{RAM_BASE, GRANULE_BYTES, MAX_RAM_BYTES}
 use Rattle.cheri_model.specs.declared.width.Width.{Width}

@@ -1,6 +1,6 @@
--- The bounds of any 128-bit word, tagged or not (CHERI Concentrate, section 3.2; CHERI ISA version 9,
--- section 3.5.4; the cap of the exponent and the last step are this project's own profile for words that
--- no instruction makes).
+-- The bounds of any 128-bit word, tagged or not (CHERI Concentrate, "decoding of bounds"; CHERI ISA v9,
+-- "capability encoding"; the cap of the exponent and the last step are this project's own profile for words
+-- that no instruction makes).
 use Rattle.std.specs.Prelude.{ℕ, ◌+◌, ◌-◌, ◌*◌, ◌/◌, ◌%◌, ◌^◌, nat_lt, if◌then◌else◌}
 use Rattle.cheri_model.specs.Numbers.{congruent_below}
 use Rattle.cheri_model.specs.Fields.{word_exponent, word_b, word_t14}

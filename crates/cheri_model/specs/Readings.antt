@@ -1,5 +1,6 @@
--- The integers that instructions read off a value, tagged or not, and its comparisons (CHERI ISA version 9,
--- chapter 7). CGetAddr is `address_of` and CGetLen is `length_of`, in `Results`; CGetTag is `tag_of`.
+-- The integers that instructions read off a value, tagged or not, and its comparisons (CHERI ISA v9,
+-- "capability instructions"). CGetAddr is `address_of` and CGetLen is `length_of`, in `Results`; CGetTag is
+-- `tag_of`.
 use Rattle.std.specs.Prelude.{ℕ, ◌+◌, ◌-◌, ◌/◌, ◌%◌, ◌^◌, ◌==◌, nat_le, nat_lt, Bool, true, false, not, ◌&&◌, bit_and, if◌then◌else◌}
 use Rattle.cheri_model.specs.Capability.{Capability, unsealed_type, last_sealable_type}
 use Rattle.cheri_model.specs.CapValue.{CapValue, bits_of, tag_of, parts_of}
@@ -30,7 +31,7 @@ base_of v = (parts_of v).base
 abbrev pub top_of : CapValue → ℕ
 top_of v = (parts_of v).top
 
--- CGetHigh: the upper half as it stands in memory
+-- CGetHigh: the upper half as in memory
 abbrev pub high_of : CapValue → ℕ
 high_of v = bits_of v / 2 ^ 64
 

@@ -1,7 +1,7 @@
--- The results of capability instructions on addresses and bounds, as functions of values (CHERI ISA version 9,
--- chapter 7; what is this project's own is said at the definition). Each gives a tagged capability where a
--- condition holds, and else the same edited word without a tag. The other results are in `FieldResults`,
--- `SealResults` and `Readings`.
+-- The results of capability instructions on addresses and bounds, as functions of values (CHERI ISA v9,
+-- "capability instructions"; what is this project's own is said at the definition). Each gives a tagged
+-- capability where a condition holds, and else the same edited word without a tag. The other results are in
+-- `FieldResults`, `SealResults` and `Readings`.
 use Rattle.std.specs.Prelude.{ℕ, ℤ, ◌+◌, ◌-◌, ◌/◌, ◌%◌, ◌^◌, ◌==◌, nat_le, min, Bool, ◌&&◌}
 use Rattle.std.specs.Int.{cast_unsigned, w64}
 use Rattle.cheri_model.specs.Window.{is_in_window}

@@ -1,5 +1,5 @@
--- Rounding of an asked range to bounds that a capability can have (CHERI Concentrate, section 3.3;
--- CHERI ISA version 9, the instruction CSetBounds).
+-- Rounding of a requested range to bounds that a capability can have (CHERI Concentrate, "encoding of bounds";
+-- CHERI ISA v9, CSetBounds).
 use Rattle.std.specs.Prelude.{ℕ, ◌+◌, ◌-◌, ◌^◌, nat_lt, if◌then◌else◌}
 use Rattle.cheri_model.specs.Numbers.{round_down, round_up, first_from}
 
@@ -14,10 +14,10 @@ rounding_exponent base len =
 unfoldable pub rounding_granule : ℕ → ℕ → ℕ
 rounding_granule base len = if nat_lt len (2 ^ 12) then 1 else 2 ^ (rounding_exponent base len + 3)
 
--- the base of the rounding: the asked one, rounded down
+-- the base of the rounding: the requested one, rounded down
 unfoldable pub rounded_base : ℕ → ℕ → ℕ
 rounded_base base len = round_down (rounding_granule base len) base
 
--- the top of the rounding: the asked one, rounded up
+-- the top of the rounding: the requested one, rounded up
 unfoldable pub rounded_top : ℕ → ℕ → ℕ
 rounded_top base len = round_up (rounding_granule base len) (base + len)

@@ -1,5 +1,5 @@
--- The results of sealing and unsealing (CHERI ISA version 9, section 2.3.7 and chapter 7). Which object types can
--- be sealed with, and that a sentry is made only of a capability with Execute, are this project's own.
+-- The results of sealing and unsealing (CHERI ISA v9, "sealed capabilities"). Which object types can be sealed
+-- with, and that a sentry is made only of a capability with Execute, are this project's own.
 use Rattle.std.specs.Prelude.{ℕ, ◌*◌, ◌/◌, ◌%◌, ◌^◌, ◌==◌, nat_le, Bool, ◌&&◌, if◌then◌else◌}
 use Rattle.cheri_model.specs.declared.permission.TheConstants.{GLOBAL, EXECUTE, SEAL, UNSEAL}
 use Rattle.cheri_model.specs.Capability.{unsealed_type, sentry_type, last_sealable_type}

@@ -1,5 +1,5 @@
 -- The window, or representable region: the addresses that a capability can take without losing its bounds
--- (CHERI Concentrate, section 3.2; CHERI ISA version 9, section 3.5.4).
+-- (CHERI Concentrate, "representable region"; CHERI ISA v9, "capability encoding").
 use Rattle.std.specs.Prelude.{ℕ, ◌+◌, ◌-◌, ◌%◌, ◌^◌, ◌<◌, nat_lt, nat_le, Bool, ◌||◌}
 use Rattle.cheri_model.specs.Numbers.{round_down}
 use Rattle.cheri_model.specs.Lengths.{exponent}

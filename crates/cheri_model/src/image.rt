@@ -18,7 +18,7 @@ use crate::value::Value;
 use std::alloc::{AllocError, Global};
 use std::marker::Model;
 
-/// A refused growth of memory.
+/// Out of memory.
 pub type NoMemory = AllocError;
 
 /// The most instructions of a program; it has at least one.
@@ -34,8 +34,9 @@ pub struct HartImage {
     pub regs: [Value; 31],
 }
 
-/// A program of 1 to 16,384 instructions, the size of RAM (a multiple of 16 bytes, from 16 to 1,048,576), the
-/// granules that are tagged or not all 0, each with its address, in rising order, and 1 to 8 harts.
+/// A program of 1 to 16,384 instructions, the size of RAM (a multiple of 16 bytes, from 16 to
+/// 1,048,576), the granules that are tagged or not all 0, each with its address, in rising order,
+/// and 1 to 8 harts.
 #[derive(Debug, Drop)]
 pub struct Image {
     program: Vec<Instr>,
@@ -86,7 +87,7 @@ impl Eq for Image {
     ghost laws = { Prim.search (comparing, rules, instr_equal.laws-law, value_equal.laws-law, hart_equal.laws-law) depth 9 };
 }
 
-/// Whether a granule may be listed in an image with this RAM, behind granules below `from`.
+/// Whether a granule may be listed in an image with this RAM, after granules below `from`.
 fn is_granule(ram: u32, from: u64, addr: u64, value: Value) -> bool
     ensures { result ≡ is_granule ram from addr value }
 {
@@ -112,8 +113,8 @@ fn are_granules(ram: u32, granules: &[(u64, Value)]) -> bool
 }
 
 impl Image {
-    /// The image of these parts; none exactly where a size is out of its limits or a granule cannot be listed
-    /// where it stands. Takes no memory.
+    /// The image of these parts. `None` exactly where a size is outside its limits or a granule
+    /// cannot be listed at its place. Takes no memory.
     #[tactic(auto, unfolding(crate::specs::ImageForm::image_of, crate::specs::ImageForm::is_image))]
     pub fn new(
         program: Vec<Instr>,
@@ -167,7 +168,7 @@ impl Image {
         self.harts.as_slice()
     }
 
-    /// An image with the same parts. Only want of memory is refused.
+    /// An image with the same parts. Fails only when out of memory.
     pub fn copy(&self, alloc: Global) -> Result<Image, NoMemory>
         ensures { IfOk result (λ copy. copy ≡ self.now) }
     {

@@ -1,4 +1,5 @@
-//! The laws over the definitions: each function's contract is one law, and the function does nothing.
+//! The laws over the definitions: each function's contract is one law, and the function does
+//! nothing.
 
 pub mod alignment;
 pub mod lengths;

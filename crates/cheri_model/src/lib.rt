@@ -1,8 +1,9 @@
 //! The types and definitions of a CHERI-RISC-V capability machine of several harts.
 //!
-//! `specs/` has the definitions that every other crate is proved against, from the multiples that bounds are
-//! made of up to the replay of a trace. This crate's types are the plain data that crosses between crates, and
-//! [`laws`] has the functions whose contracts are the laws over the definitions.
+//! `specs/` has the definitions that every other crate is proved against, from the multiples that
+//! bounds are made of up to the replay of a trace. This crate's types are the plain data that
+//! crosses between crates, and [`laws`] has the functions whose contracts are the laws over the
+//! definitions.
 #![tactic(auto)]
 
 mod encoding;

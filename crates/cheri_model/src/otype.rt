@@ -1,4 +1,5 @@
-//! Object types (CHERI ISA v9, "object types"). Which numbers are sealable or reserved is this project's own.
+//! Object types (CHERI ISA v9, "object types"). Which numbers are sealable or reserved is this
+//! project's own.
 
 ghost use Rattle.std.specs.Prelude.{◌≡◌, ℕ, ◌^◌, ◌<◌};
 
@@ -10,7 +11,8 @@ pub const UNSEALED_TYPE: u32 = 0x3_FFFF;
 /// The object type of a sealed entry (sentry), which can only be jumped to.
 pub const SENTRY_TYPE: u32 = 0x3_FFFE;
 
-/// The greatest object type that CSeal can give. The two numbers between it and the sentry's are reserved.
+/// The greatest object type that CSeal can give. The two numbers between it and the sentry's are
+/// reserved.
 pub const LAST_SEALABLE_TYPE: u32 = 0x3_FFFB;
 
 /// An object type: a number below 2^18.

@@ -1,5 +1,5 @@
-//! Permission numbers: permission n is bit n of what CGetPerm shows (CHERI ISA v9, "capability permissions"). The
-//! numbers are this project's own.
+//! Permission numbers: permission n is bit n of what CGetPerm shows (CHERI ISA v9, "capability
+//! permissions"). The numbers are this project's own.
 
 /// May be stored through any authority to store capabilities.
 pub const GLOBAL: u32 = 0;

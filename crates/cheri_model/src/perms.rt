@@ -8,8 +8,8 @@ ghost use Rattle.cheri_model.specs.PermissionNames.{known_permissions};
 use crate::permission;
 use bitflags::{Flag, Flags};
 
-/// A set of permissions in the form that CGetPerm shows: bit n is the permission with this number, from 0 to 11
-/// for the architectural ones and from 15 to 18 for those left to software.
+/// A set of permissions in the form that CGetPerm shows: bit n is the permission with this number,
+/// from 0 to 11 for the architectural ones and from 15 to 18 for those left to software.
 #[derive(Clone, Copy, Debug, PartialEq, Eq)]
 pub struct Perms(u32);
 
@@ -117,7 +117,8 @@ impl Perms {
         },
     ];
 
-    /// The permissions among these bits, as CGetPerm shows them. Bits that no permission has are dropped.
+    /// The permissions among these bits, as CGetPerm shows them. Bits that no permission has are
+    /// dropped.
     #[tactic(auto, using(crate::proofs::PermissionSets::dropped_bits_leave_set))]
     pub fn known_bits(self) -> u32
         ensures value { result ≡ known_permissions self.0 }

@@ -1,12 +1,20 @@
 //! Values of 128 bits and a tag.
 
 ghost use Rattle.std.specs.Prelude.{◌≡◌, ◌/◌, ◌%◌, ◌^◌, ◌<◌};
-ghost use Rattle.cheri_model.specs.CapValue.{raw, valid, bits_of, tag_of, parts_of, IsEncoding, IsLawfulValue};
+ghost use Rattle.cheri_model.specs.CapValue.{
+  raw,
+  valid,
+  bits_of,
+  tag_of,
+  parts_of,
+  IsEncoding,
+  IsLawfulValue,
+};
 ghost use Rattle.cheri_model.specs.Capability.{capability_at};
 
 use std::marker::Model;
 
-/// What a register or a granule holds: 128 bits and a tag (CHERI ISA version 9, section 2.2). A tagged value is
+/// What a register or a granule holds: 128 bits and a tag (CHERI ISA v9, "tags"). A tagged value is
 /// the word of a lawful capability.
 #[derive(Clone, Copy, Debug, PartialEq, Eq)]
 pub struct Value {
@@ -48,7 +56,7 @@ impl Value {
         Value { bits, tag: true }
     }
 
-    /// The 128 bits as they stand in memory.
+    /// The 128 bits as in memory.
     pub fn bits(self) -> u128
         ensures value { result ≡ bits_of self }
         ensures lawful { IsLawfulValue self }

@@ -1,7 +1,7 @@
-//! Tagged memory: RAM with one tag for each granule of 16 bytes (CHERI ISA version 9, section 2.2).
+//! Tagged memory: RAM with one tag for each granule of 16 bytes (CHERI ISA v9, "tags").
 //!
-//! Contracts see memory as a map, the list of its granules' values: `specs/Memory.antt` of `cheri_model` says
-//! what each access reads and what it leaves.
+//! Contracts see memory as a map, the list of its granules' values: `specs/Memory.antt` of
+//! `cheri_model` says what each access reads and what it leaves.
 #![tactic(auto)]
 
 mod bytes;

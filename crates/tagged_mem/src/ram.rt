@@ -2,7 +2,20 @@
 
 ghost use Rattle.std.specs.Prelude.{◌≡◌, ◌*◌, ◌<◌, ◌≤◌, ◌↔◌, false, length, IfOk, IfErr, IsTrue};
 ghost use Rattle.cheri_model.specs.CapValue.{IsLawfulValue};
-ghost use Rattle.cheri_model.specs.Memory.{ram_base, bytes_of, granule_number, granule_at, is_ram_size, cleared_memory, fits, load_data, store_data, load_capability, store_capability, IsMemory};
+ghost use Rattle.cheri_model.specs.Memory.{
+  ram_base,
+  bytes_of,
+  granule_number,
+  granule_at,
+  is_ram_size,
+  cleared_memory,
+  fits,
+  load_data,
+  store_data,
+  load_capability,
+  store_capability,
+  IsMemory,
+};
 
 use crate::bytes::{bytes_at, with_bytes};
 use crate::fault::MemFault;
@@ -11,8 +24,8 @@ use cheri_model::{GRANULE_BYTES, MAX_RAM_BYTES, RAM_BASE, Width};
 use std::alloc::Global;
 use std::marker::Model;
 
-/// RAM from 0x8000_0000 on, of a multiple of 16 bytes from 16 to 1,048,576. Each granule of 16 aligned bytes has
-/// a tag.
+/// RAM from 0x8000_0000 on, of a multiple of 16 bytes from 16 to 1,048,576. Each granule of 16
+/// aligned bytes has a tag.
 #[derive(Debug, Drop)]
 pub struct Ram {
     granules: Vec<Cap>,
@@ -51,7 +64,7 @@ impl Ram {
         Ok(Ram { granules })
     }
 
-    /// RAM of the same size and values. Only want of memory is refused.
+    /// RAM of the same size and values. Fails only when out of memory.
     pub fn copy(&self, alloc: Global) -> Result<Ram, MemFault>
         ensures same { IfOk result (λ copy. copy ≡ self.now) }
         ensures refused { IfErr result (λ fault. fault ≡ MemFault.NoMemory) }
@@ -105,7 +118,8 @@ impl Ram {
         bytes_at(word, addr % u64::from(GRANULE_BYTES), width)
     }
 
-    /// Stores the low bytes of `number` from `addr` on, the least significant first. The granule loses its tag.
+    /// Stores the low bytes of `number` from `addr` on, the least significant first. The granule
+    /// loses its tag.
     #[tactic(auto, unfolding(cheri_model::specs::Memory::granule_at, cheri_model::specs::Memory::store_data))]
     pub fn store(&mut self, addr: u64, width: Width, number: u64)
         requires { IsTrue (fits self.old addr (bytes_of width)) }
@@ -133,6 +147,7 @@ impl Ram {
         requires { IsTrue (fits self.old addr 16) }
         ensures { self.new ≡ store_capability self.old addr value }
     {
+        // The contract of `bits` says that the value is lawful.
         let _lawful = value.bits();
         self.granules[granule_number(addr)] = value;
     }

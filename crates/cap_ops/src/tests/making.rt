@@ -52,7 +52,8 @@ fn refuses_what_has_no_word(rt: HostRuntime) {
     }
 }
 
-/// Each permission by itself: its number, its constant, and the upper half of sixteen bytes with it alone.
+/// Each permission by itself: its number, its constant, and the upper half of sixteen bytes with it
+/// alone.
 const ALONE: [(u32, Perms, u64); 16] = [
     (0, Perms::GLOBAL, 0x0001_0000_0405_8004),
     (1, Perms::EXECUTE, 0x0002_0000_0405_8004),

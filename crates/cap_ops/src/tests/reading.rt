@@ -3,7 +3,8 @@
 use super::*;
 use cheri_model::Value;
 
-/// What is read off a word: the permissions, the type, the bounds, the length, the offset, the flag.
+/// What is read off a word: the permissions, the type, the bounds, the length, the offset, the
+/// flag.
 type Read = (u32, u64, u64, u128, u64, u64, u8);
 
 /// The root capability: the whole address space with every permission.

@@ -11,7 +11,7 @@ fn repeated<T: Copy>(alloc: Global, item: T, count: usize) -> Result<Vec<T>, NoM
     Ok(items)
 }
 
-/// The image with so many instructions `ecall`, so much RAM, these granules, and so many harts that hold null.
+/// An image of this many `ecall`s, bytes of RAM and harts that hold null, with these granules.
 fn image_with(
     alloc: Global,
     instructions: usize,

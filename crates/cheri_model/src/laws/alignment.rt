@@ -1,4 +1,4 @@
-//! The law of CRRL and CRAM (CHERI ISA version 9, the instructions CRoundRepresentableLength and
+//! The law of CRRL and CRAM (CHERI ISA v9, CRoundRepresentableLength and
 //! CRepresentableAlignmentMask).
 
 ghost use Rattle.std.specs.Prelude.{◌≡◌, ℕ, ◌+◌, ◌%◌, ◌^◌, ◌<◌, ◌≤◌, bit_and};
@@ -7,8 +7,8 @@ ghost use Rattle.cheri_model.specs.Lengths.{granule};
 ghost use Rattle.cheri_model.specs.Rounding.{rounded_base, rounded_top};
 ghost use Rattle.cheri_model.specs.Alignment.{length_at_zero, representable_length, alignment_mask};
 
-/// A range whose length is one that CRRL gives, at a base that is a multiple of that length's granule, is rounded
-/// to itself.
+/// A range whose length is one that CRRL gives, at a base that is a multiple of that length's
+/// granule, is rounded to itself.
 #[tactic(auto, using(crate::proofs::Alignments::aligned_laws))]
 pub fn representable_length_is_exact()
     ensures base { (base len : ℕ) → len ≤ 2 ^ 64 → base % granule (length_at_zero len) ≡ 0 →
@@ -17,12 +17,14 @@ pub fn representable_length_is_exact()
         rounded_top base (length_at_zero len) ≡ base + length_at_zero len }
 {}
 
-/// The length that CRRL gives is at least the asked one and at most 2^64, for which a register holds 0.
+/// The length that CRRL gives is at least the requested one and at most 2^64, for which a register
+/// holds 0.
 #[tactic(auto, using(crate::proofs::Alignments::length_laws))]
 pub fn representable_length_is_enough()
     ensures enough { (len : ℕ) → len ≤ length_at_zero len }
     ensures at_most { (len : ℕ) → len ≤ 2 ^ 64 → length_at_zero len ≤ 2 ^ 64 }
-    ensures whole { (len : ℕ) → length_at_zero len < 2 ^ 64 → representable_length len ≡ length_at_zero len }
+    ensures whole { (len : ℕ) → length_at_zero len < 2 ^ 64 → representable_length len ≡
+        length_at_zero len }
     ensures wrapped { (len : ℕ) → length_at_zero len ≡ 2 ^ 64 → representable_length len ≡ 0 }
 {}
 

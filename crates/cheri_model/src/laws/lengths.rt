@@ -1,4 +1,4 @@
-//! Laws on the exponent and the granule of a length (CHERI Concentrate, section 3.1).
+//! Laws on the exponent and the granule of a length (CHERI Concentrate, "internal exponents").
 
 ghost use Rattle.std.specs.Prelude.{◌≡◌, ℕ, ◌+◌, ◌*◌, ◌/◌, ◌^◌, ◌<◌, ◌≤◌, Bool, IsTrue, IsFalse};
 ghost use Rattle.cheri_model.specs.Numbers.{first_from};
@@ -9,13 +9,16 @@ ghost use Rattle.cheri_model.specs.Lengths.{exponent, internal_exponent, granule
 pub fn search_finds_the_least()
     ensures passes { (test : ℕ → Bool) (tries k n : ℕ) → k ≤ n → n < k + tries → IsTrue (test n) →
         IsTrue (test (first_from test tries k)) }
-    ensures least { (test : ℕ → Bool) (tries k n : ℕ) → k ≤ n → IsTrue (test n) → first_from test tries k ≤ n }
-    ensures none_before { (test : ℕ → Bool) (tries k n : ℕ) → k ≤ n → n < first_from test tries k → IsFalse (test n) }
+    ensures least { (test : ℕ → Bool) (tries k n : ℕ) → k ≤ n → IsTrue (test n) →
+        first_from test tries k ≤ n }
+    ensures none_before { (test : ℕ → Bool) (tries k n : ℕ) → k ≤ n →
+        n < first_from test tries k → IsFalse (test n) }
     ensures from { (test : ℕ → Bool) (tries k : ℕ) → k ≤ first_from test tries k }
     ensures within { (test : ℕ → Bool) (tries k : ℕ) → first_from test tries k ≤ k + tries }
 {}
 
-/// The exponent of a length is 0 below 2^13, and from there on the greatest e with 2^(e+12) at most the length.
+/// The exponent of a length is 0 below 2^13, and from there on the greatest e with 2^(e+12) at most
+/// the length.
 #[tactic(auto, using(crate::proofs::Exponents::exponent_laws))]
 pub fn exponent_is_greatest()
     ensures small { (len : ℕ) → len < 2 ^ 13 → exponent len ≡ 0 }
@@ -28,12 +31,13 @@ pub fn exponent_is_greatest()
 /// The exponent of a length is the number of binary digits of the length divided by 2^13.
 #[tactic(auto, using(crate::proofs::Exponents::exponent_digits))]
 pub fn exponent_counts_digits()
-    ensures { (len digits : ℕ) → len ≤ 2 ^ 64 → len / 2 ^ 13 < 2 ^ digits → 2 ^ digits ≤ 2 * (len / 2 ^ 13) + 1 →
+    ensures { (len digits : ℕ) → len ≤ 2 ^ 64 → len / 2 ^ 13 < 2 ^ digits →
+        2 ^ digits ≤ 2 * (len / 2 ^ 13) + 1 →
         exponent len ≡ digits }
 {}
 
 /// The internal exponent bit is 0 below 2^12, and 1 from there on.
-#[tactic(auto, using(crate::proofs::Exponents::internal_exponent_small, crate::proofs::Exponents::internal_exponent_long))]
+#[tactic(auto, using(crate::proofs::Exponents::internal_exponent_laws))]
 pub fn internal_exponent_by_length()
     ensures small { (len : ℕ) → len < 2 ^ 12 → internal_exponent len ≡ 0 }
     ensures long { (len : ℕ) → 2 ^ 12 ≤ len → internal_exponent len ≡ 1 }

@@ -131,7 +131,8 @@ fn loads_at_each_offset(rt: HostRuntime) -> Result<(), Fail> {
     Ok(())
 }
 
-/// Whether the bytes from `offset` on, `count` of them, are 0x11, 0x22 and so on, and all others are 0xFF.
+/// Whether the bytes from `offset` on, `count` of them, are 0x11, 0x22 and so on, and all others
+/// are 0xFF.
 fn has_stored_bytes(rt: &impl Abort, ram: &Ram, offset: u64, count: u64) -> bool {
     for place in 0..16 {
         let inside = place >= offset && place - offset < count;
@@ -213,8 +214,8 @@ fn swaps_the_last_granule(rt: HostRuntime) -> Result<(), Fail> {
     Ok(())
 }
 
-/// Store number n of a fixed pattern over 256 bytes: each tenth a tagged capability, the others data of the four
-/// widths in turn.
+/// Store number n of a fixed pattern over 256 bytes: each tenth a tagged capability, the others
+/// data of the four widths in turn.
 fn store_number(rt: &impl Abort, ram: &mut Ram, n: u64) {
     if n % 10 == 9 {
         store_cap_at(rt, ram, 0x8000_0000 + n / 10 % 16 * 16, readable(rt));
@@ -226,7 +227,8 @@ fn store_number(rt: &impl Abort, ram: &mut Ram, n: u64) {
     store_at(rt, ram, 0x8000_0000 + offset, width, number);
 }
 
-/// After a fixed pattern of stores each granule, of the memory and of its copy, is that of a plain list.
+/// After a fixed pattern of stores each granule, of the memory and of its copy, is that of a plain
+/// list.
 #[test]
 fn stores_in_a_fixed_pattern(rt: HostRuntime) -> Result<(), Fail> {
     let mut ram = Ram::new(rt.alloc(), 256)?;
