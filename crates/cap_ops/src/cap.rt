@@ -62,14 +62,14 @@ impl Cap {
         }
     }
 
-    /// The same bits and tag, as they stand in an image.
+    /// A value of an image, with the same bits and tag.
     pub fn of_value(value: Value) -> Cap
         ensures { result ≡ value }
     {
         Cap { value }
     }
 
-    /// The same bits and tag, as they stand in an image.
+    /// This value as an image holds it, with the same bits and tag.
     pub fn value(self) -> Value
         ensures value { result ≡ self }
         ensures lawful { IsLawfulValue self }

@@ -59,7 +59,7 @@ impl Cap {
     }
 
     /// Unsealed, with the tag as it is: what a jump makes of a sentry, and of a sealed pair (CJALR,
-    /// CInvoke). No authority is asked for; the jump makes its own checks.
+    /// CInvoke). It needs no authority; the jump makes its own checks.
     pub fn unsealed(self) -> Cap
         ensures { result ≡ unsealed self }
     {

@@ -51,7 +51,7 @@ alignment_mask_aligns len address fits below =
     rw (length_at_zero_granule len fits)
     (and_high_mask 64 (rounding_bits 0 len) (omega (arith, rounding_bits_at_most 0 len fits)) address below)
 
--- how the length at base 0, and the representable length, stand to the requested one
+-- how the length at base 0, and the representable length, compare with the requested one
 pub ruleset length_laws = (length_at_zero_from, length_at_zero_at_most, representable_length_whole, representable_length_none)
 
 pub ruleset aligned_laws = (aligned_base_exact, aligned_top_exact)

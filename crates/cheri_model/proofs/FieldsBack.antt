@@ -52,12 +52,12 @@ module _ (upper perms flag otype ie t b : ℕ) (h : HasFields upper perms flag o
   unfolding word_ie
   has_ie = rw h.packed (omega arith)
 
-  -- its T as it stands
+  -- its T as stored
   pub has_t : stored_t upper ≡ t
   unfolding stored_t
   has_t = rw h.packed (omega arith)
 
-  -- its B as it stands
+  -- its B as stored
   pub has_b : stored_b upper ≡ b
   unfolding stored_b
   has_b = rw h.packed (omega arith)

@@ -15,7 +15,7 @@ pub record Capability : Type 0 where
   pub flag : ℕ
   pub otype : ℕ
 
--- the object types that stand for unsealed and for a sealed entry (sentry)
+-- the object types of what is unsealed and of a sealed entry (sentry)
 abbrev pub unsealed_type : ℕ
 unsealed_type = UNSEALED_TYPE
 
