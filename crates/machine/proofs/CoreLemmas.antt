@@ -1,7 +1,10 @@
 -- A core that is booted, and one that has stepped, keep what every core keeps.
 use Rattle.std.proofs.Common.{◌≡◌, ℕ, ◌<◌, Bool, true, false, not, ltb-true, List, [], ◌∷◌, ◌++◌, length, get_or, map, refl, sym, ap, subst, ◌∙◌, arith, length-append}
-use Rattle.std.specs.Prelude.{All, slice_set, nat_lt, Some, None, if◌then◌else◌}
-use Rattle.std.proofs.lemmas.List.{get_or_read}
+use Rattle.std.proofs.Common.{◌≤◌, ◌≢◌, ◌&&◌, ◌%◌, ◌==◌, leb-true, length-set}
+use Rattle.std.specs.Prelude.{All, slice_set, nat_lt, nat_le, Some, None, Result, Err, if◌then◌else◌}
+use Rattle.std.proofs.lemmas.Bool.{and_parts}
+use Rattle.std.proofs.lemmas.Bool.Decides.{nat_tests}
+use Rattle.std.proofs.lemmas.List.{get_or_read, length-map}
 use Rattle.std.proofs.lemmas.List.Elements.{All-from_get_or}
 use Rattle.cheri_model.specs.declared.instr.Instr.{Instr}
 use Rattle.cheri_model.specs.declared.trace.Entry.{Entry}
@@ -10,12 +13,14 @@ use Rattle.cheri_model.specs.Memory.{granule_at, IsMemory}
 use Rattle.cheri_model.specs.HartStep.{HartState}
 use Rattle.cheri_model.specs.Image.{ImageParts, opening_hart, opening_memory}
 use Rattle.cheri_model.specs.Machine.{MachineState, Operation, step_of, opening_state, is_running, hart_at, no_hart, may_take, entry_of, state_after_one}
-use Rattle.cheri_model.specs.Replay.{IsReplay, operations_of}
+use Rattle.cheri_model.specs.Replay.{IsReplay, operations_of, state_after, replayed_state}
+use Rattle.cheri_model.specs.ImageForm.{is_between, are_sizes, is_image}
 use Rattle.cheri_model.specs.Authority.{EachOfHart, IsLawfulState, IsConfined}
 use Rattle.cheri_model.proofs.Replays.{IsReplay-opening, IsReplay_push, operations_of_push, operation-entry_of}
 use Rattle.cheri_model.proofs.Confined.{run_lawful}
+use Rattle.machine.specs.declared.faults.StepFault.{StepFault}
 use Rattle.machine.specs.declared.faults.StepFault.TheVariants.{NoSuchHart, TraceFull, HartStopped}
-use Rattle.machine.specs.Cores.{CoreParts, parts_of_core, is_limit, IsCore, IsHartStep, refused, core_after}
+use Rattle.machine.specs.Cores.{CoreParts, parts_of_core, is_limit, IsCore, IsHartStep, refused, unless_refused, answered, core_after}
 
 -- the opening state of an image, from its opened harts and memory
 pub state_opened : (image : ImageParts) (harts : List HartState) (memory : List CapValue) →
@@ -149,3 +154,40 @@ unfolding core_after
 operations_after core op =
     operations_of_push core.trace (entry_of core.image core.state op)
     ∙ ap (λ o. operations_of core.trace ++ o ∷ []) (operation-entry_of core.image core.state op)
+
+-- an image has at most eight harts
+pub image_hart_limit : (image : ImageParts) → is_image image ≡ true → length image.harts ≤ 8
+unfolding is_image
+image_hart_limit image is =
+    let sizes = (and_parts (are_sizes image) _ is).0 in
+    let last = (and_parts (is_between 1 16384 (length image.program) && is_between 16 1048576 image.ram && (image.ram % 16 == 0)) _ sizes).1 in
+    leb-true _ _ (and_parts (nat_le 1 (length image.harts)) _ last).1
+
+-- a run keeps the harts of its image
+length-state_after : (image : ImageParts) (order : List Operation) (state : MachineState) →
+    length (state_after image state order).harts ≡ length state.harts
+unfolding state_after state_after_one
+length-state_after image [] state = refl
+length-state_after image (step_of hart ∷ order) state =
+    length-state_after image order (state_after_one image state (step_of hart)) ∙ simp length-set
+
+pub hart_count_kept : (core : CoreParts) → IsCore core → length core.state.harts ≡ length core.image.harts
+unfolding replayed_state opening_state
+hart_count_kept core is =
+    ap (λ (s : MachineState). length s.harts) is.replay.state
+    ∙ length-state_after core.image (operations_of core.trace) (opening_state core.image) ∙ simp length-map
+
+-- a step of a hart that the machine has is not refused for want of it
+pub hart_is_there : (core after : CoreParts) (hart harts : ℕ) (fault : StepFault) → IsCore after → after ≡ core →
+    length core.image.harts ≡ harts → hart < harts → Err fault ≡ answered core (step_of hart) → fault ≢ NoSuchHart
+unfolding answered refused
+hart_is_there core after hart harts fault is same count below answer missing =
+    let kept = hart_count_kept core (subst IsCore same is) in
+    let inside : nat_lt hart (length core.state.harts) ≡ true = grind (arith, nat_tests) in
+    by_room (nat_lt (length core.trace) core.limit) (is_running (hart_at core.state hart).status) (rw (inside, missing) at answer)
+  where
+    by_room : (room runs : Bool) → ◌≡◌ {A = Result Entry StepFault} (Err NoSuchHart)
+        (unless_refused (if not room then Some TraceFull else if not runs then Some HartStopped else None) (entry_of core.image core.state (step_of hart))) → ⊥
+    by_room false runs is = cc
+    by_room true false is = cc
+    by_room true true is = cc

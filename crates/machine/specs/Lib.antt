@@ -1,4 +1,5 @@
 pub mod Faults
 pub mod Cores
 pub mod Runs
+pub mod Shares
 pub mod Simulation

@@ -1,8 +1,9 @@
-//! The core of the machine: an image, the trace of what ran, and the state, which is always the replay of that
-//! trace.
+//! The core of the machine: an image, the trace of what ran, and the state, which is always the
+//! replay of that trace.
 
 ghost use Rattle.std.specs.Prelude.{◌≡◌, ◌↔◌, ◌<◌, ◌≤◌, [], ◌∷◌, ◌++◌};
-ghost use Rattle.std.specs.Prelude.{length, vec_len, vec_capacity, false, IfOk, OnOk, OnErr, Err, None};
+ghost use Rattle.std.specs.Prelude.{length, vec_len, vec_capacity, false};
+ghost use Rattle.std.specs.Prelude.{IfOk, OnOk, OnErr, Err, None};
 ghost use Rattle.cheri_model.specs.Authority.{IsConfined};
 ghost use Rattle.cheri_model.specs.Machine.{step_of, opening_state, entry_of};
 ghost use Rattle.cheri_model.specs.Replay.{IsReplay};
@@ -21,8 +22,8 @@ use tagged_mem::Ram;
 /// The greatest limit that a trace may have, in entries.
 pub const GREATEST_TRACE_LIMIT: u32 = 100_000;
 
-/// A machine of one thread. Its state is the replay of its trace from its image, at every moment, and every tagged
-/// capability in it lies within one that the image gave.
+/// A machine of one thread. Its state is the replay of its trace from its image, at every moment,
+/// and every tagged capability in it lies within one that the image gave.
 #[derive(Debug, Drop)]
 pub struct Core {
     image: Image,
@@ -44,13 +45,15 @@ impl Model for Core {
 
     ghost view = { λ c. parts_of_core c.image c.limit c.trace.items c.harts.items c.ram };
 
-    ghost invariant = { λ c. IsCore (parts_of_core c.image c.limit c.trace.items c.harts.items c.ram)
+    ghost invariant = { λ c.
+        IsCore (parts_of_core c.image c.limit c.trace.items c.harts.items c.ram)
         × (c.limit ≤ vec_capacity c.trace) };
 }
 
 impl Core {
-    /// The machine of an image before its first step, with room for a trace of `limit` entries. Fails with
-    /// `Limit` exactly where the limit is not from 1 to 100,000, and otherwise only when out of memory.
+    /// The machine of an image before its first step, with room for a trace of `limit` entries.
+    /// Fails with `Limit` exactly where the limit is not from 1 to 100,000, and otherwise only when
+    /// out of memory.
     pub fn boot(alloc: Global, image: Image, limit: u32) -> Result<Core, BootFault>
         ensures opened { IfOk result (λ core. core
             ≡ record { image = image; limit = limit; trace = []; state = opening_state image }) }
@@ -72,8 +75,8 @@ impl Core {
         })
     }
 
-    /// A core of the same image, limit, trace and state, with room for the rest of its trace. Fails only when out of
-    /// memory.
+    /// A core of the same image, limit, trace and state, with room for the rest of its trace. Fails
+    /// only when out of memory.
     pub fn copy(&self, alloc: Global) -> Result<Core, NoMemory>
         ensures same { IfOk result (λ copy. copy ≡ self.now) }
         ensures core { IfOk result (λ copy. IsCore copy) }
@@ -89,7 +92,8 @@ impl Core {
         })
     }
 
-    /// Why a step of this hart would be refused, if it would be: the first fault that applies, by number.
+    /// Why a step of this hart would be refused, if it would be: the first fault that applies, by
+    /// number.
     pub fn refusal(&self, hart: u8) -> Option<StepFault>
         ensures value { result ≡ refused self.now (step_of hart) }
         ensures core { IsCore self.now }
@@ -97,8 +101,8 @@ impl Core {
         refusal_of(self.harts.as_slice(), self.trace.len(), self.limit, hart)
     }
 
-    /// One step of this hart. It is refused exactly where `refusal` says so, and then nothing changes; otherwise
-    /// the trace grows by the entry that is answered. Takes no memory.
+    /// One step of this hart. It is refused exactly where `refusal` says so, and then nothing
+    /// changes; otherwise the trace grows by the entry that is answered. Takes no memory.
     pub fn step(&mut self, hart: u8) -> Result<Entry, StepFault>
         ensures answered { result ≡ answered self.old (step_of hart) }
         ensures ok { OnOk result (self.new ≡ core_after self.old (step_of hart)) }
@@ -113,9 +117,10 @@ impl Core {
         }
     }
 
-    /// What is shown of the machine now. This is the headline, for whoever looks: the registers, memory and tags
-    /// shown are those of the replay of the shown trace from the stored image, the trace is the replay's entries,
-    /// and every tagged capability lies within an initial one. Takes no memory.
+    /// What is shown of the machine now. This is the headline, for whoever looks: the registers,
+    /// memory and tags shown are those of the replay of the shown trace from the stored image, the
+    /// trace is the replay's entries, and every tagged capability lies within an initial one. Takes
+    /// no memory.
     pub fn view(&self) -> View<'_>
         ensures image { result.image.now ≡ self.now.image }
         ensures entries { result.entries.now ≡ self.now.trace }

@@ -102,3 +102,20 @@ impl From<AllocError> for BootFault {
         BootFault::NoMemory
     }
 }
+
+/// Why a machine that threads share cannot be opened.
+#[derive(Clone, Copy, Debug, PartialEq, Eq)]
+pub enum OpenFault {
+    /// Out of memory.
+    NoMemory = 1,
+}
+
+impl From<AllocError> for OpenFault {
+    ghost use Rattle.machine.specs.declared.faults.OpenFault.TheVariants.{NoMemory};
+
+    ghost from_gives = { λ _ fault. fault ≡ NoMemory };
+
+    fn from(_refused: AllocError) -> OpenFault {
+        OpenFault::NoMemory
+    }
+}

@@ -1,13 +1,18 @@
-//! The machine: a core whose state is always the replay of its trace, the run of an order, and the run of two texts.
+//! The machine: a core whose state is always the replay of its trace, the run of an order, and the
+//! run of two texts.
 #![tactic(auto)]
 
 mod cores;
 mod faults;
+mod machines;
 mod opening;
 mod runs;
+mod shares;
 mod simulation;
 
 pub use cores::{Core, GREATEST_TRACE_LIMIT};
-pub use faults::{BootFault, StepFault};
+pub use faults::{BootFault, OpenFault, StepFault};
+pub use machines::Machine;
 pub use runs::run_order;
+pub use shares::{Blanks, Lane, Naming, Share};
 pub use simulation::{SimFault, Simulated, simulate};

@@ -9,10 +9,11 @@ use crate::faults::{BootFault, StepFault};
 use cheri_model::Image;
 use std::alloc::Global;
 
-/// Boots the image and steps its harts in this order, until a step is refused. It takes the longest beginning of the
-/// order that is legal and no longer than the limit of the trace. Where that is shorter than the order, it answers
-/// the place of the refused step, counted from 0, and the refusal. Fails with `Limit` exactly where the limit is not
-/// from 1 to 100,000, and otherwise only when out of memory.
+/// Boots the image and steps its harts in this order, until a step is refused. It takes the longest
+/// beginning of the order that is legal and no longer than the limit of the trace. Where that is
+/// shorter than the order, it answers the place of the refused step, counted from 0, and the
+/// refusal. Fails with `Limit` exactly where the limit is not from 1 to 100,000, and otherwise only
+/// when out of memory.
 pub fn run_order(
     alloc: Global,
     image: Image,

@@ -9,7 +9,8 @@ use reports::report_text;
 use std::alloc::{AllocError, Global};
 use texts::{ListingFault, OrderFault, read_listing, read_order};
 
-/// What a simulation shows: the report, and the step that was refused, with its place in the order counted from 0.
+/// What a simulation shows: the report, and the step that was refused, with its place in the order
+/// counted from 0.
 #[derive(Drop)]
 pub struct Simulated {
     pub report: String,
@@ -69,8 +70,8 @@ impl From<AllocError> for SimFault {
     }
 }
 
-/// Runs the machine of a listing in an order, with a trace of at most `limit` entries, and reports it. Nothing of the
-/// report is made before both texts are good; the listing is judged first.
+/// Runs the machine of a listing in an order, with a trace of at most `limit` entries, and reports
+/// it. Nothing of the report is made before both texts are good; the listing is judged first.
 pub fn simulate(
     alloc: Global,
     listing: &[u8],

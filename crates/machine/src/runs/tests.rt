@@ -1,4 +1,5 @@
-//! Runs of orders: a full trace, refused steps by number and name, and PCC at the end of its bounds and of the code.
+//! Runs of orders: a full trace, refused steps by number and name, and PCC at the end of its bounds
+//! and of the code.
 
 use super::run_order;
 use crate::cores::{Core, GREATEST_TRACE_LIMIT};
@@ -19,7 +20,8 @@ fn image_of(rt: &impl Abort, alloc: Global, listing: &[u8]) -> Image {
     read_listing(alloc, listing).expect(rt, "the listing is good")
 }
 
-/// The image of one instruction, `addi c6, c0, 1`, and one hart whose PCC reaches this many bytes from it on.
+/// The image of one instruction, `addi c6, c0, 1`, and one hart whose PCC reaches this many bytes
+/// from it on.
 fn one_instruction(rt: &impl Abort, alloc: Global, reach: u128) -> Result<Image, Fail> {
     let perms = Perms::EXECUTE;
     let pcc = Cap::make(0x1000_0000, reach, 0x1000_0000, perms).expect(rt, "PCC can be made");

@@ -1,0 +1,166 @@
+//! The machine that threads share: a core, and books that count the entries of each hart.
+
+ghost use Rattle.std.specs.Prelude.{◌≡◌, ◌≢◌, ◌+◌, ◌<◌, ◌≤◌, length, All};
+ghost use Rattle.std.specs.Prelude.{slice_index, slice_set, replicate, IfOk, OnOk, OnErr, Err};
+ghost use Rattle.cheri_model.specs.Machine.{step_of};
+ghost use Rattle.cheri_model.specs.Replay.{step_count};
+ghost use Rattle.machine.specs.Cores.{answered, applied};
+ghost use Rattle.machine.specs.Shares.{share_at, shares_of, IsCounted};
+
+use crate::cores::Core;
+use crate::faults::{OpenFault, StepFault};
+use crate::shares::{Blanks, Books, Naming, Share, Tokens};
+use cheri_model::{Entry, Image, NoMemory};
+use std::alloc::Global;
+use std::marker::Model;
+
+/// A core that threads may share under a lock, each stepping the hart of its share. At every moment
+/// its books have counted the entries of each hart in the trace. Contracts see its core.
+#[derive(Drop)]
+pub struct Machine<J: Naming> {
+    core: Core,
+    books: Books<J>,
+}
+
+impl<J: Naming> Model for Machine<J> {
+    ghost use Rattle.machine.specs.Cores.{CoreParts};
+
+    ghost Value = { CoreParts };
+
+    ghost use Rattle.std.specs.Prelude.{◌≡◌, length};
+    ghost use Rattle.machine.specs.Shares.{IsCounted};
+
+    ghost view = { λ m. m.core };
+
+    ghost invariant = { λ m.
+        IsCounted m.books m.core.trace (length J.image.harts) × (m.core.image ≡ J.image) };
+}
+
+impl<J: Naming> Machine<J> {
+    /// The machine of a core and its shares, one for each hart, in hart order, which have counted
+    /// what the trace holds. Fails only when out of memory, and then the core is given up.
+    pub fn open(
+        alloc: Global,
+        core: Core,
+        blanks: Blanks,
+    ) -> Result<(Machine<J>, Vec<Share<J>>), OpenFault>
+        requires names { blanks ≡ J.names }
+        requires image { core.image ≡ J.image }
+        ensures machine { IfOk result (λ opened. opened.0 ≡ core) }
+        ensures shares { IfOk result (λ opened.
+            opened.1.items ≡ shares_of core.trace (length J.image.harts)) }
+    {
+        let (mut books, tokens) = blanks.open::<J>();
+        let view = core.view();
+        let harts = hart_count(view.image);
+        let shares = draw_shares(alloc, &mut books, tokens, view.entries, harts)?;
+        Ok((Machine { core, books }, shares))
+    }
+
+    /// One step of the share's hart. It is refused exactly where the core refuses it, and then
+    /// machine and share are unchanged; otherwise the trace grows by the entry that is answered,
+    /// and the share counts it.
+    pub fn step(&mut self, share: &mut Share<J>) -> Result<Entry, StepFault>
+        ensures answered { result ≡ answered self.old (step_of share.old.hart) }
+        ensures there { result ≢ Err StepFault.NoSuchHart }
+        ensures applied { self.new ≡ applied self.old (step_of share.old.hart) }
+        ensures counted { OnOk result (share.new
+            ≡ record { hart = share.old.hart; amount = share.old.amount + 1 }) }
+        ensures kept { OnErr result ((self.new ≡ self.old) × (share.new ≡ share.old)) }
+    {
+        match self.core.step(share.hart()) {
+            Err(fault) => Err(fault),
+            Ok(entry) => {
+                self.books.add(share, 1);
+                Ok(entry)
+            }
+        }
+    }
+
+    /// The machine's core.
+    pub fn core(&self) -> &Core
+        ensures core { result.now ≡ self.now }
+        ensures image { self.now.image ≡ J.image }
+    {
+        &self.core
+    }
+
+    /// The machine's core. Each share has counted the entries of its hart in the core's trace.
+    pub fn close(self, shares: Vec<Share<J>>) -> Core
+        ensures core { result ≡ self }
+        ensures image { self.image ≡ J.image }
+        ensures counts { All
+            (λ share. share.amount ≡ step_count self.trace share.hart) shares.items }
+    {
+        let Machine { core, mut books } = self;
+        let mut shares = shares;
+        for place in 0..shares.len() {
+            books.audit(&mut shares[place]);
+        }
+        core
+    }
+}
+
+/// The number of harts of an image, which is at most 8.
+fn hart_count(image: &Image) -> u8
+    ensures count { result ≡ length image.now.harts }
+    ensures room { result ≤ 8 }
+{
+    // the granules' contract says that the parts make an image
+    let _granules = image.granules();
+    image.harts().len() as u8
+}
+
+/// Draws the shares of so many harts, each of which has counted its hart's entries among these.
+fn draw_shares<J: Naming>(
+    alloc: Global,
+    books: &mut Books<J>,
+    tokens: Tokens<J>,
+    entries: &[Entry],
+    harts: u8,
+) -> Result<Vec<Share<J>>, NoMemory>
+    requires harts { (harts ≤ 8) × (harts ≡ length J.image.harts) }
+    requires books { books.old ≡ replicate 8 0 }
+    requires parts { tokens.parts ≡ replicate 8 1 }
+    requires amounts { tokens.amounts ≡ replicate 8 0 }
+    ensures shares { IfOk result (λ shares. shares.items ≡ shares_of entries.now harts) }
+    ensures books { OnOk result (IsCounted books.new entries.now harts) }
+{
+    let mut tokens = tokens;
+    let mut shares = Vec::with_capacity(alloc, usize::from(harts))?;
+    for hart in 0..harts {
+        let share = draw_share(books, &mut tokens, entries, hart);
+        shares.push(share)?;
+    }
+    Ok(shares)
+}
+
+/// Draws the share of a hart, which has counted the hart's entries among these.
+fn draw_share<J: Naming>(
+    books: &mut Books<J>,
+    tokens: &mut Tokens<J>,
+    entries: &[Entry],
+    hart: u8,
+) -> Share<J>
+    requires below { (hart < 8) × (hart < length J.image.harts) }
+    requires whole { slice_index tokens.old.parts hart ≡ 1 }
+    requires none { slice_index tokens.old.amounts hart ≡ 0 }
+    requires fresh { slice_index books.old hart ≡ 0 }
+    ensures share { result ≡ share_at entries.now hart }
+    ensures books { books.new ≡ slice_set books.old hart (step_count entries.now hart) }
+    ensures lanes { length books.old ≡ 8 }
+    ensures parts { tokens.new.parts ≡ slice_set tokens.old.parts hart 0 }
+    ensures amounts { tokens.new.amounts ≡ tokens.old.amounts }
+{
+    let mut share = tokens.draw(hart);
+    books.add(&mut share, step_count(entries, hart));
+    share
+}
+
+/// How many of these entries are a hart's.
+#[tactic(auto, unfolding(cheri_model::specs::Replay::step_count))]
+fn step_count(entries: &[Entry], hart: u8) -> u64
+    ensures { result ≡ step_count entries.now hart }
+{
+    entries.iter().filter(|entry| entry.hart == hart).count() as u64
+}
