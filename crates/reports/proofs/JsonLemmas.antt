@@ -140,8 +140,8 @@ report_members_no_float : (entries harts : Items) (image : Data) (mem : Members)
     → items_have_float entries ≡ false → items_have_float harts ≡ false → has_float image ≡ false
     → members_have_float mem ≡ false
     → members_have_float (member (codes "entries") (array entries) (member (codes "harts") (array harts)
-      (member (codes "image") image (member (codes "mem") (object mem) (member (codes "report") (count 1) no_members)))))
-      ≡ false
+    (member (codes "image") image (member (codes "mem") (object mem) (member (codes "report") (count 1) no_members)))))
+    ≡ false
 report_members_no_float entries harts image mem first second third fourth = rw (first, second, third, fourth)
 
 pub report_no_float : (image : ImageParts) (entries : List Entry) (state : MachineState)

@@ -61,11 +61,14 @@ stops_on before now after kept text more so_far stop = (stop.0, takes_on before 
 -- a beginning of a text is one of a longer text
 pub begins_on : (before after : Option (List ℕ)) (text more : List ℕ)
     → TakesBeginning before after text → TakesBeginning before after (text ++ more)
-begins_on before after text more begun = (begun.0 ++ more, record {
-  taken = begun.1.taken;
-  grown = begun.1.grown;
-  parts = rw (← append_assoc, begun.1.parts) refl;
-})
+begins_on before after text more begun = (
+  begun.0 ++ more,
+  record {
+    taken = begun.1.taken;
+    grown = begun.1.grown;
+    parts = rw (← append_assoc, begun.1.parts) refl;
+  },
+)
 
 -- what is kept at the end is put with the last part
 pub takes_to_end : (before now after : Option (List ℕ)) (kept text more : List ℕ)

@@ -21,33 +21,33 @@ count n = number (unsigned n)
 -- a capability that is tagged, by the texts of its parts
 abbrev pub capability_data : List ℕ → List ℕ → List ℕ → List ℕ → List ℕ → Data
 capability_data base perms top otype word = object
-  (member (codes "base") (string base)
-  (member (codes "perms") (string perms)
-  (member (codes "tag") (boolean true)
-  (member (codes "top") (string top)
-  (member (codes "type") (string otype)
-  (member (codes "word") (string word) no_members))))))
+    (member (codes "base") (string base)
+    (member (codes "perms") (string perms)
+    (member (codes "tag") (boolean true)
+    (member (codes "top") (string top)
+    (member (codes "type") (string otype)
+    (member (codes "word") (string word) no_members))))))
 
 -- a value: its tag and word, and where it is tagged what the capability is
 unfoldable pub value_data : CapValue → Data
 value_data v =
     if tag_of v then capability_data (hex_text 16 (parts_of v).base) (hex_text 5 (parts_of v).perms)
-      (hex_text 17 (parts_of v).top) (type_text (parts_of v).otype) (word_text (bits_of v))
+    (hex_text 17 (parts_of v).top) (type_text (parts_of v).otype) (word_text (bits_of v))
     else object
-      (member (codes "tag") (boolean false) (member (codes "word") (string (word_text (bits_of v))) no_members))
+    (member (codes "tag") (boolean false) (member (codes "word") (string (word_text (bits_of v))) no_members))
 
 -- an entry of the trace: the hart, how its step ended, and PCC's address before it
 abbrev pub outcome_data : Data → Data → Outcome → Data
 outcome_data hart pc outcome.Done = object
-  (member (codes "hart") hart (member (codes "outcome") (string (codes "done")) (member (codes "pc") pc no_members)))
+    (member (codes "hart") hart (member (codes "outcome") (string (codes "done")) (member (codes "pc") pc no_members)))
 outcome_data hart pc outcome.Halt = object
-  (member (codes "hart") hart (member (codes "outcome") (string (codes "halt")) (member (codes "pc") pc no_members)))
+    (member (codes "hart") hart (member (codes "outcome") (string (codes "halt")) (member (codes "pc") pc no_members)))
 outcome_data hart pc (outcome.Trap trap) = object
-  (member (codes "cause") (count trap.cause)
-  (member (codes "hart") hart
-  (member (codes "outcome") (string (codes "trap"))
-  (member (codes "pc") pc
-  (member (codes "reg") (count trap.reg) no_members)))))
+    (member (codes "cause") (count trap.cause)
+    (member (codes "hart") hart
+    (member (codes "outcome") (string (codes "trap"))
+    (member (codes "pc") pc
+    (member (codes "reg") (count trap.reg) no_members)))))
 
 unfoldable pub entry_data : Entry → Data
 entry_data entry = outcome_data (count entry.hart) (string (hex_text 16 entry.pc)) entry.outcome
@@ -65,15 +65,15 @@ put_registers hart from (suc more) members =
 -- a hart: PCC, the registers c1 to c31 that are not null, and its status
 abbrev pub status_data : Data → Data → Status → Data
 status_data pcc regs status.Running = object
-  (member (codes "pcc") pcc (member (codes "regs") regs (member (codes "status") (string (codes "running")) no_members)))
+    (member (codes "pcc") pcc (member (codes "regs") regs (member (codes "status") (string (codes "running")) no_members)))
 status_data pcc regs status.Halted = object
-  (member (codes "pcc") pcc (member (codes "regs") regs (member (codes "status") (string (codes "halted")) no_members)))
+    (member (codes "pcc") pcc (member (codes "regs") regs (member (codes "status") (string (codes "halted")) no_members)))
 status_data pcc regs (status.Trapped trap) = object
-  (member (codes "cause") (count trap.cause)
-  (member (codes "pcc") pcc
-  (member (codes "reg") (count trap.reg)
-  (member (codes "regs") regs
-  (member (codes "status") (string (codes "trapped")) no_members)))))
+    (member (codes "cause") (count trap.cause)
+    (member (codes "pcc") pcc
+    (member (codes "reg") (count trap.reg)
+    (member (codes "regs") regs
+    (member (codes "status") (string (codes "trapped")) no_members)))))
 
 unfoldable pub hart_data : HartState → Data
 hart_data hart = status_data (value_data hart.pcc) (object (put_registers hart 1 31 no_members)) hart.status
@@ -87,14 +87,14 @@ put_granules from (v ∷ rest) members =
 -- how many instructions, harts and bytes of RAM
 unfoldable pub image_data : ImageParts → Data
 image_data image = object
-  (member (codes "code") (count (length image.program))
-  (member (codes "harts") (count (length image.harts))
-  (member (codes "ram") (count image.ram) no_members)))
+    (member (codes "code") (count (length image.program))
+    (member (codes "harts") (count (length image.harts))
+    (member (codes "ram") (count image.ram) no_members)))
 
 unfoldable pub json_report : ImageParts → List Entry → MachineState → Data
 json_report image entries state = object
-  (member (codes "entries") (array (items_of (map entry_data entries)))
-  (member (codes "harts") (array (items_of (map hart_data state.harts)))
-  (member (codes "image") (image_data image)
-  (member (codes "mem") (object (put_granules 0 state.memory no_members))
-  (member (codes "report") (count 1) no_members)))))
+    (member (codes "entries") (array (items_of (map entry_data entries)))
+    (member (codes "harts") (array (items_of (map hart_data state.harts)))
+    (member (codes "image") (image_data image)
+    (member (codes "mem") (object (put_granules 0 state.memory no_members))
+    (member (codes "report") (count 1) no_members)))))

@@ -64,7 +64,7 @@ hart_lines number hart = status_line number hart.status +++ pcc_line hart.pcc ++
 unfoldable pub granule_line : ℕ → CapValue → List ℕ
 granule_line number v =
     if is_listed v then line
-      (codes "mem " +++ hex_text 16 (RAM_BASE + GRANULE_BYTES * number) +++ codes " " +++ value_text v)
+    (codes "mem " +++ hex_text 16 (RAM_BASE + GRANULE_BYTES * number) +++ codes " " +++ value_text v)
     else []
 
 -- the lines before the first entry

@@ -1,9 +1,11 @@
 //! The JSON report: what the report shows, for scripts.
 
-ghost use Rattle.std.specs.Prelude.{◌≡◌, ◌+◌, ◌*◌, ◌++◌, IfOk, OnOk, codes, decimal, map, string_bytes};
+ghost use Rattle.std.specs.Prelude.{◌≡◌, ◌+◌, ◌*◌, ◌++◌, IfOk, OnOk};
+ghost use Rattle.std.specs.Prelude.{codes, decimal, map, string_bytes};
 ghost use Rattle.reports.specs.ReportText.{hex_text};
 ghost use Rattle.hart_step.specs.View.{state_of};
-ghost use Rattle.reports.specs.Json.{capability_data, entry_data, hart_data, image_data, json_report};
+ghost use Rattle.reports.specs.Json.{capability_data, entry_data, hart_data, image_data};
+ghost use Rattle.reports.specs.Json.{json_report};
 ghost use Rattle.reports.specs.Json.{put_granules, put_listed, put_registers, value_data};
 ghost use Rattle.serde_json.specs.Data.{array, object, no_members};
 ghost use Rattle.serde_json.specs.View.{items_of, members_view, view as data_of};
@@ -144,7 +146,7 @@ fn put_granule(
 ) -> Result<(), NoMemory>
     ensures { OnOk result (members_view members.new.entries
         ≡ put_listed (hex_text 16 (RAM_BASE + GRANULE_BYTES * number)) value
-          (members_view members.old.entries)) }
+        (members_view members.old.entries)) }
 {
     if is_listed(value) {
         let name = granule_address(number).to_string(alloc)?;
@@ -188,7 +190,8 @@ fn report_value(alloc: Global, view: View<'_>) -> Result<Value, NoMemory>
     json!(in alloc; {"entries": entries, "harts": harts, "image": image, "mem": mem, "report": 1u8})
 }
 
-/// The JSON report of what a view shows: compact, with its keys in byte order. Fails only when out of memory.
+/// The JSON report of what a view shows: compact, with its keys in byte order. Fails only when
+/// out of memory.
 pub fn report_json(alloc: Global, view: View<'_>) -> Result<String, NoMemory>
     ensures { IfOk result (λ text. string_bytes text ≡ compact_text
         (json_report view.entry.image.now view.entry.entries.now (state_of view.entry))) }

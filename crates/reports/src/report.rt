@@ -1,10 +1,11 @@
-//! Report 1: the text that shows what a machine started from, the entries of its trace, and its state.
+//! Report 1: the text that shows what a machine started from, its trace, and its state.
 
 ghost use Rattle.std.specs.Prelude.{◌≡◌, ◌+◌, ◌++◌, OnOk, IfOk, string_bytes};
 ghost use Rattle.std.specs.Io.KnownBytes.{Appends};
 ghost use Rattle.cheri_model.specs.ImageForm.{is_listed};
-ghost use Rattle.reports.specs.Report.{numbered, image_line, entry_line, register_line, register_lines, hart_lines, granule_line, report};
-ghost use Rattle.reports.specs.Report.{head_lines, shown_lines};
+ghost use Rattle.reports.specs.Report.{numbered, image_line, entry_line, register_line};
+ghost use Rattle.reports.specs.Report.{register_lines, hart_lines, granule_line};
+ghost use Rattle.reports.specs.Report.{head_lines, shown_lines, report};
 ghost use Rattle.reports.specs.ReportFaults.{failures_of};
 ghost use Rattle.reports.specs.Sinks.{TakesAllBut, TakesBeginning};
 ghost use Rattle.hart_step.specs.View.{state_of};
@@ -15,8 +16,8 @@ pub mod text;
 use crate::sink::{Sink, put_whole};
 use cap_ops::Cap;
 use cheri_model::{Entry, Image, NoMemory, Reg};
-use hart_step::{Hart, View};
 use fault::ReportFault;
+use hart_step::{Hart, View};
 use std::alloc::Global;
 use text::{Hex, OutcomeText, StatusText, ValueText, granule_address};
 
@@ -40,7 +41,8 @@ fn write_image(out: &mut String, image: &Image) -> Result<(), NoMemory>
 /// Appends the line of an entry of the trace.
 #[tactic(auto, unfolding(crate::specs::Report::entry_line))]
 fn write_entry(out: &mut String, place: usize, entry: &Entry) -> Result<(), NoMemory>
-    ensures { OnOk result (string_bytes out.new ≡ string_bytes out.old ++ entry_line place entry.now) }
+    ensures { OnOk result (string_bytes out.new
+        ≡ string_bytes out.old ++ entry_line place entry.now) }
 {
     let pc = Hex {
         number: u128::from(entry.pc),
@@ -58,7 +60,8 @@ fn write_entry(out: &mut String, place: usize, entry: &Entry) -> Result<(), NoMe
 /// Appends the line of a register, if it has one.
 #[tactic(auto, unfolding(crate::specs::Report::register_line))]
 fn write_register(out: &mut String, number: u8, held: Cap) -> Result<(), NoMemory>
-    ensures { OnOk result (string_bytes out.new ≡ string_bytes out.old ++ register_line number held) }
+    ensures { OnOk result (string_bytes out.new
+        ≡ string_bytes out.old ++ register_line number held) }
 {
     if is_listed(held) {
         writeln!(out, "c{number} {}", ValueText(held))?;
@@ -68,7 +71,8 @@ fn write_register(out: &mut String, number: u8, held: Cap) -> Result<(), NoMemor
 
 /// Appends the lines of the registers c1 to c31.
 fn write_registers(out: &mut String, hart: &Hart) -> Result<(), NoMemory>
-    ensures { OnOk result (string_bytes out.new ≡ string_bytes out.old ++ register_lines hart.now 1 31) }
+    ensures { OnOk result (string_bytes out.new
+        ≡ string_bytes out.old ++ register_lines hart.now 1 31) }
 {
     for number in 1..32 {
         write_register(out, number, hart.register(Reg::new(number)))?;
@@ -79,7 +83,8 @@ fn write_registers(out: &mut String, hart: &Hart) -> Result<(), NoMemory>
 /// Appends the lines of a hart.
 #[tactic(auto, unfolding(crate::specs::Report::hart_lines, crate::specs::Report::status_line, crate::specs::Report::pcc_line))]
 fn write_hart(out: &mut String, number: usize, hart: &Hart) -> Result<(), NoMemory>
-    ensures { OnOk result (string_bytes out.new ≡ string_bytes out.old ++ hart_lines number hart.now) }
+    ensures { OnOk result (string_bytes out.new
+        ≡ string_bytes out.old ++ hart_lines number hart.now) }
 {
     writeln!(out, "hart {number} {}", StatusText(hart.status()))?;
     writeln!(out, "pcc {}", ValueText(hart.pcc()))?;
@@ -89,7 +94,8 @@ fn write_hart(out: &mut String, number: usize, hart: &Hart) -> Result<(), NoMemo
 /// Appends the line of a granule, if it has one.
 #[tactic(auto, unfolding(crate::specs::Report::granule_line))]
 fn write_granule(out: &mut String, number: usize, value: Cap) -> Result<(), NoMemory>
-    ensures { OnOk result (string_bytes out.new ≡ string_bytes out.old ++ granule_line number value) }
+    ensures { OnOk result (string_bytes out.new
+        ≡ string_bytes out.old ++ granule_line number value) }
 {
     if is_listed(value) {
         writeln!(out, "mem {} {}", granule_address(number), ValueText(value))?;
@@ -99,7 +105,8 @@ fn write_granule(out: &mut String, number: usize, value: Cap) -> Result<(), NoMe
 
 /// Appends the lines of the entries.
 fn write_entries(out: &mut String, entries: &[Entry]) -> Result<(), NoMemory>
-    ensures { OnOk result (string_bytes out.new ≡ string_bytes out.old ++ numbered entry_line 0 entries.now) }
+    ensures { OnOk result (string_bytes out.new
+        ≡ string_bytes out.old ++ numbered entry_line 0 entries.now) }
 {
     for (place, entry) in entries.iter().enumerate() {
         write_entry(out, place, entry)?;
@@ -109,7 +116,8 @@ fn write_entries(out: &mut String, entries: &[Entry]) -> Result<(), NoMemory>
 
 /// Appends the lines of the harts.
 fn write_harts(out: &mut String, harts: &[Hart]) -> Result<(), NoMemory>
-    ensures { OnOk result (string_bytes out.new ≡ string_bytes out.old ++ numbered hart_lines 0 harts.now) }
+    ensures { OnOk result (string_bytes out.new
+        ≡ string_bytes out.old ++ numbered hart_lines 0 harts.now) }
 {
     for (number, hart) in harts.iter().enumerate() {
         write_hart(out, number, hart)?;
@@ -119,7 +127,8 @@ fn write_harts(out: &mut String, harts: &[Hart]) -> Result<(), NoMemory>
 
 /// Appends the lines of the granules.
 fn write_granules(out: &mut String, view: View<'_>) -> Result<(), NoMemory>
-    ensures { OnOk result (string_bytes out.new ≡ string_bytes out.old ++ numbered granule_line 0 (state_of view.entry).memory) }
+    ensures { OnOk result (string_bytes out.new
+        ≡ string_bytes out.old ++ numbered granule_line 0 (state_of view.entry).memory) }
 {
     for number in 0..view.granule_count() {
         write_granule(out, number, view.granule(number))?;
@@ -130,7 +139,8 @@ fn write_granules(out: &mut String, view: View<'_>) -> Result<(), NoMemory>
 /// Report 1 of what is shown, as text. Fails only when out of memory.
 #[tactic(auto, unfolding(crate::specs::Report::report, crate::specs::Report::title_line, crate::specs::Report::count_line))]
 pub fn report_text(alloc: Global, view: View<'_>) -> Result<String, NoMemory>
-    ensures { IfOk result (λ text. string_bytes text ≡ report view.entry.image.now view.entry.entries.now (state_of view.entry)) }
+    ensures { IfOk result (λ text. string_bytes text
+        ≡ report view.entry.image.now view.entry.entries.now (state_of view.entry)) }
 {
     let mut out = String::new(alloc);
     writeln!(out, "cheri-sim report 1")?;
@@ -202,13 +212,10 @@ fn put_harts<S: Sink>(out: &mut String, sink: &mut S, harts: &[Hart]) -> Result<
 }
 
 /// Writes the lines of the granules.
-fn put_granules<S: Sink>(
-    out: &mut String,
-    sink: &mut S,
-    view: View<'_>,
-) -> Result<(), ReportFault>
+fn put_granules<S: Sink>(out: &mut String, sink: &mut S, view: View<'_>) -> Result<(), ReportFault>
     ensures whole { OnOk result (TakesAllBut (S.taken sink.old) (S.taken sink.new)
-        (string_bytes out.new) (string_bytes out.old ++ numbered granule_line 0 (state_of view.entry).memory)) }
+        (string_bytes out.new)
+        (string_bytes out.old ++ numbered granule_line 0 (state_of view.entry).memory)) }
     ensures beginning { TakesBeginning (S.taken sink.old) (S.taken sink.new)
         (string_bytes out.old ++ numbered granule_line 0 (state_of view.entry).memory) }
     ensures failures { S.failures sink.new ≡ S.failures sink.old + failures_of result }
@@ -222,13 +229,10 @@ fn put_granules<S: Sink>(
 }
 
 /// Writes the lines of the entries, the harts and the granules.
-fn put_parts<S: Sink>(
-    out: &mut String,
-    sink: &mut S,
-    view: View<'_>,
-) -> Result<(), ReportFault>
+fn put_parts<S: Sink>(out: &mut String, sink: &mut S, view: View<'_>) -> Result<(), ReportFault>
     ensures whole { OnOk result (TakesAllBut (S.taken sink.old) (S.taken sink.new)
-        (string_bytes out.new) (string_bytes out.old ++ shown_lines view.entry.entries.now (state_of view.entry))) }
+        (string_bytes out.new)
+        (string_bytes out.old ++ shown_lines view.entry.entries.now (state_of view.entry))) }
     ensures beginning { TakesBeginning (S.taken sink.old) (S.taken sink.new)
         (string_bytes out.old ++ shown_lines view.entry.entries.now (state_of view.entry)) }
     ensures failures { S.failures sink.new ≡ S.failures sink.old + failures_of result }
@@ -251,12 +255,9 @@ fn write_head(out: &mut String, view: View<'_>) -> Result<(), NoMemory>
     Ok(())
 }
 
-/// Writes report 1 of what a view shows, in pieces of at most 64 KiB. After a fault the sink took a beginning of it.
-pub fn write_report<S: Sink>(
-    alloc: Global,
-    view: View<'_>,
-    sink: &mut S,
-) -> Result<(), ReportFault>
+/// Writes report 1 of what a view shows, in pieces of at most 64 KiB. After a fault the sink
+/// took a beginning of it.
+pub fn write_report<S: Sink>(alloc: Global, view: View<'_>, sink: &mut S) -> Result<(), ReportFault>
     ensures whole { OnOk result (Appends (S.taken sink.old) (S.taken sink.new)
         (report view.entry.image.now view.entry.entries.now (state_of view.entry))) }
     ensures beginning { TakesBeginning (S.taken sink.old) (S.taken sink.new)

@@ -1,6 +1,7 @@
 //! Sinks: devices that take a text in pieces, and may fail.
 
-ghost use Rattle.std.specs.Prelude.{◌≡◌, ◌+◌, ◌<◌, ◌≤◌, ◌∷◌, ℕ, List, [], Option, None, length, IfOk, OnOk, MatchResult};
+ghost use Rattle.std.specs.Prelude.{◌≡◌, ◌+◌, ◌<◌, ◌≤◌, ◌∷◌, ℕ, List, [], Option, None};
+ghost use Rattle.std.specs.Prelude.{length, IfOk, OnOk, MatchResult};
 ghost use Rattle.std.specs.Io.KnownBytes.{Appends, WriteAppends};
 ghost use Rattle.reports.specs.Sinks.{TakesBeginning};
 
@@ -26,8 +27,8 @@ pub trait Sink {
     /// Which sinks a lent sink lends on, so that a caller knows it for the same one afterwards.
     ghost place: { Self → List ℕ } = { λ _. [] };
 
-    /// Takes the first bytes of a piece and answers how many: at least one of a piece that is not empty. A failed put
-    /// takes none.
+    /// Takes the first bytes of a piece and answers how many: at least one of a piece that is
+    /// not empty. A failed put takes none.
     fn put(&mut self, piece: &[u8]) -> Result<usize, SinkFailed>
         ensures most { IfOk result (λ n. n ≤ length piece.now) }
         ensures least { IfOk result (λ n. 0 < length piece.now → 0 < n) }

@@ -3,7 +3,8 @@
 ghost use Rattle.std.specs.Prelude.{◌≡◌, ◌+◌, ◌-◌, ◌*◌, ◌<◌, ◌≤◌, Some, drop};
 ghost use Rattle.std.specs.Fmt.{DisplaysOnOk};
 ghost use Rattle.std.specs.Char.{digit_char};
-ghost use Rattle.reports.specs.ReportText.{hex_text, cause_text, outcome_text, status_text, type_text, value_text, word_text, parts_text};
+ghost use Rattle.reports.specs.ReportText.{hex_text, cause_text, outcome_text, status_text};
+ghost use Rattle.reports.specs.ReportText.{type_text, value_text, word_text, parts_text};
 ghost use Rattle.cheri_model.specs.CapValue.{parts_of};
 
 use bitflags::Flags;
@@ -38,7 +39,10 @@ pub fn granule_address(number: usize) -> Hex
     ensures number { result.number ≡ RAM_BASE + GRANULE_BYTES * number }
     ensures width { result.width ≡ 16 }
 {
-    Hex::new(u128::from(RAM_BASE) + u128::from(GRANULE_BYTES) * number as u128, 16)
+    Hex::new(
+        u128::from(RAM_BASE) + u128::from(GRANULE_BYTES) * number as u128,
+        16,
+    )
 }
 
 /// The ASCII digit with this value.

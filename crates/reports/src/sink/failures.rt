@@ -12,8 +12,8 @@ enum Past {
     Failed(Snapshot<Past>),
 }
 
-/// A number of failures. It takes no memory that grows: a machine counter would end, and then a sink could not fail
-/// once more.
+/// A number of failures. A machine counter would end, and then a sink could not fail once more;
+/// this one takes no memory that grows, since no code reads the number.
 #[derive(Drop)]
 pub struct FailureCount {
     past: Past,

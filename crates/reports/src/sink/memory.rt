@@ -1,6 +1,7 @@
 //! A sink in memory, which fails at a chosen put.
 
-ghost use Rattle.std.specs.Prelude.{◌≡◌, ◌+◌, ◌-◌, ◌<◌, ◌≤◌, [], IfOk, IsErr, MatchResult, Some, length, min};
+ghost use Rattle.std.specs.Prelude.{◌≡◌, ◌+◌, ◌-◌, ◌<◌, ◌≤◌, [], IfOk, IsErr, MatchResult};
+ghost use Rattle.std.specs.Prelude.{Some, length, min};
 ghost use Rattle.std.specs.Io.KnownBytes.{WriteAppends};
 
 use crate::sink::failures::FailureCount;
@@ -8,7 +9,8 @@ use crate::sink::{Sink, SinkFailed};
 use std::alloc::Global;
 use std::marker::Model;
 
-/// A sink that keeps its bytes, takes at most so many of a piece at a time, and fails at one chosen put.
+/// A sink that keeps its bytes, takes at most so many of them at a time, and fails at one
+/// chosen put.
 #[derive(Drop)]
 pub struct MemSink {
     bytes: Vec<u8>,
@@ -24,14 +26,18 @@ impl Model for MemSink {
     ghost Value = { Memory };
 
     ghost view = { λ s. record {
-        bytes = s.bytes.items; most = s.most; fails_in = s.fails_in; failures = s.failures } };
+      bytes = s.bytes.items;
+      most = s.most;
+      fails_in = s.fails_in;
+      failures = s.failures;
+    } };
 
     ghost invariant = { λ s. 1 ≤ s.most };
 }
 
 impl MemSink {
-    /// An empty sink. Of its puts, counted from 1, the one numbered `fail_at` fails, and none where that is 0. A put
-    /// takes at most `most` bytes.
+    /// An empty sink. Of its puts, counted from 1, the one numbered `fail_at` fails, and none
+    /// where that is 0. A put takes at most `most` bytes.
     pub fn new(alloc: Global, fail_at: u32, most: usize) -> MemSink
         requires { 1 ≤ most }
         ensures { result ≡ record { bytes = []; most = most; fails_in = fail_at; failures = 0 } }

@@ -7,7 +7,7 @@ use crate::sink::failures::FailureCount;
 use crate::sink::{Sink, SinkFailed};
 use std::io::Write;
 
-/// A writer that is lent as a sink. What the writer's contract knows of its bytes is what the sink tells.
+/// A writer that is lent as a sink. It tells the bytes that the writer's own contract knows.
 #[derive(Drop)]
 pub struct ToWrite<'a, W> {
     pub writer: &'a mut W,
@@ -26,7 +26,8 @@ impl<'a, W: Write> ToWrite<'a, W> {
         }
     }
 
-    /// Flushes the writer. A flush that fails is a failure of the sink, though it loses no byte that was taken.
+    /// Flushes the writer. A flush that fails is a failure of the sink, though it loses no byte
+    /// that was taken.
     pub fn flush(&mut self) -> Result<(), SinkFailed>
         ensures bytes { Keeps
             (W.contents self.old.writer.now) (W.contents self.new.writer.now) }

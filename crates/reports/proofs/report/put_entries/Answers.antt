@@ -11,12 +11,12 @@ returns-in_err-make_room-clause-beginning g c =
 
 pub loop-place-preserved : goal.loop-place-preserved
 loop-place-preserved g c = record {
-      taken =
-          item_takes entry_line c.args.entries.now _ _ _ _ _ _ _ _ _ _ c.loop-place-test.true refl c.in_ok-write_entry.ensures c.loop-place.invariant.taken
-          c.in_ok-make_room.ensures.whole;
-      failures = no_failure _ _ _ c.in_ok-make_room.ensures.failures c.loop-place.invariant.failures;
-      place = c.make_room.ensures.place ∙ c.loop-place.invariant.place;
-    }
+  taken =
+      item_takes entry_line c.args.entries.now _ _ _ _ _ _ _ _ _ _ c.loop-place-test.true refl c.in_ok-write_entry.ensures c.loop-place.invariant.taken
+      c.in_ok-make_room.ensures.whole;
+  failures = no_failure _ _ _ c.in_ok-make_room.ensures.failures c.loop-place.invariant.failures;
+  place = c.make_room.ensures.place ∙ c.loop-place.invariant.place;
+}
 
 pub returns-clause-whole : goal.returns-clause-whole
 returns-clause-whole g c =

@@ -9,7 +9,6 @@ pub returns-in_err-make_room-clause-beginning : goal.returns-in_err-make_room-cl
 unfolding granule_at
 returns-in_err-make_room-clause-beginning g c =
     let room : c.loop-number.number < length c.args.view.ram.now = omega arith in
-   
     item_stops granule_line c.args.view.ram.now _ _ _ _ _ _ _ _ _ room c.granule.ensures c.in_ok-write_granule.ensures c.loop-number.invariant.taken
     c.make_room.ensures.beginning
 
@@ -29,5 +28,4 @@ pub returns-clause-whole : goal.returns-clause-whole
 unfolding granule_at
 returns-clause-whole g c =
     let ended : length c.args.view.ram.now ≤ c.loop-number.number = omega arith in
-   
     items_end granule_line c.args.view.ram.now _ _ _ _ _ ended c.loop-number.invariant.taken

@@ -11,12 +11,12 @@ returns-in_err-make_room-clause-beginning g c =
 
 pub loop-number-preserved : goal.loop-number-preserved
 loop-number-preserved g c = record {
-      taken =
-          item_takes hart_lines c.args.harts.now _ _ _ _ _ _ _ _ _ _ c.loop-number-test.true c.index-harts-number.is c.in_ok-write_hart.ensures c.loop-number.invariant.taken
-          c.in_ok-make_room.ensures.whole;
-      failures = no_failure _ _ _ c.in_ok-make_room.ensures.failures c.loop-number.invariant.failures;
-      place = c.make_room.ensures.place ∙ c.loop-number.invariant.place;
-    }
+  taken =
+      item_takes hart_lines c.args.harts.now _ _ _ _ _ _ _ _ _ _ c.loop-number-test.true c.index-harts-number.is c.in_ok-write_hart.ensures c.loop-number.invariant.taken
+      c.in_ok-make_room.ensures.whole;
+  failures = no_failure _ _ _ c.in_ok-make_room.ensures.failures c.loop-number.invariant.failures;
+  place = c.make_room.ensures.place ∙ c.loop-number.invariant.place;
+}
 
 pub returns-clause-whole : goal.returns-clause-whole
 returns-clause-whole g c =
