@@ -2,4 +2,5 @@
 pub mod Answers
 pub mod Faults
 pub mod Files
+pub mod Runs
 pub mod Program

@@ -1,18 +1,22 @@
 -- What the program prints for what it was asked.
-use Rattle.std.specs.Prelude.{◌≡◌, ℕ, List, ◌∷◌, map, codes, Option, Some, None, Ok, IsErr, ◌⊎◌, ⊤, String, string_bytes}
+use Rattle.std.specs.Prelude.{◌≡◌, ℕ, List, ◌∷◌, map, codes, Option, Some, None, Ok, Err, IsErr, ◌⊎◌, ⊤, String, string_bytes}
 use Rattle.std.specs.Global.{Global}
 use Rattle.std.specs.Io.KnownBytes.{Appends}
 use Rattle.cheri_model.specs.Image.{ImageParts}
 use Rattle.cheri_model.specs.declared.encoding.TheConstants.{ADDRESS_SPACE}
+use Rattle.texts.specs.declared.listing.fault.ListingFault.{ListingFault}
+use Rattle.texts.specs.declared.orders.OrderFault.{OrderFault}
 use Rattle.texts.specs.ListingMeaning.{listing_meaning}
-use Rattle.machine.specs.declared.cores.TheConstants.{GREATEST_TRACE_LIMIT}
+use Rattle.texts.specs.Orders.{order_of}
 use Rattle.machine.specs.declared.faults.StepFault.{StepFault}
-use Rattle.machine.specs.Simulation.{IsShownRun}
+use Rattle.command_line.specs.declared.requests.ReportForm.{ReportForm}
 use Rattle.command_line.specs.Requests.{Asked, Check, Run, Bounds, Decode}
 use Rattle.cheri_sim.specs.declared.program.TheConstants.{GREATEST_ADDRESS, GREATEST_WORD}
 use Rattle.cheri_sim.specs.declared.faults.Fault.{Fault}
-use Rattle.cheri_sim.specs.declared.faults.Fault.TheVariants.{CannotWrite, Step}
+use Rattle.cheri_sim.specs.declared.faults.Fault.TheVariants.{Usage, NoMemory, BadNumber, CannotReadListing, CannotReadOrder, CannotWrite, Listing, Order, Step}
 use Rattle.cheri_sim.specs.Answers.{number_given, bounds_line, check_line, decode_line}
+use Rattle.cheri_sim.specs.Faults.{status_of}
+use Rattle.cheri_sim.specs.Runs.{IsShown}
 use Rattle.cheri_sim.specs.Files.{KnownFiles, AreBytesOf}
 
 -- the command line of the words that are given after the program's name
@@ -23,17 +27,17 @@ command_line words = codes "cheri_sim" ∷ map string_bytes words
 pub record IsCheckAnswer (files : KnownFiles) (listing : List ℕ) (text : List ℕ) : Type 0 where
   pub bytes : List ℕ
   pub image : ImageParts
-  pub bytes_of : AreBytesOf (files listing) bytes
+  pub bytes_are : AreBytesOf (files listing) bytes
   pub meaning : listing_meaning bytes ≡ Ok image
   pub text_is : text ≡ check_line image
 
 -- `run`: the report of the run that the bytes of both files mean, up to a refused step, or to the order's end
-pub record IsRunAnswer (files : KnownFiles) (listing order : List ℕ) (end : Option (ℕ × StepFault)) (text : List ℕ) : Type 0 where
+pub record IsRunAnswer (files : KnownFiles) (listing order : List ℕ) (form : ReportForm) (end : Option (ℕ × StepFault)) (text : List ℕ) : Type 0 where
   pub listing_bytes : List ℕ
   pub order_bytes : List ℕ
-  pub listing_of : AreBytesOf (files listing) listing_bytes
-  pub order_of : AreBytesOf (files order) order_bytes
-  pub shown : IsShownRun listing_bytes order_bytes GREATEST_TRACE_LIMIT text end
+  pub listing_is : AreBytesOf (files listing) listing_bytes
+  pub order_is : AreBytesOf (files order) order_bytes
+  pub shown : IsShown form listing_bytes order_bytes text end
 
 -- `bounds`: both words are numbers in their ranges, and this is the line of that range
 pub record IsBoundsAnswer (base len : List ℕ) (text : List ℕ) : Type 0 where
@@ -52,13 +56,13 @@ pub record IsDecodeAnswer (word : List ℕ) (text : List ℕ) : Type 0 where
 -- a text that answers a request whole
 abbrev pub IsAnswer : KnownFiles → Asked → List ℕ → Type 0
 IsAnswer files (Check listing) text = IsCheckAnswer files listing text
-IsAnswer files (Run listing order) text = IsRunAnswer files listing order None text
+IsAnswer files (Run listing order form) text = IsRunAnswer files listing order form None text
 IsAnswer files (Bounds base len) text = IsBoundsAnswer base len text
 IsAnswer files (Decode word) text = IsDecodeAnswer word text
 
 -- a text that answers a request up to a refused step, which only a run has
 abbrev pub IsStopped : KnownFiles → (ℕ × StepFault) → Asked → List ℕ → Type 0
-IsStopped files at (Run listing order) text = IsRunAnswer files listing order (Some at) text
+IsStopped files at (Run listing order form) text = IsRunAnswer files listing order form (Some at) text
 IsStopped files at _ text = ⊥
 
 -- the known bytes of a writer grew by a text of this kind, and by nothing else
@@ -76,20 +80,56 @@ HasBadNumber (Some (Bounds base len)) = IsErr (number_given GREATEST_ADDRESS bas
 HasBadNumber (Some (Decode word)) = IsErr (number_given GREATEST_WORD word)
 HasBadNumber _ = ⊥
 
--- What a fault leaves on standard output: after a failed write nothing is known, before a refused step the report up to
--- it was printed, and every other fault comes before anything is printed.
-abbrev pub LeavesOutput : KnownFiles → Option Asked → Fault → Option (List ℕ) → Option (List ℕ) → Type 0
-LeavesOutput files request CannotWrite old new = ⊤
-LeavesOutput files request (Step place fault) old new = PrintsFor (IsStopped files (place, fault)) request old new
-LeavesOutput files request _ old new = new ≡ old
+-- the files that a request names: its listing's, and its order's
+abbrev pub listing_named : Option Asked → Option (List ℕ)
+listing_named (Some (Check listing)) = Some listing
+listing_named (Some (Run listing order form)) = Some listing
+listing_named _ = None
 
--- the same of a command that prints one line
-abbrev pub LeavesAnswer : Fault → Option (List ℕ) → Option (List ℕ) → Type 0
-LeavesAnswer CannotWrite old new = ⊤
-LeavesAnswer (Step place fault) old new = ⊥
-LeavesAnswer _ old new = new ≡ old
+abbrev pub order_named : Option Asked → Option (List ℕ)
+order_named (Some (Run listing order form)) = Some order
+order_named _ = None
 
--- what a refused number, text or step leaves: nothing, or the report up to a refused step
-abbrev pub LeavesRefusal : KnownFiles → Option Asked → Option (List ℕ) → Option (List ℕ) → Type 0
-LeavesRefusal files request old new =
-    (new ≡ old) ⊎ ((at : ℕ × StepFault) × PrintsFor (IsStopped files at) request old new)
+-- this is so of the named file, if there is one
+abbrev pub OfNamed : (List ℕ → Type 0) → Option (List ℕ) → Type 0
+OfNamed IsSo (Some name) = IsSo name
+OfNamed IsSo None = ⊥
+
+-- it is not known what the file of this name holds
+abbrev pub IsUnknown : KnownFiles → List ℕ → Type 0
+IsUnknown files name = files name ≡ None
+
+-- the file of this name holds a listing, or an order, with this fault
+abbrev pub HasListingFault : KnownFiles → ListingFault → List ℕ → Type 0
+HasListingFault files fault name =
+    (bytes : List ℕ) × AreBytesOf (files name) bytes × (listing_meaning bytes ≡ Err fault)
+
+abbrev pub HasOrderFault : KnownFiles → OrderFault → List ℕ → Type 0
+HasOrderFault files fault name =
+    (bytes : List ℕ) × AreBytesOf (files name) bytes × (order_of bytes ≡ Err fault)
+
+-- A request fails for this reason, which leaves standard output so. Nothing is known after a failed write; before a
+-- refused step its report was printed; every other fault comes before anything is printed.
+abbrev pub Fails : KnownFiles → Option Asked → Fault → Option (List ℕ) → Option (List ℕ) → Type 0
+Fails files request Usage old new = (request ≡ None) × (new ≡ old)
+Fails files request NoMemory old new = new ≡ old
+Fails files request BadNumber old new = HasBadNumber request × (new ≡ old)
+Fails files request CannotReadListing old new = OfNamed (IsUnknown files) (listing_named request) × (new ≡ old)
+Fails files request CannotReadOrder old new = OfNamed (IsUnknown files) (order_named request) × (new ≡ old)
+Fails files request CannotWrite old new = ⊤
+Fails files request (Listing fault) old new = OfNamed (HasListingFault files fault) (listing_named request) × (new ≡ old)
+Fails files request (Order fault) old new = OfNamed (HasOrderFault files fault) (order_named request) × (new ≡ old)
+Fails files request (Step place fault) old new = PrintsFor (IsStopped files (place, fault)) request old new
+
+-- the same of a command that reads no file
+abbrev pub FailsAlone : Option Asked → Fault → Option (List ℕ) → Option (List ℕ) → Type 0
+FailsAlone request NoMemory old new = new ≡ old
+FailsAlone request BadNumber old new = HasBadNumber request × (new ≡ old)
+FailsAlone request CannotWrite old new = ⊤
+FailsAlone request _ old new = ⊥
+
+-- a request fails with this exit status
+pub record FailsWith (files : KnownFiles) (request : Option Asked) (status : ℕ) (old new : Option (List ℕ)) : Type 0 where
+  pub fault : Fault
+  pub status_is : status ≡ status_of fault
+  pub fails : Fails files request fault old new

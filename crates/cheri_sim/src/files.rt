@@ -1,6 +1,6 @@
 //! Where the program's files come from.
 
-ghost use Rattle.std.specs.Prelude.{◌≡◌, IfOk, None};
+ghost use Rattle.std.specs.Prelude.{◌≡◌, IfOk, Err, None};
 ghost use Rattle.cheri_sim.specs.Files.{KnownFiles, AreBytesOf};
 
 use std::io::ErrorKind;
@@ -15,7 +15,8 @@ pub enum FileFault {
     NoMemory = 2,
 }
 
-/// Files by their names. Reading a file changes no file.
+/// Files by their names. Reading a file changes no file, and a file whose content is known can be
+/// read.
 pub trait Files {
     // What each file holds, where that is known.
     ghost bytes_of: { Self → KnownFiles } = { λ _ _. None };
@@ -23,6 +24,7 @@ pub trait Files {
     /// The bytes of a file.
     fn read(&mut self, name: &str) -> Result<Vec<u8>, FileFault>
         ensures bytes { IfOk result (λ bytes. AreBytesOf (bytes_of self.old name.now) bytes.items) }
+        ensures unknown { result ≡ Err FileFault.CannotRead → bytes_of self.old name.now ≡ None }
         ensures kept { bytes_of self.new ≡ bytes_of self.old };
 }
 

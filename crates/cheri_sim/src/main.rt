@@ -5,6 +5,7 @@ mod answers;
 mod faults;
 mod files;
 mod program;
+mod runs;
 
 use crate::faults::Fault;
 use crate::files::SystemFiles;

@@ -1,6 +1,6 @@
 //! The program: runs one command, or reports why it failed.
 
-ghost use Rattle.std.specs.Prelude.{◌≡◌, ◌≢◌, ◌≤◌, ◌⊎◌, IfOk, IfErr, IsErr, OnOk, Err, Some, None};
+ghost use Rattle.std.specs.Prelude.{◌≡◌, ◌≢◌, ◌≤◌, ◌⊎◌, IfOk, IfErr, OnOk, Err, Some, None};
 ghost use Rattle.std.specs.Io.KnownBytes.{Appends};
 ghost use Rattle.command_line.specs.Requests.{Asked, asked, Check, Run, Bounds, Decode};
 ghost use Rattle.texts.specs.ListingWords.{texts};
@@ -8,16 +8,16 @@ ghost use Rattle.cheri_sim.specs.Answers.{number_given};
 ghost use Rattle.cheri_sim.specs.Faults.{fault_text, status_of};
 ghost use Rattle.cheri_sim.specs.Files.{AreBytesOf};
 ghost use Rattle.reports.specs.Report.{line};
-ghost use Rattle.cheri_sim.specs.Program.{command_line, HasBadNumber, IsAnswer, IsBoundsAnswer};
-ghost use Rattle.cheri_sim.specs.Program.{IsCheckAnswer, IsDecodeAnswer, IsRunAnswer, LeavesAnswer};
-ghost use Rattle.cheri_sim.specs.Program.{LeavesOutput, LeavesRefusal, Prints, PrintsFor};
+ghost use Rattle.cheri_sim.specs.Program.{command_line, Fails, FailsAlone, FailsWith, IsAnswer};
+ghost use Rattle.cheri_sim.specs.Program.{IsBoundsAnswer, IsCheckAnswer, IsDecodeAnswer};
+ghost use Rattle.cheri_sim.specs.Program.{IsRunAnswer, Prints, PrintsFor};
 
 use crate::answers::{bounds_text, check_text, decode_text};
 use crate::faults::Fault;
 use crate::files::{FileFault, Files};
+use crate::runs::simulate_as;
 use cheri_model::{ADDRESS_SPACE, NoMemory};
-use command_line::{Request, parse};
-use machine::{GREATEST_TRACE_LIMIT, simulate};
+use command_line::{ReportForm, Request, parse};
 use std::alloc::Global;
 use std::io::{self, Write};
 use texts::{number_of, read_listing};
@@ -32,7 +32,8 @@ const GREATEST_WORD: u128 = u128::MAX;
 fn read<F: Files>(files: &mut F, name: &str, cannot_read: Fault) -> Result<Vec<u8>, Fault>
     ensures bytes { IfOk result (λ bytes. AreBytesOf (F.bytes_of files.old name.now) bytes.items) }
     ensures kept { F.bytes_of files.new ≡ F.bytes_of files.old }
-    ensures refused { IfErr result (λ fault. (fault ≡ cannot_read) ⊎ (fault ≡ Fault.NoMemory)) }
+    ensures refused { IfErr result (λ fault. (fault ≡ Fault.NoMemory)
+        ⊎ ((fault ≡ cannot_read) × (F.bytes_of files.old name.now ≡ None))) }
 {
     match files.read(name) {
         Ok(bytes) => Ok(bytes),
@@ -56,7 +57,7 @@ fn print<O: Write>(out: &mut O, text: &str) -> Result<(), Fault>
 }
 
 /// `check LISTING`.
-#[tactic(auto, using(crate::proofs::ProgramLemmas::listing_fault_leaves_output))]
+#[tactic(auto, using(crate::proofs::ProgramLemmas::check_fails))]
 fn check<F: Files, O: Write>(
     alloc: Global,
     listing: &str,
@@ -65,42 +66,41 @@ fn check<F: Files, O: Write>(
 ) -> Result<(), Fault>
     ensures printed { OnOk result (Prints (IsCheckAnswer (F.bytes_of files.old) listing.now)
         (O.contents out.old) (O.contents out.new)) }
-    ensures left { IfErr result (λ fault.
-        LeavesOutput (F.bytes_of files.old) (Some (Check listing.now)) fault
+    ensures failed { IfErr result (λ fault.
+        Fails (F.bytes_of files.old) (Some (Check listing.now)) fault
         (O.contents out.old) (O.contents out.new)) }
     ensures command { result ≢ Err Fault.Usage }
-    ensures numbers { result ≢ Err Fault.BadNumber }
 {
     let bytes = read(files, listing, Fault::CannotReadListing)?;
     let image = read_listing(alloc, bytes.as_slice())?;
     print(out, check_text(alloc, &image)?.as_str())
 }
 
-/// `run LISTING --order FILE`: both files are read before either is judged.
-#[tactic(auto, using(crate::proofs::ProgramLemmas::sim_fault_leaves_output))]
+/// `run LISTING --order FILE [--json]`: both files are read before either is judged.
+#[tactic(auto, using(crate::proofs::ProgramLemmas::run_fails))]
 fn run<F: Files, O: Write>(
     alloc: Global,
     listing: &str,
     order: &str,
+    form: ReportForm,
     files: &mut F,
     out: &mut O,
 ) -> Result<(), Fault>
     ensures printed { OnOk result (Prints
-        (IsRunAnswer (F.bytes_of files.old) listing.now order.now None)
+        (IsRunAnswer (F.bytes_of files.old) listing.now order.now form None)
         (O.contents out.old) (O.contents out.new)) }
-    ensures left { IfErr result (λ fault.
-        LeavesOutput (F.bytes_of files.old) (Some (Run listing.now order.now)) fault
+    ensures failed { IfErr result (λ fault.
+        Fails (F.bytes_of files.old) (Some (Run listing.now order.now form)) fault
         (O.contents out.old) (O.contents out.new)) }
     ensures command { result ≢ Err Fault.Usage }
-    ensures numbers { result ≢ Err Fault.BadNumber }
 {
-    let listing = read(files, listing, Fault::CannotReadListing)?;
-    let order = read(files, order, Fault::CannotReadOrder)?;
-    let ran = simulate(
+    let listing_bytes = read(files, listing, Fault::CannotReadListing)?;
+    let order_bytes = read(files, order, Fault::CannotReadOrder)?;
+    let ran = simulate_as(
         alloc,
-        listing.as_slice(),
-        order.as_slice(),
-        GREATEST_TRACE_LIMIT,
+        form,
+        listing_bytes.as_slice(),
+        order_bytes.as_slice(),
     )?;
     print(out, ran.report.as_str())?;
     match ran.refused {
@@ -126,10 +126,9 @@ fn number_given(limit: u128, word: &str) -> Result<u128, Fault>
 fn bounds<O: Write>(alloc: Global, base: &str, len: &str, out: &mut O) -> Result<(), Fault>
     ensures printed { OnOk result (Prints (IsBoundsAnswer base.now len.now)
         (O.contents out.old) (O.contents out.new)) }
-    ensures left { IfErr result (λ fault.
-        LeavesAnswer fault (O.contents out.old) (O.contents out.new)) }
-    ensures command { result ≢ Err Fault.Usage }
-    ensures numbers { result ≡ Err Fault.BadNumber → HasBadNumber (Some (Bounds base.now len.now)) }
+    ensures failed { IfErr result (λ fault.
+        FailsAlone (Some (Bounds base.now len.now)) fault
+        (O.contents out.old) (O.contents out.new)) }
 {
     let base = number_given(GREATEST_ADDRESS, base)?;
     let len = number_given(ADDRESS_SPACE, len)?;
@@ -140,10 +139,8 @@ fn bounds<O: Write>(alloc: Global, base: &str, len: &str, out: &mut O) -> Result
 fn decode<O: Write>(alloc: Global, word: &str, out: &mut O) -> Result<(), Fault>
     ensures printed { OnOk result (Prints (IsDecodeAnswer word.now)
         (O.contents out.old) (O.contents out.new)) }
-    ensures left { IfErr result (λ fault.
-        LeavesAnswer fault (O.contents out.old) (O.contents out.new)) }
-    ensures command { result ≢ Err Fault.Usage }
-    ensures numbers { result ≡ Err Fault.BadNumber → HasBadNumber (Some (Decode word.now)) }
+    ensures failed { IfErr result (λ fault.
+        FailsAlone (Some (Decode word.now)) fault (O.contents out.old) (O.contents out.new)) }
 {
     let word = number_given(GREATEST_WORD, word)?;
     print(out, decode_text(alloc, word)?.as_str())
@@ -162,7 +159,7 @@ fn with_program_name<'a>(alloc: Global, words: &'a [String]) -> Result<Vec<&'a s
 }
 
 /// Does what the words ask for. The command line is judged first.
-#[tactic(auto, using(crate::proofs::ProgramLemmas::leaves_answer))]
+#[tactic(auto, using(crate::proofs::ProgramLemmas::answer_failures))]
 fn answer<F: Files, O: Write>(
     alloc: Global,
     words: &[String],
@@ -171,18 +168,20 @@ fn answer<F: Files, O: Write>(
 ) -> Result<(), Fault>
     ensures printed { OnOk result (PrintsFor (IsAnswer (F.bytes_of files.old))
         (asked (command_line words.now)) (O.contents out.old) (O.contents out.new)) }
-    ensures left { IfErr result (λ fault.
-        LeavesOutput (F.bytes_of files.old) (asked (command_line words.now)) fault
+    ensures failed { IfErr result (λ fault.
+        Fails (F.bytes_of files.old) (asked (command_line words.now)) fault
         (O.contents out.old) (O.contents out.new)) }
-    ensures usage { result ≡ Err Fault.Usage → asked (command_line words.now) ≡ None }
     ensures nothing { asked (command_line words.now) ≡ None
         → (result ≡ Err Fault.Usage) ⊎ (result ≡ Err Fault.NoMemory) }
-    ensures numbers { result ≡ Err Fault.BadNumber → HasBadNumber (asked (command_line words.now)) }
 {
     let words = with_program_name(alloc, words)?;
     match parse(alloc, words.as_slice())? {
         Request::Check { listing } => check(alloc, listing, files, out),
-        Request::Run { listing, order } => run(alloc, listing, order, files, out),
+        Request::Run {
+            listing,
+            order,
+            form,
+        } => run(alloc, listing, order, form, files, out),
         Request::Bounds { base, len } => bounds(alloc, base, len, out),
         Request::Decode { word } => decode(alloc, word, out),
     }
@@ -209,7 +208,7 @@ pub fn report_fault<E: Write>(err: &mut E, fault: Fault) -> u8
 /// where the command line was, and 3 for every other fault. With status 0 `out` got the whole
 /// answer and `err` nothing. With any other status `err` gets the one line of the fault; a write to
 /// `err` that fails does not change the status.
-#[tactic(auto, using(crate::proofs::ProgramLemmas::refusal_left))]
+#[tactic(auto, using(crate::proofs::ProgramLemmas::fails_with))]
 pub fn perform<F: Files, O: Write, E: Write>(
     alloc: Global,
     words: &[String],
@@ -222,12 +221,9 @@ pub fn perform<F: Files, O: Write, E: Write>(
         (asked (command_line words.now)) (O.contents out.old) (O.contents out.new) }
     ensures quiet { result ≡ 0 → E.contents err.new ≡ E.contents err.old }
 
-    // Status 1: the words have a bad number, or a step was refused and the report up to it was
-    // printed, or a text was refused and nothing was printed.
-    ensures refused { result ≡ 1 → LeavesRefusal (F.bytes_of files.old)
-        (asked (command_line words.now)) (O.contents out.old) (O.contents out.new) }
-    ensures usage { result ≡ 2 → asked (command_line words.now) ≡ None }
-    ensures unasked { result ≡ 2 → O.contents out.new ≡ O.contents out.old }
+    // With any other status there is a fault that has this status, and what it says is so.
+    ensures failed { result ≢ 0 → FailsWith (F.bytes_of files.old)
+        (asked (command_line words.now)) result (O.contents out.old) (O.contents out.new) }
     ensures nothing { asked (command_line words.now) ≡ None → (result ≡ 2) ⊎ (result ≡ 3) }
 {
     match answer(alloc, words, files, out) {

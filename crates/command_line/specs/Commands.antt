@@ -1,7 +1,7 @@
 -- The commands of the program, in the terms in which the definitions of `clap` read a command line.
 use Rattle.std.specs.Prelude.{Bool, true, Some, codes}
 use Rattle.clap.specs.Words.{App, Rule, Text, new_app, new_rule, with_rule, with_subcommand}
-use Rattle.clap.specs.declared.builder.action.ArgAction.TheVariants.{Set}
+use Rattle.clap.specs.declared.builder.action.ArgAction.TheVariants.{Set, SetTrue}
 use Rattle.clap.specs.declared.builder.command.Command.{Command}
 use Rattle.clap.specs.declared.builder.command.Command.TheViews.{out-Command}
 
@@ -17,11 +17,15 @@ required_word name = record (new_rule name) { action = Some Set; required = true
 abbrev pub check_command : App
 check_command = with_rule (new_app (codes "check")) (required_word (codes "listing"))
 
--- `run LISTING --order FILE`
+-- a flag
+abbrev pub flag : Text → Rule
+flag name = record (new_rule name) { long = Some name; action = Some SetTrue }
+
+-- `run LISTING --order FILE [--json]`
 abbrev pub run_command : App
 run_command =
-    with_rule (with_rule (new_app (codes "run")) (required_word (codes "listing")))
-    (record (required_word (codes "order")) { long = Some (codes "order") })
+    with_rule (with_rule (with_rule (new_app (codes "run")) (required_word (codes "listing")))
+    (record (required_word (codes "order")) { long = Some (codes "order") })) (flag (codes "json"))
 
 -- `bounds BASE LEN`
 abbrev pub bounds_command : App

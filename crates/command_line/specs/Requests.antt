@@ -3,19 +3,26 @@ use Rattle.std.specs.Prelude.{List, Option, Some, None, option_and_then, codes, 
 use Rattle.std.specs.Str.{bytes_eq}
 use Rattle.clap.specs.Words.{Kinds, Row, Text, fault_of, first_of, subcommand_of}
 use Rattle.command_line.specs.Commands.{program}
+use Rattle.command_line.specs.declared.requests.ReportForm.{ReportForm}
+use Rattle.command_line.specs.declared.requests.ReportForm.TheVariants as forms
 use Rattle.command_line.specs.declared.requests.Request.{Request}
 use Rattle.command_line.specs.declared.requests.Request.TheVariants as requests
+
+-- the form of a report: JSON where a flag has the value that `clap` gives it when it is there
+abbrev pub form_of : Option Text → ReportForm
+form_of (Some value) = if bytes_eq value (codes "true") then forms.Json else forms.Text
+form_of None = forms.Text
 
 -- a request by the texts of its words
 pub data Asked : Type 0 where
   Check : Text → Asked
-  Run : Text → Text → Asked
+  Run : Text → Text → ReportForm → Asked
   Bounds : Text → Text → Asked
   Decode : Text → Asked
 
 abbrev pub asked_by : Request → Asked
 asked_by (requests.Check listing) = Check listing.now
-asked_by (requests.Run listing order) = Run listing.now order.now
+asked_by (requests.Run listing order form) = Run listing.now order.now form
 asked_by (requests.Bounds base len) = Bounds base.now len.now
 asked_by (requests.Decode word) = Decode word.now
 
@@ -32,7 +39,8 @@ with_one make None = None
 unfoldable pub asked_of : Text → List Row → Option Asked
 asked_of name rows =
     if bytes_eq name (codes "check") then with_one Check (first_of (codes "listing") rows)
-    else if bytes_eq name (codes "run") then with_two Run (first_of (codes "listing") rows) (first_of (codes "order") rows)
+    else if bytes_eq name (codes "run") then with_two (λ listing order. Run listing order (form_of (first_of (codes "json") rows)))
+    (first_of (codes "listing") rows) (first_of (codes "order") rows)
     else if bytes_eq name (codes "bounds") then with_two Bounds (first_of (codes "base") rows) (first_of (codes "len") rows)
     else if bytes_eq name (codes "decode") then with_one Decode (first_of (codes "word") rows)
     else None

@@ -24,15 +24,19 @@ fn check_command<'a>(alloc: Global) -> Result<Command<'a>, AllocError>
     Command::new(alloc, "check").arg(required(alloc, "listing"))
 }
 
-/// `run LISTING --order FILE`.
+/// `run LISTING --order FILE [--json]`.
 fn run_command<'a>(alloc: Global) -> Result<Command<'a>, AllocError>
     ensures app { IfOk result (λ command. app_of command ≡ run_command) }
     ensures local { IfOk result (λ command. has_globals command ≡ false) }
 {
     let order = required(alloc, "order").long("order");
+    let json = Arg::new(alloc, "json")
+        .long("json")
+        .action(ArgAction::SetTrue);
     Command::new(alloc, "run")
         .arg(required(alloc, "listing"))?
-        .arg(order)
+        .arg(order)?
+        .arg(json)
 }
 
 /// `bounds BASE LEN`.

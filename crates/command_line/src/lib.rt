@@ -11,7 +11,7 @@ mod requests;
 use crate::commands::program_command;
 use crate::requests::request_met;
 pub use faults::CommandFault;
-pub use requests::Request;
+pub use requests::{ReportForm, Request};
 use std::alloc::Global;
 
 /// What the words ask for, of which the first is the program's name. `Usage` means that they ask
@@ -32,10 +32,16 @@ pub fn known_command_lines()
         ≡ Some (Check (codes "first.lst")) }
     ensures run { asked (codes "cheri_sim" ∷ codes "run" ∷ codes "first.lst"
         ∷ codes "--order" ∷ codes "zeros.txt" ∷ [])
-        ≡ Some (Run (codes "first.lst") (codes "zeros.txt")) }
+        ≡ Some (Run (codes "first.lst") (codes "zeros.txt") ReportForm.Text) }
     ensures order_first { asked (codes "cheri_sim" ∷ codes "run"
         ∷ codes "--order=zeros.txt" ∷ codes "first.lst" ∷ [])
-        ≡ Some (Run (codes "first.lst") (codes "zeros.txt")) }
+        ≡ Some (Run (codes "first.lst") (codes "zeros.txt") ReportForm.Text) }
+    ensures json { asked (codes "cheri_sim" ∷ codes "run" ∷ codes "--json"
+        ∷ codes "--order=zeros.txt" ∷ codes "first.lst" ∷ [])
+        ≡ Some (Run (codes "first.lst") (codes "zeros.txt") ReportForm.Json) }
+    ensures json_twice { asked (codes "cheri_sim" ∷ codes "run" ∷ codes "--json"
+        ∷ codes "--json" ∷ codes "--order=zeros.txt" ∷ codes "first.lst" ∷ [])
+        ≡ None }
     ensures bounds { asked (codes "cheri_sim" ∷ codes "bounds" ∷ codes "1" ∷ codes "4096" ∷ [])
         ≡ Some (Bounds (codes "1") (codes "4096")) }
     ensures decode { asked (codes "cheri_sim" ∷ codes "decode" ∷ codes "0" ∷ [])

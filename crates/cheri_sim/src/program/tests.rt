@@ -11,6 +11,7 @@ use std::{io, str};
 mod checks;
 mod commands;
 mod devices;
+mod json;
 mod numbers;
 mod runs;
 

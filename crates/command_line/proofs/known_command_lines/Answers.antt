@@ -46,3 +46,11 @@ returns-clause-minus c = refl
 pub returns-clause-check : goal.returns-clause-check
 unfolding clap_on_literals asked asked_of
 returns-clause-check c = refl
+
+pub returns-clause-json : goal.returns-clause-json
+unfolding clap_on_literals asked asked_of
+returns-clause-json c = refl
+
+pub returns-clause-json_twice : goal.returns-clause-json_twice
+unfolding clap_on_literals asked asked_of
+returns-clause-json_twice c = refl

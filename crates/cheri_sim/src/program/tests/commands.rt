@@ -4,7 +4,7 @@ use crate::program::tests::{FIRST, OPENING_REPORT, compare};
 use std::test::Fail;
 
 /// Words that are no command, a request for help among them.
-const REFUSED: [&[&str]; 31] = [
+const REFUSED: [&[&str]; 34] = [
     &[],
     &["help"],
     &["--help"],
@@ -26,6 +26,9 @@ const REFUSED: [&[&str]; 31] = [
     &["run", "listing", "--order", "-order"],
     &["run", "-listing", "--order", "order"],
     &["--order", "order", "run", "listing"],
+    &["run", "listing", "--order", "order", "--json", "--json"],
+    &["run", "listing", "--order", "order", "--json=true"],
+    &["check", "listing", "--json"],
     &["bounds"],
     &["bounds", "1"],
     &["bounds", "1", "2", "3"],
