@@ -91,8 +91,8 @@ counted_more books trace harts entry room is = record {
         let same : k ≡ entry.hart = grind (arith, nat_tests) in
         let old = is.counts k below in
         let here : get_or (set books entry.hart (get_or books entry.hart 0 + 1)) k 0 ≡ get_or books k 0 + 1 =
-            subst (λ n. get_or (set books entry.hart (get_or books entry.hart 0 + 1)) n 0 ≡ get_or books n 0 + 1) (sym same)
-            (get_or-set_same books entry.hart (get_or books entry.hart 0 + 1) 0 (let lanes = is.lanes in omega arith)) in
+        subst (λ n. get_or (set books entry.hart (get_or books entry.hart 0 + 1)) n 0 ≡ get_or books n 0 + 1) (sym same)
+        (get_or-set_same books entry.hart (get_or books entry.hart 0 + 1) 0 (let lanes = is.lanes in omega arith)) in
         let more = step_count_push trace entry k in
         here ∙ ap (λ n. n + 1) old ∙ sym (more ∙ ap (λ (b : Bool). step_count trace k + cond b 1 0) e)
     by_hart k false e below =

@@ -89,7 +89,16 @@ impl Blanks {
         ensures parts { result.1.parts ≡ replicate 8 1 }
         ensures amounts { result.1.amounts ≡ replicate 8 0 }
     {
-        let Blanks { hart0, hart1, hart2, hart3, hart4, hart5, hart6, hart7 } = self;
+        let Blanks {
+            hart0,
+            hart1,
+            hart2,
+            hart3,
+            hart4,
+            hart5,
+            hart6,
+            hart7,
+        } = self;
         let (book0, token0) = hart0.open::<Lane<J, 0>>();
         let (book1, token1) = hart1.open::<Lane<J, 1>>();
         let (book2, token2) = hart2.open::<Lane<J, 2>>();
@@ -145,9 +154,9 @@ impl<J: Naming> Model for Tokens<J> {
 
     ghost view = { λ t. record {
       parts = t.hart0.parts ∷ t.hart1.parts ∷ t.hart2.parts ∷ t.hart3.parts
-        ∷ t.hart4.parts ∷ t.hart5.parts ∷ t.hart6.parts ∷ t.hart7.parts ∷ [];
+          ∷ t.hart4.parts ∷ t.hart5.parts ∷ t.hart6.parts ∷ t.hart7.parts ∷ [];
       amounts = t.hart0.amount ∷ t.hart1.amount ∷ t.hart2.amount ∷ t.hart3.amount
-        ∷ t.hart4.amount ∷ t.hart5.amount ∷ t.hart6.amount ∷ t.hart7.amount ∷ [];
+          ∷ t.hart4.amount ∷ t.hart5.amount ∷ t.hart6.amount ∷ t.hart7.amount ∷ [];
     } };
 }
 

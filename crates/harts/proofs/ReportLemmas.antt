@@ -1,0 +1,54 @@
+-- The reports of a race count the entries of the trace that it left.
+use Rattle.std.proofs.Common.{◌≡◌, ℕ, List, [], ◌∷◌, map, refl, sym, ap, subst, ◌∙◌}
+use Rattle.std.specs.Prelude.{All}
+use Rattle.std.specs.List.{range_with_len}
+use Rattle.std.proofs.lemmas.List.Elements.{All-nil, All-cons, All-head, All-tail, All-map}
+use Rattle.cheri_model.specs.declared.trace.Entry.{Entry}
+use Rattle.cheri_model.specs.Replay.{step_count}
+use Rattle.machine.specs.Shares.{ShareParts, share_at, shares_of}
+use Rattle.harts.specs.declared.workers.HartReport.{HartReport}
+use Rattle.harts.specs.Reports.{AreReports}
+
+-- the shares of a machine that has not stepped have counted nothing
+pub nothing_counted : (harts : ℕ) → All (λ (s : ShareParts). s.amount ≡ 0) (shares_of [] harts)
+unfolding shares_of step_count
+nothing_counted harts = All-map (λ (s : ShareParts). s.amount ≡ 0) (share_at []) (range_with_len 0 harts) (λ k d inside. refl)
+
+harts_of_list : (trace : List Entry) (numbers : List ℕ) → map (λ (s : ShareParts). s.hart) (map (share_at trace) numbers) ≡ numbers
+harts_of_list trace [] = refl
+harts_of_list trace (n ∷ numbers) = ap (λ (ns : List ℕ). n ∷ ns) (harts_of_list trace numbers)
+
+-- shares are in hart order
+pub harts_in_order : (trace : List Entry) (harts : ℕ) → map (λ (s : ShareParts). s.hart) (shares_of trace harts) ≡ range_with_len 0 harts
+unfolding shares_of
+harts_in_order trace harts = harts_of_list trace (range_with_len 0 harts)
+
+-- what workers hand back, of whatever type: a report and a share that has counted just its steps
+module _ {W : Type 0} (report : W → HartReport) (share : W → ShareParts) where
+  abbrev pub IsWork : W → Type 0
+  IsWork w = share w ≡ record { hart = (report w).hart; amount = (report w).steps }
+
+  hart_by_report : (ws : List W) → map (λ (r : HartReport). r.hart) (map report ws) ≡ map (λ w. (report w).hart) ws
+  hart_by_report [] = refl
+  hart_by_report (w ∷ ws) = ap (λ (ns : List ℕ). (report w).hart ∷ ns) (hart_by_report ws)
+
+  exact : (trace : List Entry) (ws : List W) → All IsWork ws →
+      All (λ (s : ShareParts). s.amount ≡ step_count trace s.hart) (map share ws) →
+      All (λ (r : HartReport). r.steps ≡ step_count trace r.hart) (map report ws)
+  exact trace [] work counted = All-nil (λ (r : HartReport). r.steps ≡ step_count trace r.hart)
+  exact trace (w ∷ ws) work counted =
+      let here = All-head (λ (s : ShareParts). s.amount ≡ step_count trace s.hart) (share w) (map share ws) counted in
+      let rest = All-tail (λ (s : ShareParts). s.amount ≡ step_count trace s.hart) (share w) (map share ws) counted in
+      All-cons (λ (r : HartReport). r.steps ≡ step_count trace r.hart) (report w) (map report ws)
+      (subst (λ (s : ShareParts). s.amount ≡ step_count trace s.hart) (All-head IsWork w ws work) here)
+      (exact trace ws (All-tail IsWork w ws work) rest)
+
+  pub reports_made : (trace : List Entry) (harts : ℕ) (opened back : List ShareParts) (reports : List HartReport) (ws : List W) →
+      opened ≡ shares_of [] harts → map (λ w. (report w).hart) ws ≡ map (λ (s : ShareParts). s.hart) opened → All IsWork ws →
+      reports ≡ map report ws → back ≡ map share ws → All (λ (s : ShareParts). s.amount ≡ step_count trace s.hart) back →
+      AreReports trace harts reports
+  reports_made trace harts opened back reports ws start order work made shares counted = record {
+    in_order = ap (map (λ (r : HartReport). r.hart)) made ∙ hart_by_report ws ∙ order
+        ∙ ap (map (λ (s : ShareParts). s.hart)) start ∙ harts_in_order [] harts;
+    exact = rw made (exact trace ws work (rw shares at counted));
+  }

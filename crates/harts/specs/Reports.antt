@@ -1,0 +1,20 @@
+-- What the reports of harts say.
+use Rattle.std.specs.Prelude.{◌≡◌, ℕ, ◌<◌, List, map, All}
+use Rattle.std.specs.List.{range_with_len}
+use Rattle.cheri_model.specs.declared.trace.Entry.{Entry}
+use Rattle.cheri_model.specs.Replay.{step_count}
+use Rattle.harts.specs.declared.workers.Why.{Why}
+use Rattle.harts.specs.declared.workers.Why.TheVariants.{Turns, Gate, Stopped, Refused}
+use Rattle.harts.specs.declared.workers.HartReport.{HartReport}
+
+-- How many steps a reason goes with: all turns; at least one; or fewer than all.
+abbrev pub IsReason : ℕ → ℕ → Why → Type 0
+IsReason turns steps Turns = steps ≡ turns
+IsReason turns steps Gate = steps < turns
+IsReason turns steps Stopped = 0 < steps
+IsReason turns steps (Refused fault) = steps < turns
+
+-- one report for each hart, in hart order, whose steps are the hart's entries in the trace
+pub record AreReports (trace : List Entry) (harts : ℕ) (reports : List HartReport) : Type 0 where
+  pub in_order : map (λ report. report.hart) reports ≡ range_with_len 0 harts
+  pub exact : All (λ report. report.steps ≡ step_count trace report.hart) reports

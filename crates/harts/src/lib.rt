@@ -1,0 +1,14 @@
+//! Harts as threads: one worker for each hart of a machine, which step it in turns under one lock.
+#![tactic(auto)]
+
+mod faults;
+mod gates;
+mod lock;
+mod races;
+mod workers;
+
+pub use faults::RunFault;
+pub use gates::{Gate, Turn};
+pub use lock::Shared;
+pub use races::run_harts;
+pub use workers::{HartReport, Why, hart_loop};

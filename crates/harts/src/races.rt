@@ -1,0 +1,199 @@
+//! Races: one worker for each hart of an image, in threads of their own.
+
+ghost use Rattle.std.specs.Prelude.{◌≡◌, ◌≢◌, ◌↔◌, [], length, map, All, false, IfOk, Err, vec_len};
+ghost use Rattle.cheri_model.specs.Replay.{IsReplay};
+ghost use Rattle.machine.specs.Cores.{is_limit};
+ghost use Rattle.harts.specs.Reports.{AreReports};
+
+use crate::faults::RunFault;
+use crate::gates::Gate;
+use crate::lock::Shared;
+use crate::workers::{HartReport, hart_loop};
+use cheri_model::{Image, NoMemory};
+use machine::{Blanks, BootFault, Core, Machine, Naming, Share};
+use std::alloc::Global;
+use std::marker::Brand;
+use std::sync::Wait;
+use std::thread;
+use std::thread::{Promise, Scope, Threads};
+
+/// Runs the harts of an image in threads of their own, each in up to this many turns, and joins
+/// them. Answers the core that they left and a report for each hart, in hart order, whose steps are
+/// the hart's entries in the core's trace. Fails with `Boot` and `Limit` exactly where the limit is
+/// not from 1 to 100,000; with `Spawn` where a worker could not be started, after those that were
+/// are joined; and with `NoMemory` when out of memory. The stored image is compared with the given
+/// one at the end.
+pub fn run_harts<G: Gate + Sync, R: Threads + Wait + Sync>(
+    rt: &R,
+    alloc: Global,
+    image: Image,
+    turns: u32,
+    limit: u32,
+    gate: &G,
+) -> Result<(Core, Vec<HartReport>), RunFault>
+    ensures limit { (result ≡ Err (RunFault.Boot BootFault.Limit)) ↔ (is_limit limit ≡ false) }
+    ensures image { IfOk result (λ run. run.0.image ≡ image) }
+    ensures replay { IfOk result (λ run. IsReplay run.0.image run.0.trace run.0.state) }
+    ensures reports { IfOk result (λ run.
+        AreReports run.0.trace (length image.harts) run.1.items) }
+{
+    let core = Core::boot(alloc, image, limit)?;
+    let given = core.view().image.copy(alloc)?;
+    race::<Brand, G, R>(rt, alloc, core, given, turns, gate, Blanks::new())
+}
+
+/// Races the harts of a core that was just booted from an image that is given, too.
+fn race<J: Naming + Send + Sync, G: Gate + Sync, R: Threads + Wait + Sync>(
+    rt: &R,
+    alloc: Global,
+    core: Core,
+    given: Image,
+    turns: u32,
+    gate: &G,
+    blanks: Blanks,
+) -> Result<(Core, Vec<HartReport>), RunFault>
+    requires names { blanks ≡ J.names }
+    requires image { core.image ≡ J.image }
+    requires start { core.trace ≡ [] }
+    ensures limit { result ≢ Err (RunFault.Boot BootFault.Limit) }
+    ensures image { IfOk result (λ run. run.0.image ≡ J.image) }
+    ensures replay { IfOk result (λ run. IsReplay run.0.image run.0.trace run.0.state) }
+    ensures reports { IfOk result (λ run.
+        AreReports run.0.trace (length J.image.harts) run.1.items) }
+{
+    let (machine, shares) = Machine::<J>::open(alloc, core, blanks)?;
+    let shared = Shared::new(machine);
+    let work = Work {
+        rt,
+        shared: &shared,
+        gate,
+        turns,
+    };
+    let worked = work_all(&work, alloc, shares)?;
+    let reports = reports_of(alloc, worked.as_slice())?;
+    let shares = shares_back(alloc, worked)?;
+    let core = shared.into_machine().close(shares);
+    if core.view().image != &given {
+        return Err(RunFault::ImageDiffers);
+    }
+    Ok((core, reports))
+}
+
+/// What every worker of a race is lent.
+#[derive(Drop)]
+struct Work<'a, J: Naming, G, R> {
+    rt: &'a R,
+    shared: &'a Shared<J>,
+    gate: &'a G,
+    turns: u32,
+}
+
+/// What a worker hands back.
+#[derive(Drop)]
+struct Worked<J: Naming> {
+    report: HartReport,
+    share: Share<J>,
+}
+
+/// The promise that a worker's report and share are of this hart, and that the share has counted
+/// just the steps of the report.
+#[derive(Clone, Copy)]
+struct OfHart(u8);
+
+impl<J: Naming> Promise<Worked<J>> for OfHart {
+    ghost use Rattle.std.specs.Prelude.{◌≡◌};
+
+    ghost kept_by = { λ p w. (w.report.hart ≡ p.0)
+        × (w.share ≡ record { hart = p.0; amount = w.report.steps }) };
+}
+
+/// Starts a worker for each of these shares, which have counted nothing yet, and joins them all.
+fn work_all<J: Naming + Send + Sync, G: Gate + Sync, R: Threads + Wait + Sync>(
+    work: &Work<'_, J, G, R>,
+    alloc: Global,
+    shares: Vec<Share<J>>,
+) -> Result<Vec<Worked<J>>, RunFault>
+    requires { All (λ share. share.amount ≡ 0) shares.items }
+    ensures fault { result ≢ Err (RunFault.Boot BootFault.Limit) }
+    ensures harts { IfOk result (λ all.
+        map (λ w. w.report.hart) all.items ≡ map (λ s. s.hart) shares.items) }
+    ensures counted { IfOk result (λ all. All
+        (λ w. w.share ≡ record { hart = w.report.hart; amount = w.report.steps }) all.items) }
+{
+    let done = Vec::with_capacity(alloc, shares.len())?;
+    thread::scope(
+        thread::scope_env(),
+        work.rt,
+        |scope| -> Result<Vec<Worked<J>>, RunFault>
+            requires none { All (λ share. share.amount ≡ 0) shares.items }
+            requires done { done.items ≡ [] }
+            ensures fault { result ≢ Err (RunFault.Boot BootFault.Limit) }
+            ensures harts { IfOk result (λ all.
+                map (λ w. w.report.hart) all.items ≡ map (λ s. s.hart) shares.items) }
+            ensures counted { IfOk result (λ all. All
+                (λ w. w.share ≡ record { hart = w.report.hart; amount = w.report.steps })
+                all.items) }
+        { work_rest(scope, work, shares, done) },
+    )
+}
+
+/// Starts a worker for the last of these shares, then those for the others, and joins them in hart
+/// order.
+fn work_rest<'s, E, J: Naming + Send + Sync, G: Gate + Sync, R: Threads + Wait + Sync>(
+    scope: &Scope<'s, E>,
+    work: &'s Work<'_, J, G, R>,
+    shares: Vec<Share<J>>,
+    done: Vec<Worked<J>>,
+) -> Result<Vec<Worked<J>>, RunFault>
+    requires none { All (λ share. share.amount ≡ 0) shares.items }
+    requires done { done.items ≡ [] }
+    ensures fault { result ≢ Err (RunFault.Boot BootFault.Limit) }
+    ensures harts { IfOk result (λ all.
+        map (λ w. w.report.hart) all.items ≡ map (λ s. s.hart) shares.items) }
+    ensures counted { IfOk result (λ all. All
+        (λ w. w.share ≡ record { hart = w.report.hart; amount = w.report.steps }) all.items) }
+{
+    let mut shares = shares;
+    let Some(share) = shares.pop() else {
+        return Ok(done);
+    };
+    let promise = OfHart(share.hart());
+    let job = move || -> Worked<J>
+        requires { share.amount ≡ 0 }
+        ensures hart { result.report.hart ≡ share.hart }
+        ensures share { result.share
+            ≡ record { hart = share.hart; amount = result.report.steps } }
+    { work_one(work, share) };
+    let Ok(worker) = scope.spawn_with(promise, job) else {
+        return Err(RunFault::Spawn);
+    };
+    let mut all = work_rest(scope, work, shares, done)?;
+    let Ok(()) = all.push(worker.join(work.rt)) else {
+        return Err(RunFault::NoMemory);
+    };
+    Ok(all)
+}
+
+/// The loop of one hart, whose share has counted nothing yet.
+fn work_one<J: Naming, G: Gate, R: Wait>(work: &Work<'_, J, G, R>, share: Share<J>) -> Worked<J>
+    requires { share.amount ≡ 0 }
+    ensures hart { result.report.hart ≡ share.hart }
+    ensures share { result.share ≡ record { hart = share.hart; amount = result.report.steps } }
+{
+    let (report, share) = hart_loop(work.rt, work.shared, work.turns, work.gate, share);
+    Worked { report, share }
+}
+
+/// The reports of what workers handed back.
+fn reports_of<J: Naming>(alloc: Global, worked: &[Worked<J>]) -> Result<Vec<HartReport>, NoMemory>
+    ensures { IfOk result (λ reports. reports.items ≡ map (λ w. w.report) worked.now) }
+{
+    worked.iter().map(|w| w.report).collect(alloc)
+}
+
+/// The shares of what workers handed back.
+fn shares_back<J: Naming>(alloc: Global, worked: Vec<Worked<J>>) -> Result<Vec<Share<J>>, NoMemory>
+    ensures { IfOk result (λ shares. shares.items ≡ map (λ w. w.share) worked.items) }
+{
+    worked.into_iter().map(|w| w.share).collect(alloc)
+}

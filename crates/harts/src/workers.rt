@@ -1,0 +1,90 @@
+//! The loop of one hart: its turns, each one hold of the machine's lock.
+
+ghost use Rattle.std.specs.Prelude.{◌≡◌, ◌+◌, ◌≤◌, OnOk, OnErr};
+ghost use Rattle.machine.specs.declared.faults.StepFault.{StepFault};
+ghost use Rattle.harts.specs.Reports.{IsReason};
+
+use crate::gates::{Gate, Turn};
+use crate::lock::Shared;
+use cheri_model::{Entry, Outcome};
+use machine::{Naming, Share, StepFault};
+use std::sync::Wait;
+
+/// Why a hart's loop ended.
+#[derive(Clone, Copy, Debug, PartialEq, Eq)]
+pub enum Why {
+    /// All its turns were taken.
+    Turns,
+    /// The gate ended it.
+    Gate,
+    /// Its last step halted or trapped.
+    Stopped,
+    /// A step was refused.
+    Refused(StepFault),
+}
+
+/// What a hart's loop did: how many steps it took, and why it ended.
+#[derive(Clone, Copy, Debug, PartialEq, Eq)]
+pub struct HartReport {
+    pub hart: u8,
+    pub steps: u32,
+    pub why: Why,
+}
+
+/// Steps the share's hart in up to this many turns. Each turn asks the gate, steps in one hold of
+/// the lock, and tells the gate when the lock is free again. Ends before a turn that the gate ends,
+/// after a step that halts or traps, and at a step that is refused, of which the gate is not told.
+/// The share has counted just the steps of the report.
+pub fn hart_loop<J: Naming, G: Gate, R: Wait>(
+    rt: &R,
+    shared: &Shared<J>,
+    turns: u32,
+    gate: &G,
+    share: Share<J>,
+) -> (HartReport, Share<J>)
+    ensures hart { result.0.hart ≡ share.hart }
+    ensures share { result.1
+        ≡ record { hart = share.hart; amount = share.amount + result.0.steps } }
+    ensures turns { result.0.steps ≤ turns }
+    ensures why { IsReason turns result.0.steps result.0.why }
+{
+    let mut share = share;
+    let hart = share.hart();
+    for turn in 0..turns {
+        if gate.before(hart, turn) == Turn::End {
+            return (report(hart, turn, Why::Gate), share);
+        }
+        match step_once(rt, shared, &mut share) {
+            Err(fault) => return (report(hart, turn, Why::Refused(fault)), share),
+            Ok(entry) => {
+                gate.after(hart, turn);
+                if entry.outcome != Outcome::Done {
+                    return (report(hart, turn + 1, Why::Stopped), share);
+                }
+            }
+        }
+    }
+    (report(hart, turns, Why::Turns), share)
+}
+
+/// A hart's report.
+fn report(hart: u8, steps: u32, why: Why) -> HartReport
+    ensures hart { result.hart ≡ hart }
+    ensures steps { result.steps ≡ steps }
+    ensures why { result.why ≡ why }
+{
+    HartReport { hart, steps, why }
+}
+
+/// One step of the share's hart, in one hold of the lock.
+fn step_once<J: Naming, R: Wait>(
+    rt: &R,
+    shared: &Shared<J>,
+    share: &mut Share<J>,
+) -> Result<Entry, StepFault>
+    ensures counted { OnOk result (share.new
+        ≡ record { hart = share.old.hart; amount = share.old.amount + 1 }) }
+    ensures kept { OnErr result (share.new ≡ share.old) }
+{
+    shared.lock(rt).step(share)
+}
