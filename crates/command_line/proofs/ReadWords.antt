@@ -32,7 +32,7 @@ pub asked_with_fault : (words : List Text) (k : ErrorKind) (ks : Kinds) → faul
 unfolding asked
 asked_with_fault words k ks some = rw (some) refl
 
--- so where an error that is not want of memory came, they ask for nothing
+-- so where an error other than out of memory came, they ask for nothing
 asked_at_error : (words : List Text) (kind : ErrorKind) →
     (kind ≡ kinds.OutOfMemory) ⊎ IsAmong kind (fault_of program words) → Usage ≡ fault_of_kind kind → asked words ≡ None
 asked_at_error words kind (inl memory) usage = (let bad : Usage ≡ fault_of_kind kinds.OutOfMemory = usage ∙ ap fault_of_kind memory in cc)
