@@ -18,7 +18,7 @@ passes_cons line table = by_fails line.fails
     by_fails true passed = cc
     by_fails false passed = (refl, passed)
 
-not_false : (b : Bool) → not b ≡ false → b ≡ true
+pub not_false : (b : Bool) → not b ≡ false → b ≡ true
 not_false true same = refl
 not_false false same = absurd (false≢true (sym same))
 

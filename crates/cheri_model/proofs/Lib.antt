@@ -35,6 +35,10 @@ pub mod StoredBytes
 pub mod LoadsAfterStores
 pub mod ImageGranules
 pub mod Fetches
+pub mod ChecksPassed
+pub mod Granted
+pub mod Forms
+pub mod IntegersBack
 pub mod Advances
 pub mod Replays
 pub mod Confined

@@ -1,13 +1,15 @@
--- Authority: what a tagged capability can reach, and that every one of a run lies within one that the image gave
--- (CHERI ISA version 9, section 2.4, "capability monotonicity").
-use Rattle.std.specs.Prelude.{◌≡◌, ◌≤◌, List, ◌∷◌, ◌++◌, map, bit_and, All, Contains, ⊤}
+-- Authority: what a tagged capability can reach, and that every one of a run lies within one that was there before
+-- (CHERI ISA v9, "capability monotonicity").
+use Rattle.std.specs.Prelude.{◌≡◌, ℕ, ◌+◌, ◌/◌, ◌%◌, ◌^◌, ◌<◌, ◌≤◌, ◌⊎◌, List, ◌∷◌, ◌++◌, map, bit_and, All, Contains, ⊤}
 use Rattle.std.specs.List.{flat_map}
 use Rattle.cheri_model.specs.declared.image.HartImage.{HartImage}
-use Rattle.cheri_model.specs.Capability.{Capability}
+use Rattle.cheri_model.specs.declared.trace.Entry.{Entry}
+use Rattle.cheri_model.specs.Capability.{Capability, last_sealable_type}
 use Rattle.cheri_model.specs.CapValue.{CapValue, valid, raw, IsLawfulValue}
-use Rattle.cheri_model.specs.HartStep.{HartState}
+use Rattle.cheri_model.specs.Hart.{HartState}
 use Rattle.cheri_model.specs.Image.{ImageParts}
 use Rattle.cheri_model.specs.Machine.{MachineState}
+use Rattle.cheri_model.specs.Replay.{operations_of, replayed_state}
 
 -- one capability lies within another: its bounds do, and its permissions are among the other's
 pub record IsWithin (c d : Capability) : Type 0 where
@@ -15,13 +17,27 @@ pub record IsWithin (c d : Capability) : Type 0 where
   pub top : c.top ≤ d.top
   pub perms : bit_and c.perms d.perms ≡ c.perms
 
--- a capability lies within some tagged one among these values
+-- a capability may seal with an object type: the type is in its bounds, and it has Seal, which is permission 7
+pub record CanSealWith (d : Capability) (otype : ℕ) : Type 0 where
+  pub base : d.base ≤ otype
+  pub top : otype < d.top
+  pub seal : d.perms / 2 ^ 7 % 2 ≡ 1
+
+-- an object type comes from a tagged capability among these values, which has it or may seal with it
+pub record IsGrantedType (sources : List CapValue) (otype : ℕ) : Type 0 where
+  pub source : Capability
+  pub held : Contains sources (valid source)
+  pub by : (otype ≡ source.otype) ⊎ CanSealWith source otype
+
+-- A capability lies within some tagged one among these values, and its object type, if it is one that can be sealed
+-- with, comes from some tagged one among them.
 pub record IsGranted (sources : List CapValue) (c : Capability) : Type 0 where
   pub source : Capability
   pub held : Contains sources (valid source)
   pub within : IsWithin c source
+  pub sealed : c.otype ≤ last_sealable_type → IsGrantedType sources c.otype
 
--- a value, if it is tagged, lies within some tagged one among these
+-- the same of a value, if it is tagged
 abbrev pub IsGrantedValue : List CapValue → CapValue → Type 0
 IsGrantedValue sources (valid c) = IsGranted sources c
 IsGrantedValue sources (raw word) = ⊤
@@ -43,10 +59,26 @@ values_of_hart hart = hart.pcc ∷ hart.regs
 unfoldable pub values_of_image : ImageParts → List CapValue
 values_of_image image = flat_map values_of_hart image.harts ++ map (λ entry. entry.1) image.granules
 
+-- the values of a state: PCC and the registers of each hart, and the granules
+abbrev pub values_in_hart : HartState → List CapValue
+values_in_hart hart = hart.pcc ∷ hart.regs
+
+unfoldable pub values_of_state : MachineState → List CapValue
+values_of_state state = flat_map values_in_hart state.harts ++ state.memory
+
 -- every value of a state is lawful
 abbrev pub IsLawfulState : MachineState → Type 0
 IsLawfulState state = EachOfState IsLawfulValue state
 
--- every tagged value of a state lies within an initial capability of the image
+-- every tagged value of a state is granted by the initial capabilities of the image
 abbrev pub IsConfined : ImageParts → MachineState → Type 0
 IsConfined image state = EachOfState (IsGrantedValue (values_of_image image)) state
+
+-- every tagged value of a state is granted by the values of another
+abbrev pub IsConfinedTo : MachineState → MachineState → Type 0
+IsConfinedTo before state = EachOfState (IsGrantedValue (values_of_state before)) state
+
+-- for every beginning of a trace, every tagged value of a state is granted by the values that its replay left
+abbrev pub IsMonotone : ImageParts → List Entry → MachineState → Type 0
+IsMonotone image trace state =
+    (before later : List Entry) → trace ≡ before ++ later → IsConfinedTo (replayed_state image (operations_of before)) state

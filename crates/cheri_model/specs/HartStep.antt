@@ -1,24 +1,24 @@
--- One step of one hart: the fetch check, then the instruction at PCC. An instruction is one line of `action`,
--- which says what it asks for; `perform` does it.
-use Rattle.std.specs.Prelude.{ℕ, ◌+◌, ◌-◌, ◌/◌, ◌%◌, ◌^◌, ◌==◌, if◌then◌else◌, List, length, slice_index_or, slice_set, Result, Ok, Err}
+-- One step of one hart: the fetch check, then the instruction at PCC. `action` says what the instruction asks for;
+-- `execute` does it.
+use Rattle.std.specs.Prelude.{ℕ, ◌-◌, ◌/◌, Bool, true, false, if◌then◌else◌, List, length, slice_index_or, Option, Some, None, Result, Ok, Err}
+use Rattle.cheri_model.specs.declared.access.Access.{Access}
+use Rattle.cheri_model.specs.declared.access.Access.TheVariants as access
 use Rattle.cheri_model.specs.declared.trace.Trap.{Trap}
 use Rattle.cheri_model.specs.declared.trace.Outcome.{Outcome}
 use Rattle.cheri_model.specs.declared.trace.Outcome.TheVariants as outcome
-use Rattle.cheri_model.specs.declared.trace.Status.{Status}
 use Rattle.cheri_model.specs.declared.trace.Status.TheVariants as status
 use Rattle.cheri_model.specs.declared.instr.Instr.{Instr}
-use Rattle.cheri_model.specs.declared.instr.Instr.TheVariants.{Addi, Csetbounds, Cgetlen, Ecall}
-use Rattle.cheri_model.specs.declared.instr.Action.{Action}
-use Rattle.cheri_model.specs.declared.instr.Action.TheVariants.{Put, Halt}
-use Rattle.cheri_model.specs.CapValue.{CapValue, raw}
-use Rattle.cheri_model.specs.Results.{address_of, address_sum, with_address, set_bounds, length_of}
-use Rattle.cheri_model.specs.Checks.{first_failing, fetch_table, code_base}
-
--- c0 to c31, of which c0 is always null; PCC; and whether the hart runs
-pub record HartState : Type 0 where
-  pub regs : List CapValue
-  pub pcc : CapValue
-  pub status : Status
+use Rattle.cheri_model.specs.declared.instr.Instr.TheVariants.{Ecall}
+use Rattle.cheri_model.specs.declared.width.Width.{Width}
+use Rattle.cheri_model.specs.CapValue.{CapValue}
+use Rattle.cheri_model.specs.Memory.{bytes_of, load_data, store_data, load_capability, store_capability}
+use Rattle.cheri_model.specs.Results.{address_of, clear_tag, has_permission, with_address}
+use Rattle.cheri_model.specs.SealResults.{unsealed}
+use Rattle.cheri_model.specs.Integers.{extended}
+use Rattle.cheri_model.specs.Hart.{HartState, register, word_of_integer, put, next, link}
+use Rattle.cheri_model.specs.Actions.{Action, Put, Load, Store, LoadCap, StoreCap, Swap, Branch, Jump, JumpThrough, Invoke, Halt, action}
+use Rattle.cheri_model.specs.Checks.{first_failing, fetch_table, access_table, target_table, jump_table, invoke_table, code_base}
+use Rattle.cheri_model.specs.declared.permission.TheConstants as permission
 
 -- what a step leaves: the hart, the memory and the outcome
 pub record Stepped : Type 0 where
@@ -26,36 +26,8 @@ pub record Stepped : Type 0 where
   pub memory : List CapValue
   pub outcome : Outcome
 
--- null: an untagged word 0
-abbrev pub null : CapValue
-null = raw 0
-
-unfoldable pub register : HartState → ℕ → CapValue
-register hart number = slice_index_or hart.regs number null
-
--- a register read as an integer
-abbrev pub integer : HartState → ℕ → ℕ
-integer hart number = address_of (register hart number)
-
--- a write to c0 is dropped
-unfoldable pub put : ℕ → CapValue → HartState → HartState
-put cd v hart = if cd == 0 then hart else record hart { regs = slice_set hart.regs cd v }
-
--- the hart at the next instruction
-unfoldable pub next : HartState → HartState
-next hart = record hart { pcc = with_address hart.pcc ((address_of hart.pcc + 4) % 2 ^ 64) }
-
--- what an instruction asks for, its sources read before anything is written
-unfoldable pub action : Instr → HartState → Action
-action (Addi cd c1 imm) hart = Put cd (raw (address_sum (integer hart c1) imm))
-action (Csetbounds cd c1 c2) hart = Put cd (set_bounds (register hart c1) (integer hart c2))
-action (Cgetlen cd c1) hart = Put cd (raw (length_of (register hart c1)))
-action Ecall hart = Halt
-
-unfoldable pub perform : Action → HartState → List CapValue → Stepped
-perform (Put cd v) hart memory = record { hart = next (put cd v hart); memory = memory; outcome = outcome.Done }
-perform Halt hart memory =
-    record { hart = record hart { status = status.Halted }; memory = memory; outcome = outcome.Halt }
+abbrev pub done : HartState → List CapValue → Stepped
+done hart memory = record { hart = hart; memory = memory; outcome = outcome.Done }
 
 -- a trap changes nothing but the hart's status
 unfoldable pub trapped : Trap → HartState → List CapValue → Stepped
@@ -63,8 +35,63 @@ trapped trap hart memory =
     record { hart = record hart { status = status.Trapped trap }; memory = memory; outcome = outcome.Trap trap }
 
 abbrev pub unless_trapped : Result (Unit {0}) Trap → HartState → List CapValue → Stepped → Stepped
-unless_trapped (Ok u) hart memory done = done
-unless_trapped (Err trap) hart memory done = trapped trap hart memory
+unless_trapped (Ok u) hart memory after = after
+unless_trapped (Err trap) hart memory after = trapped trap hart memory
+
+-- the check of an access through c1
+abbrev pub access_check : HartState → ℕ → ℕ → Access → Option CapValue → List CapValue → Result (Unit {0}) Trap
+access_check hart c1 addr kind stored memory =
+    first_failing (access_table (register hart c1) c1 addr kind stored memory)
+
+-- a loaded number, sign-extended or not
+abbrev pub loaded : Bool → Width → ℕ → ℕ
+loaded true width number = extended width number
+loaded false width number = number
+
+-- a loaded capability keeps its tag only under the permission Load_Capability
+unfoldable pub permitted : CapValue → CapValue → CapValue
+permitted auth v = if has_permission auth permission.LOAD_CAP then v else clear_tag v
+
+-- the hart at a target in the bounds of a capability, which becomes PCC
+abbrev pub entered : CapValue → ℕ → HartState → HartState
+entered pcc target hart = record hart { pcc = with_address pcc target }
+
+-- the register that CInvoke leaves the unsealed data in
+abbrev pub invoked_data : ℕ
+invoked_data = 31
+
+unfoldable pub execute : Action → HartState → List CapValue → Stepped
+execute (Put cd v) hart memory = done (next (put cd v hart)) memory
+execute (Load cd c1 addr width signed) hart memory =
+    unless_trapped (access_check hart c1 addr (access.Load width) None memory) hart memory
+    (done (next (put cd (word_of_integer (loaded signed width (load_data memory addr (bytes_of width)))) hart)) memory)
+execute (Store c1 addr width number) hart memory =
+    unless_trapped (access_check hart c1 addr (access.Store width) None memory) hart memory
+    (done (next hart) (store_data memory addr (bytes_of width) number))
+execute (LoadCap cd c1 addr) hart memory =
+    unless_trapped (access_check hart c1 addr access.LoadCap None memory) hart memory
+    (done (next (put cd (permitted (register hart c1) (load_capability memory addr)) hart)) memory)
+execute (StoreCap c1 addr v) hart memory =
+    unless_trapped (access_check hart c1 addr access.StoreCap (Some v) memory) hart memory
+    (done (next hart) (store_capability memory addr v))
+execute (Swap cd c1 addr v) hart memory =
+    unless_trapped (access_check hart c1 addr access.Swap (Some v) memory) hart memory
+    (done (next (put cd (permitted (register hart c1) (load_capability memory addr)) hart)) (store_capability memory addr v))
+execute (Branch false target) hart memory = done (next hart) memory
+execute (Branch true target) hart memory =
+    unless_trapped (first_failing (target_table hart.pcc target)) hart memory
+    (done (entered hart.pcc target hart) memory)
+execute (Jump cd target) hart memory =
+    unless_trapped (first_failing (target_table hart.pcc target)) hart memory
+    (done (entered hart.pcc target (put cd (link hart.pcc) hart)) memory)
+execute (JumpThrough cd c1 is_entry target) hart memory =
+    unless_trapped (first_failing (jump_table (register hart c1) c1 is_entry target)) hart memory
+    (done (entered (unsealed (register hart c1)) target (put cd (link hart.pcc) hart)) memory)
+execute (Invoke c1 c2 target) hart memory =
+    unless_trapped (first_failing (invoke_table (register hart c1) c1 (register hart c2) c2 target)) hart memory
+    (done (entered (unsealed (register hart c1)) target (put invoked_data (unsealed (register hart c2)) hart)) memory)
+execute Halt hart memory =
+    record { hart = record hart { status = status.Halted }; memory = memory; outcome = outcome.Halt }
 
 -- the instruction at an address of the code
 unfoldable pub instruction_at : List Instr → ℕ → Instr
@@ -74,4 +101,4 @@ instruction_at program addr = slice_index_or program ((addr - code_base) / 4) Ec
 unfoldable pub hart_step : List Instr → HartState → List CapValue → Stepped
 hart_step program hart memory =
     unless_trapped (first_failing (fetch_table hart.pcc (length program))) hart memory
-    (perform (action (instruction_at program (address_of hart.pcc)) hart) hart memory)
+    (execute (action (instruction_at program (address_of hart.pcc)) hart) hart memory)

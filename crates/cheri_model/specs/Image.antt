@@ -5,7 +5,7 @@ use Rattle.cheri_model.specs.declared.image.HartImage.{HartImage}
 use Rattle.cheri_model.specs.declared.trace.Status.TheVariants as status
 use Rattle.cheri_model.specs.CapValue.{CapValue}
 use Rattle.cheri_model.specs.Memory.{cleared_memory, store_capability}
-use Rattle.cheri_model.specs.HartStep.{HartState, null}
+use Rattle.cheri_model.specs.Hart.{HartState, null}
 
 -- the parts of an image: RAM's size in bytes; the granules that are tagged or not all 0, each with its address
 pub record ImageParts : Type 0 where

@@ -18,7 +18,12 @@ pub mod FieldResults
 pub mod SealResults
 pub mod Readings
 pub mod CapInstructions
+pub mod Form
+pub mod SameInstrs
 pub mod Checks
+pub mod Integers
+pub mod Hart
+pub mod Actions
 pub mod HartStep
 pub mod Image
 pub mod ImageForm

@@ -5,7 +5,8 @@ use Rattle.cheri_model.specs.declared.trace.Status.{Status}
 use Rattle.cheri_model.specs.declared.trace.Status.TheVariants.{Running, Halted, Trapped}
 use Rattle.cheri_model.specs.CapValue.{CapValue}
 use Rattle.cheri_model.specs.Results.{address_of}
-use Rattle.cheri_model.specs.HartStep.{HartState, Stepped, null, hart_step}
+use Rattle.cheri_model.specs.Hart.{HartState, null}
+use Rattle.cheri_model.specs.HartStep.{Stepped, hart_step}
 use Rattle.cheri_model.specs.Image.{ImageParts, opening_hart, opening_memory}
 
 pub record MachineState : Type 0 where

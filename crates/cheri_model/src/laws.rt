@@ -2,6 +2,7 @@
 //! nothing.
 
 pub mod alignment;
+pub mod forms;
 pub mod lengths;
 pub mod memory;
 pub mod replays;

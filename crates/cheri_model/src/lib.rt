@@ -6,11 +6,15 @@
 //! definitions.
 #![tactic(auto)]
 
+mod access;
+mod code;
 mod encoding;
+pub mod form;
 mod image;
 mod instr;
 pub mod laws;
 mod memory;
+mod operands;
 mod otype;
 pub mod permission;
 mod perms;
@@ -18,10 +22,13 @@ mod trace;
 mod value;
 mod width;
 
+pub use access::Access;
+pub use code::{CODE_BASE, INSTRUCTION_BYTES};
 pub use encoding::{ADDRESS_SPACE, MAX_EXPONENT, NULL_FIELDS};
 pub use image::{HartImage, Image, MAX_HARTS, MAX_INSTRUCTIONS, NoMemory};
-pub use instr::{Action, Instr, Reg};
+pub use instr::Instr;
 pub use memory::{GRANULE_BYTES, MAX_RAM_BYTES, RAM_BASE};
+pub use operands::{Reg, Target};
 pub use otype::{LAST_SEALABLE_TYPE, OType, SENTRY_TYPE, UNSEALED_TYPE};
 pub use perms::Perms;
 pub use trace::{Entry, Outcome, Status, Trap};

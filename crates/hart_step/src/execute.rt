@@ -1,57 +1,291 @@
 //! One step of one hart: the fetch, then what the instruction asks for.
 
-ghost use Rattle.std.specs.Prelude.{◌≡◌, List, Ok, length};
-ghost use Rattle.cheri_model.specs.CapValue.{CapValue};
-ghost use Rattle.cheri_model.specs.Checks.{first_failing, fetch_table};
-ghost use Rattle.cheri_model.specs.HartStep.{action, hart_step, perform};
+ghost use Rattle.std.specs.Prelude.{◌≡◌, true, if◌then◌else◌};
+ghost use Rattle.cheri_model.specs.Actions.{
+  Branch,
+  Invoke,
+  Jump,
+  JumpThrough,
+  Load,
+  LoadCap,
+  Store,
+  StoreCap,
+  Swap,
+};
+ghost use Rattle.cheri_model.specs.CapValue.{IsLawfulValue};
+ghost use Rattle.cheri_model.specs.HartStep.{execute, hart_step, loaded, permitted};
+ghost use Rattle.cheri_model.specs.Results.{address_of, in_bounds, is_open};
+ghost use Rattle.hart_step.specs.Actions.{asks};
 
+use crate::actions::{Action, asked};
+use crate::checks::access::access_check;
 use crate::checks::fetch::fetch;
+use crate::checks::jumps::{invoke_check, jump_check, target_check};
 use crate::hart::Hart;
+use crate::integers::extended;
+use crate::places::{at_target, entered, link};
 use cap_ops::Cap;
-use cheri_model::{Action, Instr, Outcome, Status};
+use cheri_model::permission::LOAD_CAP;
+use cheri_model::{Access, Instr, Outcome, Reg, Status, Width};
+use tagged_mem::Ram;
 
-/// What an instruction asks for, its sources read before anything is written.
-#[tactic(auto, unfolding(cheri_model::specs::HartStep::action, cheri_model::specs::Results::address_sum, cheri_model::specs::Results::address_of))]
-fn asked(instr: Instr, hart: &Hart) -> Action
-    ensures { result ≡ action instr hart.now }
+/// A loaded number, sign-extended or not.
+fn loaded(signed: bool, width: Width, number: u64) -> u64
+    ensures { result ≡ loaded signed width number }
 {
-    match instr {
-        Instr::Addi { cd, c1, imm } => {
-            let sum = hart.register(c1).addr().wrapping_add_signed(i64::from(imm));
-            Action::Put {
-                cd,
-                value: Cap::of_int(sum).value(),
-            }
-        }
-        Instr::Csetbounds { cd, c1, c2 } => {
-            let length = hart.register(c2).addr();
-            Action::Put {
-                cd,
-                value: hart.register(c1).set_bounds(length).value(),
-            }
-        }
-        Instr::Cgetlen { cd, c1 } => Action::Put {
-            cd,
-            value: Cap::of_int(hart.register(c1).len()).value(),
-        },
-        Instr::Ecall => Action::Halt,
+    if signed {
+        extended(width, number)
+    } else {
+        number
     }
 }
 
-/// Does what an instruction asks for, behind a fetch that passed in a program of `count` instructions. No
-/// instruction of this machine reaches memory yet, so memory stays as it is.
-#[tactic(auto, unfolding(cheri_model::specs::HartStep::perform))]
-fn perform(action: Action, hart: &mut Hart, count: usize) -> Outcome
-    requires { first_failing (fetch_table hart.old.pcc count) ≡ Ok tt }
-    ensures { (memory : List CapValue)
-        → perform action hart.old memory ≡ record { hart = hart.new; memory = memory; outcome = result } }
+/// A loaded capability, which keeps its tag only under the permission Load_Capability.
+#[tactic(auto, unfolding(cheri_model::specs::HartStep::permitted))]
+fn permitted(auth: Cap, value: Cap) -> Cap
+    ensures { result ≡ permitted auth value }
+{
+    if auth.has_permission(LOAD_CAP) {
+        value
+    } else {
+        value.clear_tag()
+    }
+}
+
+/// Loads a number.
+#[tactic(auto, unfolding(cheri_model::specs::HartStep::execute, cheri_model::specs::HartStep::trapped))]
+fn load(
+    hart: &mut Hart,
+    ram: &Ram,
+    cd: Reg,
+    c1: Reg,
+    addr: u64,
+    width: Width,
+    signed: bool,
+) -> Outcome
+    requires open { is_open hart.old.pcc ≡ true }
+    requires within { in_bounds hart.old.pcc (address_of hart.old.pcc) 4 ≡ true }
+    ensures { execute (Load cd c1 addr width signed) hart.old ram.now
+        ≡ record { hart = hart.new; memory = ram.now; outcome = result } }
+{
+    let auth = hart.register(c1);
+    match access_check(auth, c1.number(), addr, Access::Load(width), None, ram) {
+        Ok(()) => {
+            let number = loaded(signed, width, ram.load(addr, width));
+            hart.put(cd, Cap::of_int(number));
+            hart.advance();
+            Outcome::Done
+        }
+        Err(trap) => hart.trap(trap),
+    }
+}
+
+/// Stores the low bytes of a number.
+#[tactic(auto, unfolding(cheri_model::specs::HartStep::execute, cheri_model::specs::HartStep::trapped))]
+fn store(hart: &mut Hart, ram: &mut Ram, c1: Reg, addr: u64, width: Width, number: u64) -> Outcome
+    requires open { is_open hart.old.pcc ≡ true }
+    requires within { in_bounds hart.old.pcc (address_of hart.old.pcc) 4 ≡ true }
+    ensures { execute (Store c1 addr width number) hart.old ram.old
+        ≡ record { hart = hart.new; memory = ram.new; outcome = result } }
+{
+    let auth = hart.register(c1);
+    match access_check(auth, c1.number(), addr, Access::Store(width), None, ram) {
+        Ok(()) => {
+            ram.store(addr, width, number);
+            hart.advance();
+            Outcome::Done
+        }
+        Err(trap) => hart.trap(trap),
+    }
+}
+
+/// Loads a capability.
+#[tactic(auto, unfolding(cheri_model::specs::HartStep::execute, cheri_model::specs::HartStep::trapped))]
+fn load_cap(hart: &mut Hart, ram: &Ram, cd: Reg, c1: Reg, addr: u64) -> Outcome
+    requires open { is_open hart.old.pcc ≡ true }
+    requires within { in_bounds hart.old.pcc (address_of hart.old.pcc) 4 ≡ true }
+    ensures { execute (LoadCap cd c1 addr) hart.old ram.now
+        ≡ record { hart = hart.new; memory = ram.now; outcome = result } }
+{
+    let auth = hart.register(c1);
+    match access_check(auth, c1.number(), addr, Access::LoadCap, None, ram) {
+        Ok(()) => {
+            hart.put(cd, permitted(auth, ram.load_cap(addr)));
+            hart.advance();
+            Outcome::Done
+        }
+        Err(trap) => hart.trap(trap),
+    }
+}
+
+/// Stores a capability.
+#[tactic(auto, unfolding(cheri_model::specs::HartStep::execute, cheri_model::specs::HartStep::trapped))]
+fn store_cap(hart: &mut Hart, ram: &mut Ram, c1: Reg, addr: u64, value: Cap) -> Outcome
+    requires open { is_open hart.old.pcc ≡ true }
+    requires within { in_bounds hart.old.pcc (address_of hart.old.pcc) 4 ≡ true }
+    ensures { execute (StoreCap c1 addr value) hart.old ram.old
+        ≡ record { hart = hart.new; memory = ram.new; outcome = result } }
+{
+    let auth = hart.register(c1);
+    match access_check(auth, c1.number(), addr, Access::StoreCap, Some(value), ram) {
+        Ok(()) => {
+            ram.store_cap(addr, value);
+            hart.advance();
+            Outcome::Done
+        }
+        Err(trap) => hart.trap(trap),
+    }
+}
+
+/// Loads a capability and stores another in its place.
+#[tactic(auto, unfolding(cheri_model::specs::HartStep::execute, cheri_model::specs::HartStep::trapped))]
+fn swap(hart: &mut Hart, ram: &mut Ram, cd: Reg, c1: Reg, addr: u64, value: Cap) -> Outcome
+    requires open { is_open hart.old.pcc ≡ true }
+    requires within { in_bounds hart.old.pcc (address_of hart.old.pcc) 4 ≡ true }
+    ensures { execute (Swap cd c1 addr value) hart.old ram.old
+        ≡ record { hart = hart.new; memory = ram.new; outcome = result } }
+{
+    let auth = hart.register(c1);
+    match access_check(auth, c1.number(), addr, Access::Swap, Some(value), ram) {
+        Ok(()) => {
+            let old = ram.swap_cap(addr, value);
+            hart.put(cd, permitted(auth, old));
+            hart.advance();
+            Outcome::Done
+        }
+        Err(trap) => hart.trap(trap),
+    }
+}
+
+/// Goes to a target where a condition holds.
+#[tactic(auto, unfolding(cheri_model::specs::HartStep::execute, cheri_model::specs::HartStep::trapped))]
+fn branch(hart: &mut Hart, ram: &Ram, taken: bool, target: u64) -> Outcome
+    requires open { is_open hart.old.pcc ≡ true }
+    requires within { in_bounds hart.old.pcc (address_of hart.old.pcc) 4 ≡ true }
+    ensures { execute (Branch taken target) hart.old ram.now
+        ≡ record { hart = hart.new; memory = ram.now; outcome = result } }
+{
+    if !taken {
+        hart.advance();
+        return Outcome::Done;
+    }
+    let pcc = hart.pcc();
+    match target_check(pcc, target) {
+        Ok(()) => {
+            hart.set_pcc(at_target(pcc, target));
+            Outcome::Done
+        }
+        Err(trap) => hart.trap(trap),
+    }
+}
+
+/// Goes to a target, and leaves a link.
+#[tactic(auto, unfolding(cheri_model::specs::HartStep::execute, cheri_model::specs::HartStep::trapped))]
+fn jump(hart: &mut Hart, ram: &Ram, cd: Reg, target: u64) -> Outcome
+    requires open { is_open hart.old.pcc ≡ true }
+    requires within { in_bounds hart.old.pcc (address_of hart.old.pcc) 4 ≡ true }
+    ensures { execute (Jump cd target) hart.old ram.now
+        ≡ record { hart = hart.new; memory = ram.now; outcome = result } }
+{
+    let pcc = hart.pcc();
+    match target_check(pcc, target) {
+        Ok(()) => {
+            hart.put(cd, link(pcc));
+            hart.set_pcc(at_target(pcc, target));
+            Outcome::Done
+        }
+        Err(trap) => hart.trap(trap),
+    }
+}
+
+/// Goes to a target through a capability, and leaves a link.
+#[tactic(auto, unfolding(cheri_model::specs::HartStep::execute, cheri_model::specs::HartStep::trapped))]
+fn jump_through(
+    hart: &mut Hart,
+    ram: &Ram,
+    cd: Reg,
+    c1: Reg,
+    is_entry: bool,
+    target: u64,
+) -> Outcome
+    requires open { is_open hart.old.pcc ≡ true }
+    requires within { in_bounds hart.old.pcc (address_of hart.old.pcc) 4 ≡ true }
+    ensures { execute (JumpThrough cd c1 is_entry target) hart.old ram.now
+        ≡ record { hart = hart.new; memory = ram.now; outcome = result } }
+{
+    let through = hart.register(c1);
+    match jump_check(through, c1.number(), is_entry, target) {
+        Ok(()) => {
+            let back = link(hart.pcc());
+            hart.put(cd, back);
+            hart.set_pcc(entered(through, target));
+            Outcome::Done
+        }
+        Err(trap) => hart.trap(trap),
+    }
+}
+
+/// Goes to a target through a sealed pair, and leaves its data in c31.
+#[tactic(auto, unfolding(cheri_model::specs::HartStep::execute, cheri_model::specs::HartStep::trapped))]
+fn invoke(hart: &mut Hart, ram: &Ram, c1: Reg, c2: Reg, target: u64) -> Outcome
+    ensures { execute (Invoke c1 c2 target) hart.old ram.now
+        ≡ record { hart = hart.new; memory = ram.now; outcome = result } }
+{
+    let (code, data) = (hart.register(c1), hart.register(c2));
+    match invoke_check(code, c1.number(), data, c2.number(), target) {
+        Ok(()) => {
+            hart.put(Reg::new(31), data.unsealed());
+            hart.set_pcc(entered(code, target));
+            Outcome::Done
+        }
+        Err(trap) => hart.trap(trap),
+    }
+}
+
+/// Does what an instruction asks for after a fetch, which found PCC open and the instruction in its bounds.
+#[tactic(auto, unfolding(cheri_model::specs::HartStep::execute))]
+fn execute(action: Action, hart: &mut Hart, ram: &mut Ram) -> Outcome
+    requires open { is_open hart.old.pcc ≡ true }
+    requires within { in_bounds hart.old.pcc (address_of hart.old.pcc) 4 ≡ true }
+    ensures { execute (asks action) hart.old ram.old
+        ≡ record { hart = hart.new; memory = ram.new; outcome = result } }
 {
     match action {
         Action::Put { cd, value } => {
-            hart.put(cd, Cap::of_value(value));
-            hart.advance(count);
+            hart.put(cd, value);
+            hart.advance();
             Outcome::Done
         }
+        Action::Load {
+            cd,
+            c1,
+            addr,
+            width,
+            signed,
+        } => load(hart, ram, cd, c1, addr, width, signed),
+        Action::Store {
+            c1,
+            addr,
+            width,
+            number,
+        } => store(hart, ram, c1, addr, width, number),
+        Action::LoadCap { cd, c1, addr } => load_cap(hart, ram, cd, c1, addr),
+        Action::StoreCap { c1, addr, value } => store_cap(hart, ram, c1, addr, value),
+        Action::Swap {
+            cd,
+            c1,
+            addr,
+            value,
+        } => swap(hart, ram, cd, c1, addr, value),
+        Action::Branch { taken, target } => branch(hart, ram, taken, target),
+        Action::Jump { cd, target } => jump(hart, ram, cd, target),
+        Action::JumpThrough {
+            cd,
+            c1,
+            is_entry,
+            target,
+        } => jump_through(hart, ram, cd, c1, is_entry, target),
+        Action::Invoke { c1, c2, target } => invoke(hart, ram, c1, c2, target),
         Action::Halt => {
             hart.set_status(Status::Halted);
             Outcome::Halt
@@ -59,21 +293,18 @@ fn perform(action: Action, hart: &mut Hart, count: usize) -> Outcome
     }
 }
 
-/// One step of a hart that runs, whatever memory holds: the first failing check of the fetch traps and changes
-/// nothing but the status, else the instruction at PCC acts.
+/// One step of a hart that runs: the first failing check of the fetch traps and changes nothing but the status, else
+/// the instruction at PCC acts. Takes no memory.
 #[tactic(auto, unfolding(cheri_model::specs::HartStep::hart_step, cheri_model::specs::HartStep::trapped))]
-pub fn step(program: &[Instr], hart: &mut Hart) -> Outcome
-    ensures { (memory : List CapValue)
-        → hart_step program.now hart.old memory ≡ record { hart = hart.new; memory = memory; outcome = result } }
+pub fn step(program: &[Instr], hart: &mut Hart, ram: &mut Ram) -> Outcome
+    ensures { hart_step program.now hart.old ram.old
+        ≡ record { hart = hart.new; memory = ram.new; outcome = result } }
 {
     match fetch(program, hart.pcc()) {
         Ok(instr) => {
             let action = asked(instr, hart);
-            perform(action, hart, program.len())
+            execute(action, hart, ram)
         }
-        Err(trap) => {
-            hart.set_status(Status::Trapped(trap));
-            Outcome::Trap(trap)
-        }
+        Err(trap) => hart.trap(trap),
     }
 }

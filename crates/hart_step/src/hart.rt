@@ -1,14 +1,15 @@
 //! One hart: its registers, PCC and status.
 
-ghost use Rattle.std.specs.Prelude.{◌≡◌, ◌∷◌, All, Ok};
+ghost use Rattle.std.specs.Prelude.{◌≡◌, ◌∷◌, All, true};
 ghost use Rattle.cheri_model.specs.Authority.{EachOfHart};
 ghost use Rattle.cheri_model.specs.CapValue.{IsLawfulValue};
-ghost use Rattle.cheri_model.specs.Checks.{first_failing, fetch_table};
-ghost use Rattle.cheri_model.specs.HartStep.{next, null, put, register};
+ghost use Rattle.cheri_model.specs.Hart.{next, null, put, register};
 ghost use Rattle.cheri_model.specs.Image.{opening_hart};
+ghost use Rattle.cheri_model.specs.Results.{address_of, in_bounds, is_open};
 
+use crate::places::following;
 use cap_ops::Cap;
-use cheri_model::{HartImage, Reg, Status, Value};
+use cheri_model::{HartImage, Outcome, Reg, Status, Trap, Value};
 use std::marker::Model;
 
 /// A hart: the registers c0 to c31, of which c0 is always null, PCC, and whether it runs.
@@ -20,7 +21,7 @@ pub struct Hart {
 }
 
 impl Model for Hart {
-    ghost use Rattle.cheri_model.specs.HartStep.{HartState};
+    ghost use Rattle.cheri_model.specs.Hart.{HartState};
 
     ghost Value = { HartState };
 
@@ -64,7 +65,7 @@ impl Hart {
     }
 
     /// A register's value.
-    #[tactic(auto, unfolding(cheri_model::specs::HartStep::register))]
+    #[tactic(auto, unfolding(cheri_model::specs::Hart::register))]
     pub fn register(&self, reg: Reg) -> Cap
         ensures value { result ≡ register self.now reg }
         ensures lawful { IsLawfulValue result }
@@ -88,7 +89,7 @@ impl Hart {
     }
 
     /// Writes a register; a write to c0 is dropped.
-    #[tactic(auto, unfolding(cheri_model::specs::HartStep::put))]
+    #[tactic(auto, unfolding(cheri_model::specs::Hart::put))]
     pub fn put(&mut self, cd: Reg, value: Cap)
         ensures value { self.new ≡ put cd value self.old }
         ensures pcc { self.new.pcc ≡ self.old.pcc }
@@ -100,14 +101,22 @@ impl Hart {
         }
     }
 
-    /// Goes on to the next instruction, behind a fetch that passed.
-    #[tactic(auto, unfolding(cheri_model::specs::HartStep::next))]
-    pub fn advance(&mut self, _count: usize)
-        requires { first_failing (fetch_table self.old.pcc _count) ≡ Ok tt }
+    /// Advances PCC after a successful fetch.
+    #[tactic(auto, unfolding(cheri_model::specs::Hart::next))]
+    pub fn advance(&mut self)
+        requires open { is_open self.old.pcc ≡ true }
+        requires within { in_bounds self.old.pcc (address_of self.old.pcc) 4 ≡ true }
         ensures { self.new ≡ next self.old }
     {
-        let pcc = self.pcc.set_addr(self.pcc.addr().wrapping_add(4));
-        let _bits = pcc.bits();
+        self.pcc = following(self.pcc);
+    }
+
+    /// Replaces PCC.
+    pub fn set_pcc(&mut self, pcc: Cap)
+        ensures { self.new ≡ record self.old { pcc = pcc } }
+    {
+        // The getter says that it is lawful.
+        let _lawful = pcc.tag();
         self.pcc = pcc;
     }
 
@@ -116,5 +125,14 @@ impl Hart {
         ensures { self.new ≡ record self.old { status = status } }
     {
         self.status = status;
+    }
+
+    /// Stops the hart by a trap, which changes nothing else.
+    pub fn trap(&mut self, trap: Trap) -> Outcome
+        ensures outcome { result ≡ Outcome.Trap trap }
+        ensures hart { self.new ≡ record self.old { status = Status.Trapped trap } }
+    {
+        self.set_status(Status::Trapped(trap));
+        Outcome::Trap(trap)
     }
 }

@@ -2,11 +2,16 @@
 //! asks for.
 #![tactic(auto)]
 
+mod actions;
 mod checks;
 mod execute;
 mod hart;
+mod integers;
+mod places;
 mod view;
 
+pub use checks::access::access_check;
+pub use cheri_model::Access;
 pub use execute::step;
 pub use hart::Hart;
 pub use view::View;

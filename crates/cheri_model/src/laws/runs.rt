@@ -5,7 +5,7 @@ ghost use Rattle.cheri_model.specs.declared.trace.Entry.{Entry};
 ghost use Rattle.cheri_model.specs.Image.{ImageParts};
 ghost use Rattle.cheri_model.specs.Machine.{MachineState, Operation, opening_state, may_take, entry_of, state_after_one};
 ghost use Rattle.cheri_model.specs.Replay.{IsReplay, replayed_state};
-ghost use Rattle.cheri_model.specs.Authority.{IsLawfulState, IsConfined};
+ghost use Rattle.cheri_model.specs.Authority.{IsLawfulState, IsConfined, IsConfinedTo};
 
 /// The empty trace with the image's opening state is a replay, and a legal operation makes a longer one.
 pub fn replay_grows()
@@ -16,10 +16,14 @@ pub fn replay_grows()
 {}
 
 /// Where the opening state's values are lawful, each state of a run has lawful values alone, and every tagged one
-/// lies within an initial capability: authority is never made (CHERI ISA version 9, section 2.4).
+/// is granted by an initial capability: authority is never made (CHERI ISA v9, "capability monotonicity"). The same
+/// holds of the values after any beginning of the run.
 pub fn runs_are_confined()
     ensures lawful { (image : ImageParts) (order : List Operation)
         → IsLawfulState (opening_state image) → IsLawfulState (replayed_state image order) }
     ensures confined { (image : ImageParts) (order : List Operation)
         → IsLawfulState (opening_state image) → IsConfined image (replayed_state image order) }
+    ensures monotone { (image : ImageParts) (before later : List Operation)
+        → IsLawfulState (opening_state image)
+        → IsConfinedTo (replayed_state image before) (replayed_state image (before ++ later)) }
 {}

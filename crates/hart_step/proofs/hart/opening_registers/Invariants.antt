@@ -2,7 +2,7 @@
 use Rattle.std.proofs.Common.{◌≡◌, ℕ, ◌+◌, ◌<◌, ◌∷◌, length, get_or}
 use Rattle.std.specs.Prelude.{All}
 use Rattle.cheri_model.specs.CapValue.{CapValue, IsLawfulValue}
-use Rattle.cheri_model.specs.HartStep.{null}
+use Rattle.cheri_model.specs.Hart.{null}
 use Rattle.hart_step.proofs.hart.opening_registers.Given as goal
 
 abbrev pub invariant-loop-i : goal.invariant-loop-i

@@ -1,4 +1,4 @@
-use Rattle.cheri_model.proofs.Confined.{run_lawful}
+use Rattle.cheri_model.proofs.Confined.{run_lawful, run_monotone}
 use Rattle.cheri_model.proofs.laws.runs.runs_are_confined.Goals as goal
 
 pub returns-clause-lawful : goal.returns-clause-lawful
@@ -6,3 +6,6 @@ returns-clause-lawful c = λ image order lawful. (run_lawful image order lawful)
 
 pub returns-clause-confined : goal.returns-clause-confined
 returns-clause-confined c = λ image order lawful. (run_lawful image order lawful).1
+
+pub returns-clause-monotone : goal.returns-clause-monotone
+returns-clause-monotone c = run_monotone

@@ -1,0 +1,95 @@
+//! The check of an access to memory through a capability.
+
+ghost use Rattle.std.specs.Prelude.{◌≡◌, ◌+◌, ◌<◌, ◌&&◌, not, OnOk, IsTrue};
+ghost use Rattle.cheri_model.specs.Checks.{
+  access_table,
+  first_failing,
+  is_global,
+  is_load,
+  is_store,
+  is_tagged,
+  size_of,
+};
+ghost use Rattle.cheri_model.specs.Memory.{fits, is_in_ram};
+
+use crate::checks::{check, first_failing, in_bounds, lacks};
+use cap_ops::Cap;
+use cheri_model::permission::{GLOBAL, LOAD, STORE, STORE_CAP, STORE_LOCAL};
+use cheri_model::{Access, RAM_BASE, Trap};
+use tagged_mem::Ram;
+
+/// The bytes that an access moves.
+fn size_of(kind: Access) -> u64
+    ensures value { result ≡ size_of kind }
+    ensures some { 0 < result }
+{
+    match kind {
+        Access::Load(width) | Access::Store(width) => width.bytes(),
+        Access::LoadCap | Access::StoreCap | Access::Swap => 16,
+    }
+}
+
+/// Whether an access loads.
+fn is_load(kind: Access) -> bool
+    ensures { result ≡ is_load kind }
+{
+    matches!(&kind, Access::Load(_) | Access::LoadCap | Access::Swap)
+}
+
+/// Whether an access stores.
+fn is_store(kind: Access) -> bool
+    ensures { result ≡ is_store kind }
+{
+    matches!(&kind, Access::Store(_) | Access::StoreCap | Access::Swap)
+}
+
+/// Whether what is stored, as a capability, is tagged, and whether it also lacks Global.
+fn stored_kind(stored: Option<Cap>) -> (bool, bool)
+    ensures tagged { result.0 ≡ is_tagged stored }
+    ensures local { result.1 ≡ (is_tagged stored && not (is_global stored)) }
+{
+    match stored {
+        Some(value) => {
+            let tagged = value.tag();
+            (tagged, lacks(tagged, value, GLOBAL))
+        }
+        None => (false, false),
+    }
+}
+
+/// Whether this many bytes from an address on lie wholly in RAM.
+fn in_ram(ram: &Ram, from: u64, bytes: u64) -> bool
+    ensures { result ≡ is_in_ram ram.now from bytes }
+{
+    let end = u128::from(RAM_BASE) + u128::from(ram.size());
+    from >= RAM_BASE && u128::from(from) + u128::from(bytes) <= end
+}
+
+/// The first check that fails of an access at `addr` through the register with the number `reg`, which holds `auth`.
+/// `stored` is the capability to be stored, which a data store has none of. An access that passes fits the memory.
+#[tactic(auto, unfolding(cheri_model::specs::Checks::access_table))]
+pub fn access_check(
+    auth: Cap,
+    reg: u8,
+    addr: u64,
+    kind: Access,
+    stored: Option<Cap>,
+    ram: &Ram,
+) -> Result<(), Trap>
+    ensures first { result ≡ first_failing (access_table auth reg addr kind stored ram.now) }
+    ensures place { OnOk result (IsTrue (fits ram.now addr (size_of kind))) }
+{
+    let bytes = size_of(kind);
+    let (tagged, local) = stored_kind(stored);
+    first_failing(&[
+        check(!auth.tag(), Trap::TAG, reg),
+        check(auth.sealed(), Trap::SEAL, reg),
+        check(lacks(is_load(kind), auth, LOAD), Trap::LOAD, reg),
+        check(lacks(is_store(kind), auth, STORE), Trap::STORE, reg),
+        check(lacks(tagged, auth, STORE_CAP), Trap::STORE_CAP, reg),
+        check(lacks(local, auth, STORE_LOCAL), Trap::STORE_LOCAL, reg),
+        check(!in_bounds(auth, addr, bytes), Trap::LENGTH, reg),
+        check(addr % bytes != 0, Trap::ALIGNMENT, reg),
+        check(!in_ram(ram, addr, bytes), Trap::PLACE, reg),
+    ])
+}

@@ -1,0 +1,143 @@
+//! The integer operations (RISC-V unprivileged ISA, "RV64I").
+
+ghost use Rattle.std.specs.Prelude.{◌≡◌, ◌%◌, ◌/◌, ◌*◌, ◌^◌, ◌<◌};
+ghost use Rattle.cheri_model.specs.Integers.{
+  immediate,
+  is_less_signed,
+  shifted_left,
+  shifted_right,
+  shifted_arithmetic,
+  extended_word,
+  word_sum,
+  word_difference,
+  word_shifted_left,
+  word_shifted_right,
+  word_shifted_arithmetic,
+  upper_immediate,
+  extended,
+};
+ghost use Rattle.cheri_model.specs.Readings.{number_of};
+
+use cheri_model::Width;
+
+/// A signed immediate in 64 bits.
+pub fn immediate(imm: i16) -> u64
+    ensures { result ≡ immediate imm }
+{
+    i64::from(imm).cast_unsigned()
+}
+
+/// A truth value as an integer register has it.
+pub fn number_of(holds: bool) -> u64
+    ensures { result ≡ number_of holds }
+{
+    if holds { 1 } else { 0 }
+}
+
+/// Whether one number is less than another, both read as signed.
+#[tactic(auto, unfolding(cheri_model::specs::Integers::is_less_signed))]
+pub fn is_less_signed(a: u64, b: u64) -> bool
+    ensures { result ≡ is_less_signed a b }
+{
+    a.cast_signed() < b.cast_signed()
+}
+
+/// A shift to the left, by the amount modulo 64.
+#[tactic(auto, unfolding(cheri_model::specs::Integers::shifted_left))]
+pub fn shifted_left(a: u64, amount: u64) -> u64
+    ensures { result ≡ shifted_left a amount }
+{
+    a << (amount % 64)
+}
+
+/// A shift to the right, by the amount modulo 64.
+#[tactic(auto, unfolding(cheri_model::specs::Integers::shifted_right))]
+pub fn shifted_right(a: u64, amount: u64) -> u64
+    ensures { result ≡ shifted_right a amount }
+{
+    a >> (amount % 64)
+}
+
+/// The same, with the sign in the high bits.
+#[tactic(auto, unfolding(cheri_model::specs::Integers::shifted_arithmetic))]
+pub fn shifted_arithmetic(a: u64, amount: u64) -> u64
+    ensures { result ≡ shifted_arithmetic a amount }
+{
+    (a.cast_signed() >> (amount % 64)).cast_unsigned()
+}
+
+/// The low 32 bits.
+fn low_word(number: u64) -> u32
+    ensures { result ≡ number % 2 ^ 32 }
+{
+    (number % (1 << 32)) as u32
+}
+
+/// A number of 32 bits, sign-extended.
+#[tactic(auto, unfolding(cheri_model::specs::Integers::extended_word))]
+fn extended_word(number: u32) -> u64
+    ensures { result ≡ extended_word number }
+{
+    i64::from(number.cast_signed()).cast_unsigned()
+}
+
+/// The sum of the low 32 bits.
+#[tactic(auto, using(cheri_model::proofs::IntegersBack::extended_low), unfolding(cheri_model::specs::Integers::word_sum))]
+pub fn word_sum(a: u64, b: u64) -> u64
+    ensures { result ≡ word_sum a b }
+{
+    extended_word(low_word(a).wrapping_add(low_word(b)))
+}
+
+/// The difference of the low 32 bits.
+#[tactic(auto, using(cheri_model::proofs::IntegersBack::extended_low), unfolding(cheri_model::specs::Integers::word_difference))]
+pub fn word_difference(a: u64, b: u64) -> u64
+    ensures { result ≡ word_difference a b }
+{
+    extended_word(low_word(a).wrapping_sub(low_word(b)))
+}
+
+/// The low 32 bits shifted to the left, by the amount modulo 32.
+#[tactic(auto, using(cheri_model::proofs::IntegersBack::extended_low), unfolding(cheri_model::specs::Integers::word_shifted_left))]
+pub fn word_shifted_left(a: u64, amount: u64) -> u64
+    ensures { result ≡ word_shifted_left a amount }
+{
+    extended_word(low_word(a) << (amount % 32))
+}
+
+/// The low 32 bits shifted to the right, by the amount modulo 32.
+#[tactic(auto, unfolding(cheri_model::specs::Integers::word_shifted_right))]
+pub fn word_shifted_right(a: u64, amount: u64) -> u64
+    ensures { result ≡ word_shifted_right a amount }
+{
+    extended_word(low_word(a) >> (amount % 32))
+}
+
+/// The same, with the sign of the 32 bits in the high ones.
+#[tactic(auto, unfolding(cheri_model::specs::Integers::word_shifted_arithmetic))]
+pub fn word_shifted_arithmetic(a: u64, amount: u64) -> u64
+    ensures { result ≡ word_shifted_arithmetic a amount }
+{
+    i64::from(low_word(a).cast_signed() >> (amount % 32)).cast_unsigned()
+}
+
+/// What LUI writes and AUIPC adds: the immediate times 2^12, of 32 bits, sign-extended.
+#[tactic(auto, using(cheri_model::proofs::IntegersBack::extended_low), unfolding(cheri_model::specs::Integers::upper_immediate))]
+pub fn upper_immediate(imm: u32) -> u64
+    ensures { result ≡ upper_immediate imm }
+{
+    extended_word(imm << 12)
+}
+
+/// A loaded number of a width, sign-extended.
+#[tactic(auto, unfolding(cheri_model::specs::Integers::extended))]
+pub fn extended(width: Width, number: u64) -> u64
+    ensures { result ≡ extended width number }
+{
+    match width {
+        Width::Byte => i64::from(((number % (1 << 8)) as u8).cast_signed()).cast_unsigned(),
+        Width::Half => i64::from(((number % (1 << 16)) as u16).cast_signed()).cast_unsigned(),
+        Width::Word => i64::from(low_word(number).cast_signed()).cast_unsigned(),
+        Width::Double => number,
+    }
+}

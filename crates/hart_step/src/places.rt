@@ -1,0 +1,53 @@
+//! Where PCC goes: to the next instruction, or to the target of a jump. Each keeps its tag, since the checks before it
+//! say that it is in bounds.
+
+ghost use Rattle.std.specs.Prelude.{◌≡◌, true};
+ghost use Rattle.cheri_model.specs.CapValue.{IsLawfulValue, tag_of};
+ghost use Rattle.cheri_model.specs.Hart.{following, link};
+ghost use Rattle.cheri_model.specs.Results.{address_of, in_bounds, is_open, with_address};
+ghost use Rattle.cheri_model.specs.SealResults.{unsealed};
+
+use cap_ops::Cap;
+
+/// PCC at the next instruction.
+pub fn following(pcc: Cap) -> Cap
+    requires open { is_open pcc ≡ true }
+    requires within { in_bounds pcc (address_of pcc) 4 ≡ true }
+    ensures value { result ≡ following pcc }
+    ensures lawful { IsLawfulValue result }
+{
+    let next = pcc.set_addr(pcc.addr().wrapping_add(4));
+    // The getters say that both are lawful.
+    let _lawful = (pcc.tag(), next.tag());
+    next
+}
+
+/// What a jump leaves to come back by: the next instruction's address, sealed as a sentry.
+#[tactic(auto, unfolding(cheri_model::specs::Hart::link))]
+pub fn link(pcc: Cap) -> Cap
+    requires open { is_open pcc ≡ true }
+    requires within { in_bounds pcc (address_of pcc) 4 ≡ true }
+    ensures { result ≡ link pcc }
+{
+    following(pcc).seal_entry()
+}
+
+/// An open capability at a target in its bounds.
+pub fn at_target(pcc: Cap, target: u64) -> Cap
+    requires open { is_open pcc ≡ true }
+    requires within { in_bounds pcc target 4 ≡ true }
+    ensures { result ≡ with_address pcc target }
+{
+    // The getter says that it is lawful.
+    let _lawful = pcc.tag();
+    pcc.set_addr(target)
+}
+
+/// What becomes of PCC where a jump goes through a tagged capability, with the target in its bounds.
+pub fn entered(through: Cap, target: u64) -> Cap
+    requires tag { tag_of through ≡ true }
+    requires within { in_bounds through target 4 ≡ true }
+    ensures { result ≡ with_address (unsealed through) target }
+{
+    at_target(through.unsealed(), target)
+}
