@@ -1,1 +1,2 @@
 pub mod OpenedHarts
+pub mod Verdicts

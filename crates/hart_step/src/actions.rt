@@ -11,7 +11,7 @@ mod memory;
 mod registers;
 
 use crate::actions::immediates::{immediate_action, shift_action, upper_action, word_shift_action};
-use crate::actions::jumps::{branch_action, invoke_action, jump_action};
+use crate::actions::jumps::{address_of_target, branch_action, invoke_action};
 use crate::actions::memory::{load_action, store_action, swap_action};
 use crate::actions::registers::{three_action, two_action};
 use crate::hart::Hart;
@@ -105,7 +105,10 @@ fn asked_by_form(form: Form, hart: &Hart) -> Action
         Form::Store(op, c2, c1, imm) => store_action(op, c2, c1, imm, hart),
         Form::Swap(cd, c2, c1) => swap_action(cd, c2, c1, hart),
         Form::Branch(op, c1, c2, target) => branch_action(op, c1, c2, target, hart),
-        Form::Jump(cd, target) => jump_action(cd, target),
+        Form::Jump(cd, target) => Action::Jump {
+            cd,
+            target: address_of_target(target),
+        },
         Form::Invoke(c1, c2) => invoke_action(c1, c2, hart),
         Form::Alone => Action::Halt,
     }

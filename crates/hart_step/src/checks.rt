@@ -1,7 +1,9 @@
 //! The checks that an instruction must pass before it acts.
 
-ghost use Rattle.std.specs.Prelude.{◌≡◌, ◌&&◌, not, ◌<◌};
-ghost use Rattle.cheri_model.specs.Checks.{check_line, first_failing};
+ghost use Rattle.std.specs.Prelude.{◌≡◌, ◌%◌, ◌<◌, ◌==◌, ◌&&◌, not, find};
+ghost use Rattle.cheri_model.specs.Capability.{unsealed_type};
+ghost use Rattle.cheri_model.specs.CapValue.{tag_of};
+ghost use Rattle.cheri_model.specs.Checks.{check_line, first_failing, has_type};
 ghost use Rattle.cheri_model.specs.Results.{has_permission, in_bounds};
 
 use cap_ops::Cap;
@@ -29,6 +31,38 @@ impl Model for Line {
     ghost inverse = { λ l. record { fails = l.fails; trap = l.trap } };
 }
 
+impl Line {
+    fn fails(self) -> bool
+        ensures { result ≡ self.fails }
+    {
+        self.fails
+    }
+
+    fn trap(self) -> Trap
+        ensures { result ≡ self.trap }
+    {
+        self.trap
+    }
+}
+
+/// The first line that fails, if one does.
+fn first_line(table: &[Line]) -> Option<Line>
+    ensures { result ≡ find (λ line. line.fails) table.now }
+{
+    table.iter().copied().find(|line| line.fails())
+}
+
+/// The trap of the first line that fails, if one does.
+#[tactic(auto, unfolding(cheri_model::specs::Checks::first_failing))]
+pub(crate) fn first_failing(table: &[Line]) -> Result<(), Trap>
+    ensures { result ≡ first_failing table.now }
+{
+    match first_line(table) {
+        Some(line) => Err(line.trap()),
+        None => Ok(()),
+    }
+}
+
 /// A line of a table.
 pub(crate) fn check(fails: bool, cause: u8, reg: u8) -> Line
     ensures { result ≡ check_line fails cause reg }
@@ -39,15 +73,49 @@ pub(crate) fn check(fails: bool, cause: u8, reg: u8) -> Line
     }
 }
 
-/// The trap of the first line that fails, if one does.
-#[tactic(auto, unfolding(cheri_model::specs::Checks::first_failing))]
-pub(crate) fn first_failing(table: &[Line]) -> Result<(), Trap>
-    ensures { result ≡ first_failing table.now }
+/// The line that fails where the capability in a register is untagged.
+pub(crate) fn untagged(cap: Cap, reg: u8) -> Line
+    ensures { result ≡ check_line (not (tag_of cap)) Trap.TAG reg }
 {
-    match table.iter().copied().find(|line| line.fails) {
-        Some(line) => Err(line.trap),
-        None => Ok(()),
-    }
+    check(!cap.tag(), Trap::TAG, reg)
+}
+
+/// The line that fails where it is sealed.
+pub(crate) fn sealed(cap: Cap, reg: u8) -> Line
+    ensures { result ≡ check_line (not (has_type cap unsealed_type)) Trap.SEAL reg }
+{
+    check(cap.sealed(), Trap::SEAL, reg)
+}
+
+/// The line that fails where a permission is missing.
+pub(crate) fn without(cap: Cap, permission: u32, cause: u8, reg: u8) -> Line
+    requires { permission < 19 }
+    ensures { result ≡ check_line (not (has_permission cap permission)) cause reg }
+{
+    check(!cap.has_permission(permission), cause, reg)
+}
+
+/// The line that fails where a permission is needed and missing.
+pub(crate) fn without_needed(needed: bool, cap: Cap, permission: u32, cause: u8, reg: u8) -> Line
+    requires { permission < 19 }
+    ensures { result ≡ check_line (needed && not (has_permission cap permission)) cause reg }
+{
+    check(lacks(needed, cap, permission), cause, reg)
+}
+
+/// The line that fails where some bytes are not in the bounds.
+pub(crate) fn outside(cap: Cap, from: u64, bytes: u64, reg: u8) -> Line
+    ensures { result ≡ check_line (not (in_bounds cap from bytes)) Trap.LENGTH reg }
+{
+    check(!in_bounds(cap, from, bytes), Trap::LENGTH, reg)
+}
+
+/// The line that fails where an address is not a multiple.
+pub(crate) fn unaligned(addr: u64, bytes: u64, reg: u8) -> Line
+    requires { 0 < bytes }
+    ensures { result ≡ check_line (not (addr % bytes == 0)) Trap.ALIGNMENT reg }
+{
+    check(addr % bytes != 0, Trap::ALIGNMENT, reg)
 }
 
 /// Whether the permission with this number is needed and missing.
@@ -63,7 +131,7 @@ pub(crate) fn lacks(needed: bool, cap: Cap, number: u32) -> bool
 }
 
 /// Whether this many bytes from an address on lie in the bounds, as whole numbers.
-pub(crate) fn in_bounds(cap: Cap, from: u64, bytes: u64) -> bool
+fn in_bounds(cap: Cap, from: u64, bytes: u64) -> bool
     ensures { result ≡ in_bounds cap from bytes }
 {
     let (base, top) = cap.bounds();

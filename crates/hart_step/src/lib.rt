@@ -15,3 +15,6 @@ pub use cheri_model::Access;
 pub use execute::step;
 pub use hart::Hart;
 pub use view::View;
+
+#[cfg(test)]
+mod tests;

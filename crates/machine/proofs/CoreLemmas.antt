@@ -10,14 +10,14 @@ use Rattle.cheri_model.specs.declared.instr.Instr.{Instr}
 use Rattle.cheri_model.specs.declared.trace.Entry.{Entry}
 use Rattle.cheri_model.specs.CapValue.{CapValue, raw, IsLawfulValue}
 use Rattle.cheri_model.specs.Memory.{granule_at, IsMemory}
-use Rattle.cheri_model.specs.HartStep.{HartState}
+use Rattle.cheri_model.specs.Hart.{HartState}
 use Rattle.cheri_model.specs.Image.{ImageParts, opening_hart, opening_memory}
 use Rattle.cheri_model.specs.Machine.{MachineState, Operation, step_of, opening_state, is_running, hart_at, no_hart, may_take, entry_of, state_after_one}
 use Rattle.cheri_model.specs.Replay.{IsReplay, operations_of, state_after, replayed_state}
 use Rattle.cheri_model.specs.ImageForm.{is_between, are_sizes, is_image}
-use Rattle.cheri_model.specs.Authority.{EachOfHart, IsLawfulState, IsConfined}
+use Rattle.cheri_model.specs.Authority.{EachOfHart, IsLawfulState, IsConfined, IsMonotone}
 use Rattle.cheri_model.proofs.Replays.{IsReplay-opening, IsReplay_push, operations_of_push, operation-entry_of}
-use Rattle.cheri_model.proofs.Confined.{run_lawful}
+use Rattle.cheri_model.proofs.Confined.{run_lawful, replay_monotone}
 use Rattle.machine.specs.declared.faults.StepFault.{StepFault}
 use Rattle.machine.specs.declared.faults.StepFault.TheVariants.{NoSuchHart, TraceFull, HartStopped}
 use Rattle.machine.specs.Cores.{CoreParts, parts_of_core, is_limit, IsCore, IsHartStep, refused, unless_refused, answered, core_after}
@@ -94,21 +94,25 @@ pub core_confined : (core : CoreParts) → IsCore core → IsConfined core.image
 core_confined core is =
     subst (IsConfined core.image) (sym is.replay.state) (run_lawful core.image (operations_of core.trace) is.lawful).1
 
+-- and is granted by what any beginning of its trace left
+pub core_monotone : (core : CoreParts) → IsCore core → IsMonotone core.image core.trace core.state
+core_monotone core is = replay_monotone core.image core.trace core.state is.replay is.lawful
+
 -- what a step of a hart by itself says of the core
-module _ (core : CoreParts) (hart : ℕ) (after : HartState) (entry : Entry)
-    (step : IsHartStep core.image.program (hart_at core.state hart) hart after entry) where
+module _ (core : CoreParts) (hart : ℕ) (after : HartState) (memory : List CapValue) (entry : Entry)
+    (step : IsHartStep core.image.program (hart_at core.state hart) core.state.memory hart after memory entry) where
   pub entry_taken : entry ≡ entry_of core.image core.state (step_of hart)
   unfolding entry_of
-  entry_taken = step.entry_is core.state.memory
+  entry_taken = step.entry_is
 
-  state_taken : ◌≡◌ {A = MachineState} (record { harts = slice_set core.state.harts hart after; memory = core.state.memory }) (state_after_one core.image core.state (step_of hart))
+  state_taken : ◌≡◌ {A = MachineState} (record { harts = slice_set core.state.harts hart after; memory = memory }) (state_after_one core.image core.state (step_of hart))
   unfolding state_after_one
   state_taken i = record {
-    harts = slice_set core.state.harts hart (sym (step.after_is core.state.memory) i);
-    memory = sym (step.memory_is core.state.memory) i;
+    harts = slice_set core.state.harts hart (sym step.after_is i);
+    memory = sym step.memory_is i;
   }
 
-  pub core_taken : parts_of_core core.image core.limit (core.trace ++ entry ∷ []) (slice_set core.state.harts hart after) core.state.memory ≡ core_after core (step_of hart)
+  pub core_taken : parts_of_core core.image core.limit (core.trace ++ entry ∷ []) (slice_set core.state.harts hart after) memory ≡ core_after core (step_of hart)
   unfolding core_after
   core_taken i = record {
     image = core.image;
@@ -123,27 +127,27 @@ unfolding hart_at
 read_hart state number hart inside is = get_or_read state.harts number hart inside is no_hart
 
 -- what a step that was not refused leaves of a core, which is seen as this
-pub record Took (core seen : CoreParts) (hart number : ℕ) (after : HartState) (entry : Entry) : Type 0 where
+pub record Took (core seen : CoreParts) (hart number : ℕ) (after : HartState) (memory : List CapValue) (entry : Entry) : Type 0 where
   pub entry_is : entry ≡ entry_of seen.image seen.state (step_of hart)
-  pub core_is : parts_of_core core.image core.limit (core.trace ++ entry ∷ []) (slice_set core.state.harts number after) core.state.memory ≡ core_after seen (step_of hart)
-  pub keeps : IsCore (parts_of_core core.image core.limit (core.trace ++ entry ∷ []) (slice_set core.state.harts number after) core.state.memory)
+  pub core_is : parts_of_core core.image core.limit (core.trace ++ entry ∷ []) (slice_set core.state.harts number after) memory ≡ core_after seen (step_of hart)
+  pub keeps : IsCore (parts_of_core core.image core.limit (core.trace ++ entry ∷ []) (slice_set core.state.harts number after) memory)
 
 pub can_step : (core seen : CoreParts) (hart : ℕ) → core ≡ seen → refused seen (step_of hart) ≡ None → CanStep core hart
 can_step core seen hart same none = not_refused core hart (subst (λ (k : CoreParts). refused k (step_of hart) ≡ None) (sym same) none)
 
-pub took : (core seen : CoreParts) (hart number : ℕ) (program : List Instr) (before after : HartState) (entry : Entry) →
+pub took : (core seen : CoreParts) (hart number : ℕ) (program : List Instr) (before after : HartState) (memory : List CapValue) (entry : Entry) →
     core ≡ seen → IsCore core → refused seen (step_of hart) ≡ None → number ≡ hart → program ≡ core.image.program →
-    before ≡ get_or core.state.harts number before → IsHartStep program before hart after entry → Took core seen hart number after entry
-took core seen hart number program before after entry view is none same same_program read step =
+    before ≡ get_or core.state.harts number before → IsHartStep program before core.state.memory hart after memory entry → Took core seen hart number after memory entry
+took core seen hart number program before after memory entry view is none same same_program read step =
     let can = can_step core seen hart view none in
     let inside : number < length core.state.harts = (let there = can.there in omega arith) in
     let here : before ≡ hart_at core.state hart = read_hart core.state number before inside read ∙ ap (hart_at core.state) same in
-    let stepped = subst (λ (p : List Instr). IsHartStep p (hart_at core.state hart) hart after entry) same_program
-    (subst (λ (h : HartState). IsHartStep program h hart after entry) here step) in
-    let left = ap (λ n. parts_of_core core.image core.limit (core.trace ++ entry ∷ []) (slice_set core.state.harts n after) core.state.memory) same
-    ∙ core_taken core hart after entry stepped in
+    let stepped = subst (λ (p : List Instr). IsHartStep p (hart_at core.state hart) core.state.memory hart after memory entry) same_program
+    (subst (λ (h : HartState). IsHartStep program h core.state.memory hart after memory entry) here step) in
+    let left = ap (λ n. parts_of_core core.image core.limit (core.trace ++ entry ∷ []) (slice_set core.state.harts n after) memory) same
+    ∙ core_taken core hart after memory entry stepped in
     record {
-      entry_is = entry_taken core hart after entry stepped ∙ ap (λ (k : CoreParts). entry_of k.image k.state (step_of hart)) view;
+      entry_is = entry_taken core hart after memory entry stepped ∙ ap (λ (k : CoreParts). entry_of k.image k.state (step_of hart)) view;
       core_is = left ∙ ap (λ (k : CoreParts). core_after k (step_of hart)) view;
       keeps = subst IsCore (sym left) (stepped_core core hart is can);
     }

@@ -3,7 +3,8 @@ use Rattle.std.specs.Prelude.{◌≡◌, ℕ, ◌≤◌, nat_lt, nat_le, not, �
 use Rattle.cheri_model.specs.declared.instr.Instr.{Instr}
 use Rattle.cheri_model.specs.declared.trace.Entry.{Entry}
 use Rattle.cheri_model.specs.CapValue.{CapValue}
-use Rattle.cheri_model.specs.HartStep.{HartState, hart_step}
+use Rattle.cheri_model.specs.Hart.{HartState}
+use Rattle.cheri_model.specs.HartStep.{hart_step}
 use Rattle.cheri_model.specs.Results.{address_of}
 use Rattle.cheri_model.specs.Image.{ImageParts}
 use Rattle.cheri_model.specs.Machine.{MachineState, Operation, step_of, opening_state, is_running, hart_at, entry_of, state_after_one}
@@ -68,9 +69,9 @@ unless_kept (Some fault) core after = core
 unfoldable pub applied : CoreParts → Operation → CoreParts
 applied core op = unless_kept (refused core op) core (core_after core op)
 
--- what a step of a hart by itself leaves and answers, whatever memory holds
-pub record IsHartStep (program : List Instr) (before : HartState) (number : ℕ) (after : HartState) (entry : Entry) : Type 0 where
-  pub after_is : (memory : List CapValue) → (hart_step program before memory).hart ≡ after
-  pub memory_is : (memory : List CapValue) → (hart_step program before memory).memory ≡ memory
-  pub entry_is : (memory : List CapValue) →
+-- what a step of a hart by itself leaves, of the hart and of memory, and answers
+pub record IsHartStep (program : List Instr) (before : HartState) (memory : List CapValue) (number : ℕ) (after : HartState) (memory_after : List CapValue) (entry : Entry) : Type 0 where
+  pub after_is : (hart_step program before memory).hart ≡ after
+  pub memory_is : (hart_step program before memory).memory ≡ memory_after
+  pub entry_is :
       entry ≡ record { hart = number; pc = address_of before.pcc; outcome = (hart_step program before memory).outcome }

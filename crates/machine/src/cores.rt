@@ -4,7 +4,7 @@
 ghost use Rattle.std.specs.Prelude.{◌≡◌, ◌↔◌, ◌<◌, ◌≤◌, [], ◌∷◌, ◌++◌};
 ghost use Rattle.std.specs.Prelude.{length, vec_len, vec_capacity, false};
 ghost use Rattle.std.specs.Prelude.{IfOk, OnOk, OnErr, Err, None};
-ghost use Rattle.cheri_model.specs.Authority.{IsConfined};
+ghost use Rattle.cheri_model.specs.Authority.{IsConfined, IsMonotone};
 ghost use Rattle.cheri_model.specs.Machine.{step_of, opening_state, entry_of};
 ghost use Rattle.cheri_model.specs.Replay.{IsReplay};
 ghost use Rattle.hart_step.specs.View.{state_of};
@@ -110,6 +110,7 @@ impl Core {
         ensures applied { self.new ≡ applied self.old (step_of hart) }
         ensures core { IsCore self.new }
         ensures confined { IsConfined self.new.image self.new.state }
+        ensures monotone { IsMonotone self.new.image self.new.trace self.new.state }
     {
         match self.refusal(hart) {
             Some(fault) => Err(fault),
@@ -119,14 +120,15 @@ impl Core {
 
     /// What is shown of the machine now. This is the headline, for whoever looks: the registers,
     /// memory and tags shown are those of the replay of the shown trace from the stored image, the
-    /// trace is the replay's entries, and every tagged capability lies within an initial one. Takes
-    /// no memory.
+    /// trace is the replay's entries, and every tagged capability is granted by the initial ones,
+    /// and by those that any beginning of the trace left. Takes no memory.
     pub fn view(&self) -> View<'_>
         ensures image { result.image.now ≡ self.now.image }
         ensures entries { result.entries.now ≡ self.now.trace }
         ensures state { state_of result ≡ self.now.state }
         ensures replay { IsReplay self.now.image self.now.trace self.now.state }
         ensures confined { IsConfined self.now.image self.now.state }
+        ensures monotone { IsMonotone self.now.image self.now.trace self.now.state }
     {
         View {
             image: &self.image,
@@ -144,7 +146,8 @@ impl Core {
         ensures core { IsCore self.new }
     {
         let number = usize::from(hart);
-        let (stepped, entry) = step_hart(self.image.program(), self.harts[number], hart);
+        let mut stepped = self.harts[number];
+        let entry = step_hart(self.image.program(), &mut stepped, &mut self.ram, hart);
         self.harts[number] = stepped;
         append(&mut self.trace, entry);
         entry
@@ -179,16 +182,15 @@ fn append(trace: &mut Vec<Entry>, entry: Entry)
     trace.push(entry).unwrap();
 }
 
-/// The hart after its step, and the entry of the step. Memory is not reached, whatever it holds.
-fn step_hart(program: &[Instr], before: Hart, number: u8) -> (Hart, Entry)
-    ensures { IsHartStep program.now before number result.0 result.1 }
+/// Steps a hart in place, and gives the entry of the step.
+fn step_hart(program: &[Instr], hart: &mut Hart, ram: &mut Ram, number: u8) -> Entry
+    ensures { IsHartStep program.now hart.old ram.old number hart.new ram.new result }
 {
-    let mut hart = before;
-    let outcome = step(program, &mut hart);
-    let entry = Entry {
+    let pc = hart.pcc().addr();
+    let outcome = step(program, hart, ram);
+    Entry {
         hart: number,
-        pc: before.pcc().addr(),
+        pc,
         outcome,
-    };
-    (hart, entry)
+    }
 }

@@ -4,7 +4,7 @@ use Rattle.std.specs.Prelude.{ℕ, ◌+◌, ◌*◌, if◌then◌else◌, List, 
 use Rattle.cheri_model.specs.declared.trace.Entry.{Entry}
 use Rattle.cheri_model.specs.declared.trace.Status.{Status}
 use Rattle.cheri_model.specs.CapValue.{CapValue}
-use Rattle.cheri_model.specs.HartStep.{HartState, register}
+use Rattle.cheri_model.specs.Hart.{HartState, register}
 use Rattle.cheri_model.specs.Image.{ImageParts}
 use Rattle.cheri_model.specs.ImageForm.{is_listed}
 use Rattle.cheri_model.specs.Machine.{MachineState}

@@ -93,7 +93,7 @@ csetbounds_statement words = do
   cd ← register_of (word_at words 1)
   c1 ← register_of (word_at words 2)
   c2 ← register_of (word_at words 3)
-  Ok (Instruction (instr.Csetbounds cd c1 c2))
+  Ok (Instruction (instr.CSetBounds cd c1 c2))
 
 -- `cgetlen cd, c1`
 unfoldable pub cgetlen_statement : List (List ℕ) → Result Statement ListingFaultKind
@@ -101,7 +101,7 @@ cgetlen_statement words = do
   count ← counted 3 words
   cd ← register_of (word_at words 1)
   c1 ← register_of (word_at words 2)
-  Ok (Instruction (instr.Cgetlen cd c1))
+  Ok (Instruction (instr.CGetLen cd c1))
 
 -- `ecall`
 unfoldable pub ecall_statement : List (List ℕ) → Result Statement ListingFaultKind

@@ -70,7 +70,7 @@ pub fn set_bounds_action(cd: Reg, c1: Reg, len: u16, hart: &Hart) -> Action
 }
 
 /// What an instruction with an immediate for the upper bits asks for.
-#[tactic(auto, unfolding(cheri_model::specs::Form::upper_instr, cheri_model::specs::Actions::action, cheri_model::specs::CapInstructions::capability_result))]
+#[tactic(auto, using(cheri_model::proofs::IntegersBack::integers_back), unfolding(cheri_model::specs::Form::upper_instr, cheri_model::specs::Actions::action, cheri_model::specs::CapInstructions::capability_result))]
 pub fn upper_action(op: UpperOp, cd: Reg, imm: u32, hart: &Hart) -> Action
     ensures { asks result ≡ action (upper_instr op cd imm) hart.now }
 {

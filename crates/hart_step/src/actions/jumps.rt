@@ -1,10 +1,9 @@
-//! The branches, CJAL and CInvoke.
+//! The branches and CInvoke, and the addresses of targets.
 
 ghost use Rattle.std.specs.Prelude.{◌≡◌};
 ghost use Rattle.cheri_model.specs.Actions.{action, address_of_target};
 ghost use Rattle.cheri_model.specs.Form.{branch_instr};
-ghost use Rattle.cheri_model.specs.Hart.{HartState};
-ghost use Rattle.cheri_model.specs.declared.instr.Instr.TheVariants.{CInvoke, CJal};
+ghost use Rattle.cheri_model.specs.declared.instr.Instr.TheVariants.{CInvoke};
 ghost use Rattle.hart_step.specs.Actions.{asks};
 
 use crate::actions::Action;
@@ -16,7 +15,7 @@ use cheri_model::{CODE_BASE, INSTRUCTION_BYTES, Reg, Target};
 
 /// The address of an instruction.
 #[tactic(auto, unfolding(cheri_model::specs::Actions::address_of_target))]
-fn address_of_target(target: Target) -> u64
+pub fn address_of_target(target: Target) -> u64
     ensures { result ≡ address_of_target target }
 {
     CODE_BASE + INSTRUCTION_BYTES * u64::from(target.number())
@@ -38,17 +37,6 @@ pub fn branch_action(op: BranchOp, c1: Reg, c2: Reg, target: Target, hart: &Hart
     };
     Action::Branch {
         taken,
-        target: address_of_target(target),
-    }
-}
-
-/// What CJAL asks for.
-#[tactic(auto, unfolding(cheri_model::specs::Actions::action))]
-pub fn jump_action(cd: Reg, target: Target) -> Action
-    ensures { (hart : HartState) → asks result ≡ action (CJal cd target) hart }
-{
-    Action::Jump {
-        cd,
         target: address_of_target(target),
     }
 }

@@ -12,7 +12,9 @@ ghost use Rattle.cheri_model.specs.Checks.{
 };
 ghost use Rattle.cheri_model.specs.Memory.{fits, is_in_ram};
 
-use crate::checks::{check, first_failing, in_bounds, lacks};
+use crate::checks::{
+    check, first_failing, lacks, outside, sealed, unaligned, untagged, without_needed,
+};
 use cap_ops::Cap;
 use cheri_model::permission::{GLOBAL, LOAD, STORE, STORE_CAP, STORE_LOCAL};
 use cheri_model::{Access, RAM_BASE, Trap};
@@ -65,9 +67,35 @@ fn in_ram(ram: &Ram, from: u64, bytes: u64) -> bool
     from >= RAM_BASE && u128::from(from) + u128::from(bytes) <= end
 }
 
+/// The table of the checks of an access.
+#[tactic(auto, unfolding(cheri_model::specs::Checks::access_table))]
+fn table_verdict(
+    auth: Cap,
+    reg: u8,
+    addr: u64,
+    kind: Access,
+    stored: Option<Cap>,
+    ram: &Ram,
+) -> Result<(), Trap>
+    ensures { result ≡ first_failing (access_table auth reg addr kind stored ram.now) }
+{
+    let bytes = size_of(kind);
+    let (tagged, local) = stored_kind(stored);
+    first_failing(&[
+        untagged(auth, reg),
+        sealed(auth, reg),
+        without_needed(is_load(kind), auth, LOAD, Trap::LOAD, reg),
+        without_needed(is_store(kind), auth, STORE, Trap::STORE, reg),
+        without_needed(tagged, auth, STORE_CAP, Trap::STORE_CAP, reg),
+        without_needed(local, auth, STORE_LOCAL, Trap::STORE_LOCAL, reg),
+        outside(auth, addr, bytes, reg),
+        unaligned(addr, bytes, reg),
+        check(!in_ram(ram, addr, bytes), Trap::PLACE, reg),
+    ])
+}
+
 /// The first check that fails of an access at `addr` through the register with the number `reg`, which holds `auth`.
 /// `stored` is the capability to be stored, which a data store has none of. An access that passes fits the memory.
-#[tactic(auto, unfolding(cheri_model::specs::Checks::access_table))]
 pub fn access_check(
     auth: Cap,
     reg: u8,
@@ -79,17 +107,5 @@ pub fn access_check(
     ensures first { result ≡ first_failing (access_table auth reg addr kind stored ram.now) }
     ensures place { OnOk result (IsTrue (fits ram.now addr (size_of kind))) }
 {
-    let bytes = size_of(kind);
-    let (tagged, local) = stored_kind(stored);
-    first_failing(&[
-        check(!auth.tag(), Trap::TAG, reg),
-        check(auth.sealed(), Trap::SEAL, reg),
-        check(lacks(is_load(kind), auth, LOAD), Trap::LOAD, reg),
-        check(lacks(is_store(kind), auth, STORE), Trap::STORE, reg),
-        check(lacks(tagged, auth, STORE_CAP), Trap::STORE_CAP, reg),
-        check(lacks(local, auth, STORE_LOCAL), Trap::STORE_LOCAL, reg),
-        check(!in_bounds(auth, addr, bytes), Trap::LENGTH, reg),
-        check(addr % bytes != 0, Trap::ALIGNMENT, reg),
-        check(!in_ram(ram, addr, bytes), Trap::PLACE, reg),
-    ])
+    table_verdict(auth, reg, addr, kind, stored, ram)
 }

@@ -6,7 +6,7 @@ ghost use Rattle.cheri_model.specs.Checks.{first_failing, fetch_table, is_in_cod
 ghost use Rattle.cheri_model.specs.HartStep.{instruction_at};
 ghost use Rattle.cheri_model.specs.Results.{address_of, in_bounds, is_open};
 
-use crate::checks::{check, first_failing, in_bounds};
+use crate::checks::{check, first_failing, outside, sealed, unaligned, untagged, without};
 use cap_ops::Cap;
 use cheri_model::permission::EXECUTE;
 use cheri_model::{CODE_BASE, INSTRUCTION_BYTES, Instr, Trap};
@@ -25,11 +25,11 @@ fn fetch_check(pcc: Cap, count: usize) -> Result<(), Trap>
 {
     let pc = pcc.addr();
     first_failing(&[
-        check(!pcc.tag(), Trap::TAG, Trap::PCC),
-        check(pcc.sealed(), Trap::SEAL, Trap::PCC),
-        check(!pcc.has_permission(EXECUTE), Trap::EXECUTE, Trap::PCC),
-        check(!in_bounds(pcc, pc, INSTRUCTION_BYTES), Trap::LENGTH, Trap::PCC),
-        check(pc % INSTRUCTION_BYTES != 0, Trap::ALIGNMENT, Trap::PCC),
+        untagged(pcc, Trap::PCC),
+        sealed(pcc, Trap::PCC),
+        without(pcc, EXECUTE, Trap::EXECUTE, Trap::PCC),
+        outside(pcc, pc, INSTRUCTION_BYTES, Trap::PCC),
+        unaligned(pc, INSTRUCTION_BYTES, Trap::PCC),
         check(!is_in_code(count, pc), Trap::FETCH, Trap::PCC),
     ])
 }

@@ -181,7 +181,7 @@ fn csetbounds_statement(words: &[&[u8]]) -> Result<Statement, ListingFaultKind>
     let cd = register_of(word_at(words, 1))?;
     let c1 = register_of(word_at(words, 2))?;
     let c2 = register_of(word_at(words, 3))?;
-    Ok(Statement::Instruction(Instr::Csetbounds { cd, c1, c2 }))
+    Ok(Statement::Instruction(Instr::CSetBounds { cd, c1, c2 }))
 }
 
 /// `cgetlen cd, c1`
@@ -192,7 +192,7 @@ fn cgetlen_statement(words: &[&[u8]]) -> Result<Statement, ListingFaultKind>
     counted(3, words)?;
     let cd = register_of(word_at(words, 1))?;
     let c1 = register_of(word_at(words, 2))?;
-    Ok(Statement::Instruction(Instr::Cgetlen { cd, c1 }))
+    Ok(Statement::Instruction(Instr::CGetLen { cd, c1 }))
 }
 
 /// `ecall`

@@ -244,12 +244,12 @@ fn what_is_in_an_image(rt: HostRuntime) -> Result<(), Fail> {
             c1: Reg::new(0),
             imm: 100,
         },
-        Instr::Csetbounds {
+        Instr::CSetBounds {
             cd: c7,
             c1: c5,
             c2: c6,
         },
-        Instr::Cgetlen { cd: c8, c1: c7 },
+        Instr::CGetLen { cd: c8, c1: c7 },
         Instr::Ecall,
     ];
     assert_eq!(rt; image.program(), program.as_slice());

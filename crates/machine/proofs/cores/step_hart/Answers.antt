@@ -1,4 +1,4 @@
--- What the step leaves and answers is the definition's, at every memory.
+-- What the step leaves and answers is the definition's.
 use Rattle.std.proofs.Common.{sym, ap, ◌∙◌}
 use Rattle.cheri_model.specs.Results.{address_of}
 use Rattle.machine.proofs.cores.step_hart.Goals as goal
@@ -6,11 +6,11 @@ use Rattle.machine.proofs.cores.step_hart.Goals as goal
 pub returns : goal.returns
 unfolding address_of
 returns c = record {
-  after_is = λ memory. ap (λ s. s.hart) (c.step-outcome.ensures memory);
-  memory_is = λ memory. ap (λ s. s.memory) (c.step-outcome.ensures memory);
-  entry_is = λ memory i. record {
+  after_is = ap (λ s. s.hart) c.step-outcome.ensures;
+  memory_is = ap (λ s. s.memory) c.step-outcome.ensures;
+  entry_is = λ i. record {
     hart = c.args.number;
-    pc = (c.addr.ensures.value ∙ ap address_of c.pcc.ensures.value) i;
-    outcome = sym (ap (λ s. s.outcome) (c.step-outcome.ensures memory)) i;
+    pc = (c.addr-pc.ensures.value ∙ ap address_of c.pcc.ensures.value) i;
+    outcome = sym (ap (λ s. s.outcome) c.step-outcome.ensures) i;
   };
 }

@@ -3,7 +3,7 @@ use Rattle.std.proofs.Common.{sym, ap, ◌∙◌}
 use Rattle.std.specs.Prelude.{Ok}
 use Rattle.cheri_model.specs.Machine.{step_of, entry_of}
 use Rattle.machine.specs.Cores.{answered, applied, core_after, unless_refused, unless_kept}
-use Rattle.machine.proofs.CoreLemmas.{core_confined}
+use Rattle.machine.proofs.CoreLemmas.{core_confined, core_monotone}
 use Rattle.machine.proofs.cores.Core.step.Goals as goal
 
 pub returns-in-Some-clause-answered : goal.returns-in-Some-clause-answered
@@ -37,3 +37,9 @@ returns-in-None-clause-applied c =
     let core = c.args.self.now in
     c.take.ensures.after
     ∙ sym (ap (λ r. unless_kept r core (core_after core (step_of c.args.hart))) (sym c.refusal.ensures.value ∙ c.in-None.is))
+
+pub returns-in-Some-clause-monotone : goal.returns-in-Some-clause-monotone
+returns-in-Some-clause-monotone c = core_monotone c.args.self.now c.refusal.ensures.core
+
+pub returns-in-None-clause-monotone : goal.returns-in-None-clause-monotone
+returns-in-None-clause-monotone c = core_monotone c.take.new.self c.take.ensures.core
