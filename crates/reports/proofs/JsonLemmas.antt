@@ -13,7 +13,7 @@ use Rattle.cheri_model.specs.declared.trace.Outcome.TheVariants as outcome
 use Rattle.cheri_model.specs.declared.trace.Status.{Status}
 use Rattle.cheri_model.specs.declared.trace.Status.TheVariants as status
 use Rattle.cheri_model.specs.CapValue.{CapValue, tag_of}
-use Rattle.cheri_model.specs.HartStep.{HartState, register}
+use Rattle.cheri_model.specs.Hart.{HartState, register}
 use Rattle.cheri_model.specs.Image.{ImageParts}
 use Rattle.cheri_model.specs.ImageForm.{is_listed}
 use Rattle.cheri_model.specs.Machine.{MachineState}
