@@ -2,8 +2,16 @@
 
 ghost use Rattle.std.specs.Prelude.{◌≡◌};
 ghost use Rattle.cheri_model.specs.Form.{
-    instr_of, three_instr, two_instr, immediate_instr, shift_instr, word_shift_instr, upper_instr, load_instr,
-    store_instr, branch_instr
+  instr_of,
+  three_instr,
+  two_instr,
+  immediate_instr,
+  shift_instr,
+  word_shift_instr,
+  upper_instr,
+  load_instr,
+  store_instr,
+  branch_instr,
 };
 
 use crate::instr::Instr;

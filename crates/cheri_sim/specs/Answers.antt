@@ -11,7 +11,7 @@ use Rattle.cheri_model.specs.Readings.{permissions_of, flags_of, object_type_of,
 use Rattle.texts.specs.declared.listing.fault.ListingFaultKind.{ListingFaultKind}
 use Rattle.cheri_sim.specs.declared.faults.Fault.{Fault}
 use Rattle.cheri_sim.specs.declared.faults.Fault.TheVariants.{BadNumber}
-use Rattle.texts.specs.ListingNumbers.{number_of}
+use Rattle.texts.specs.ListingNumerals.{number_of}
 use Rattle.reports.specs.Report.{line}
 use Rattle.reports.specs.ReportText.{◌+++◌, hex_text, type_text}
 

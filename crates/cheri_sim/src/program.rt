@@ -3,7 +3,7 @@
 ghost use Rattle.std.specs.Prelude.{◌≡◌, ◌≢◌, ◌≤◌, ◌⊎◌, IfOk, IfErr, OnOk, Err, Some, None};
 ghost use Rattle.std.specs.Io.KnownBytes.{Appends};
 ghost use Rattle.command_line.specs.Requests.{Asked, asked, Check, Run, Bounds, Decode};
-ghost use Rattle.texts.specs.ListingWords.{texts};
+ghost use Rattle.texts.specs.ListingTokens.{texts};
 ghost use Rattle.cheri_sim.specs.Answers.{number_given};
 ghost use Rattle.cheri_sim.specs.Faults.{fault_text, status_of};
 ghost use Rattle.cheri_sim.specs.Files.{AreBytesOf};

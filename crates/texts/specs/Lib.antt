@@ -2,11 +2,19 @@
 pub mod Orders
 -- Listings.
 pub mod ListingFaults
-pub mod ListingWords
-pub mod ListingNumbers
+pub mod ListingLines
+pub mod ListingTokens
+pub mod ListingNumerals
 pub mod ListingPermissions
 pub mod ListingOperands
-pub mod ListingKeywords
-pub mod ListingStatements
+pub mod ListingDirectives
+pub mod ListingMnemonics
+pub mod ListingLabels
+pub mod ListingPlaces
+pub mod ListingForms
+pub mod ListingCapability
 pub mod ListingDraft
+pub mod ListingStatement
 pub mod ListingMeaning
+pub mod ListingInstructions
+pub mod ListingCanon

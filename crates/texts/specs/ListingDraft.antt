@@ -1,39 +1,46 @@
 -- What the lines of a listing make, one after another.
-use Rattle.std.specs.Prelude.{ℕ, ◌-◌, ◌==◌, nat_lt, Bool, true, false, if◌then◌else◌, List, [], ◌∷◌, ◌++◌, length, replicate, slice_index_or, slice_set, Result, Ok, Err}
+use Rattle.std.specs.Prelude.{ℕ, ◌+◌, ◌-◌, ◌==◌, nat_lt, nat_le, Bool, true, false, if◌then◌else◌, List, [], ◌∷◌, ◌++◌, length, replicate, slice_index_or, slice_set, Option, Some, None, Result, Ok, Err}
 use Rattle.cheri_model.specs.declared.instr.Instr.{Instr}
 use Rattle.cheri_model.specs.declared.image.HartImage.{HartImage}
+use Rattle.cheri_model.specs.declared.image.TheConstants.{MAX_HARTS, MAX_INSTRUCTIONS}
 use Rattle.cheri_model.specs.CapValue.{CapValue, raw}
-use Rattle.cap_ops.specs.Making.{made}
-use Rattle.cap_ops.specs.declared.making.MakeFault.{MakeFault}
+use Rattle.cheri_model.specs.Memory.{cleared_memory, is_ram_size, is_in_ram, fits, store_data, store_capability}
 use Rattle.texts.specs.declared.listing.fault.ListingFaultKind.{ListingFaultKind}
-use Rattle.texts.specs.declared.listing.fault.ListingFaultKind.TheVariants.{Twice, Capability, NoHart, Size}
+use Rattle.texts.specs.declared.listing.fault.ListingFaultKind.TheVariants.{Range, Twice, NoHart, Size}
 use Rattle.texts.specs.declared.listing.capability.CapParts.{CapParts}
-use Rattle.texts.specs.declared.listing.statement.Statement.{Statement}
-use Rattle.texts.specs.declared.listing.statement.Statement.TheVariants.{Hart, Set, Instruction}
+use Rattle.texts.specs.declared.listing.draft.Setting.{Setting}
+use Rattle.texts.specs.declared.listing.draft.Setting.TheVariants.{Word, Capability}
 use Rattle.texts.specs.ListingFaults.{◌>>=◌}
+use Rattle.texts.specs.ListingCapability.{capability_of}
 
--- what was made, or the one kind of fault that stands for each refusal
-abbrev pub unless_refused : Result CapValue MakeFault → Result CapValue ListingFaultKind
-unless_refused (Ok value) = Ok value
-unless_refused (Err refusal) = Err Capability
-
--- The tagged capability of these parts. There is none where base and length exceed 2^64, where rounding would change
--- a bound, or where the address is not in the window.
-unfoldable pub capability_of : CapParts → Result CapValue ListingFaultKind
-capability_of parts = unless_refused (made parts.base parts.len parts.addr parts.perms parts.otype)
-
--- The instructions and the harts so far, and which registers of the latest hart were set.
+-- The instructions and the harts so far, which registers of the latest hart were set, RAM, and whether a line has
+-- settled its size.
 pub record DraftParts : Type 0 where
   pub program : List Instr
   pub harts : List HartImage
   pub set : List Bool
+  pub memory : List CapValue
+  pub sized : Bool
 
 abbrev pub no_registers : List Bool
 no_registers = replicate 32 false
 
 -- before the first line
 abbrev pub empty_draft : DraftParts
-empty_draft = record { program = []; harts = []; set = no_registers }
+empty_draft = record { program = []; harts = []; set = no_registers; memory = cleared_memory 4096; sized = false }
+
+-- a legal size of RAM
+abbrev pub legal_size : Option ℕ → Result ℕ ListingFaultKind
+legal_size (Some bytes) = if is_ram_size bytes then Ok bytes else Err Size
+legal_size None = Err Size
+
+-- RAM of this size, before any line has settled it
+unfoldable pub with_ram : DraftParts → Option ℕ → Result DraftParts ListingFaultKind
+with_ram draft size =
+    if draft.sized then Err Twice
+    else (do
+      bytes ← legal_size size
+      Ok (record draft { memory = cleared_memory bytes; sized = true }))
 
 -- a hart with this PCC, whose registers are null
 abbrev pub hart_from : CapValue → HartImage
@@ -53,7 +60,7 @@ with_latest harts hart = slice_set harts (length harts - 1) hart
 -- one more hart, of at most 8, with this PCC
 unfoldable pub add_hart : DraftParts → CapValue → Result DraftParts ListingFaultKind
 add_hart draft pcc =
-    if nat_lt (length draft.harts) 8 then Ok (record draft { harts = draft.harts ++ hart_from pcc ∷ []; set = no_registers })
+    if nat_lt (length draft.harts) MAX_HARTS then Ok (record draft { harts = draft.harts ++ hart_from pcc ∷ []; set = no_registers })
     else Err Size
 
 unfoldable pub with_hart : DraftParts → CapParts → Result DraftParts ListingFaultKind
@@ -71,22 +78,42 @@ set_register draft reg value =
       set = slice_set draft.set reg true;
     })
 
+-- an untagged word, or a capability of these parts
+unfoldable pub value_of : Setting → Result CapValue ListingFaultKind
+value_of (Word bits) = Ok (raw bits)
+value_of (Capability parts) = capability_of parts
+
 -- the same of a register that was not set before
-unfoldable pub with_set : DraftParts → ℕ → CapParts → Result DraftParts ListingFaultKind
-with_set draft reg parts =
+unfoldable pub with_set : DraftParts → ℕ → Setting → Result DraftParts ListingFaultKind
+with_set draft reg setting =
     if slice_index_or draft.set reg false then Err Twice
     else (do
-      value ← capability_of parts
+      value ← value_of setting
       set_register draft reg value)
+
+-- bytes stored one after another
+unfoldable pub stored_bytes : List CapValue → ℕ → List ℕ → List CapValue
+stored_bytes memory addr [] = memory
+stored_bytes memory addr (byte ∷ bytes) = stored_bytes (store_data memory addr 1 byte) (addr + 1) bytes
+
+-- at most 4,096 bytes, wholly in RAM
+unfoldable pub with_bytes : DraftParts → ℕ → List ℕ → Result DraftParts ListingFaultKind
+with_bytes draft addr bytes =
+    if nat_lt 4096 (length bytes) then Err Range
+    else if is_in_ram draft.memory addr (length bytes) then
+    Ok (record draft { memory = stored_bytes draft.memory addr bytes; sized = true })
+    else Err Range
+
+-- a capability in one granule of RAM
+unfoldable pub with_capability : DraftParts → ℕ → CapParts → Result DraftParts ListingFaultKind
+with_capability draft addr parts =
+    if fits draft.memory addr 16 then (do
+      value ← capability_of parts
+      Ok (record draft { memory = store_capability draft.memory addr value; sized = true }))
+    else Err Range
 
 -- one more instruction, of at most 16,384
 unfoldable pub with_instruction : DraftParts → Instr → Result DraftParts ListingFaultKind
 with_instruction draft instr =
-    if nat_lt (length draft.program) 16384 then Ok (record draft { program = draft.program ++ instr ∷ [] })
+    if nat_lt (length draft.program) MAX_INSTRUCTIONS then Ok (record draft { program = draft.program ++ instr ∷ [] })
     else Err Size
-
--- what a line says, added to what the lines before it made
-unfoldable pub with_statement : DraftParts → Statement → Result DraftParts ListingFaultKind
-with_statement draft (Hart parts) = with_hart draft parts
-with_statement draft (Set reg parts) = with_set draft reg parts
-with_statement draft (Instruction instr) = with_instruction draft instr

@@ -10,14 +10,14 @@ ghost use Rattle.cheri_model.specs.Replay.{state_after, entries_of, is_legal, Is
 pub fn orders_follow_one_another()
     ensures state { (image : ImageParts) (state : MachineState) (first later : List Operation)
         → state_after image state (first ++ later)
-            ≡ state_after image (state_after image state first) later }
+        ≡ state_after image (state_after image state first) later }
     ensures entries { (image : ImageParts) (state : MachineState) (first later : List Operation)
         → entries_of image state (first ++ later)
-            ≡ entries_of image state first
-                ++ entries_of image (state_after image state first) later }
+        ≡ entries_of image state first
+        ++ entries_of image (state_after image state first) later }
     ensures legal { (image : ImageParts) (state : MachineState) (first later : List Operation)
         → is_legal image state (first ++ later)
-            ≡ (is_legal image state first && is_legal image (state_after image state first) later) }
+        ≡ (is_legal image state first && is_legal image (state_after image state first) later) }
 {}
 
 /// A beginning of a legal order is legal, and its entries are a beginning of the whole order's.

@@ -6,7 +6,7 @@ use std::alloc::{AllocError, AllocFailed};
 use std::fmt;
 use thiserror::Error;
 
-/// What is wrong with a line of a listing. Of several kinds that hold of one line the least is answered.
+/// What is wrong with a line of a listing. Of several kinds that hold of one line the least is reported.
 #[derive(Clone, Copy, Debug, PartialEq, Eq)]
 pub enum ListingFaultKind {
     /// A byte of the line, its comment included, is neither a tab nor from 0x20 to 0x7E.
@@ -27,7 +27,7 @@ pub enum ListingFaultKind {
     NoHart,
     /// The listing, its harts or its instructions are too many, or there is no instruction.
     Size,
-    /// Want of memory, which says nothing of the listing.
+    /// Out of memory, which says nothing of the listing.
     NoMemory,
 }
 
@@ -92,7 +92,7 @@ impl From<AllocError> for ListingFault {
     }
 }
 
-/// Why a line was not read: want of memory, or what is wrong with it.
+/// Why a line was not read: out of memory, or what is wrong with it.
 #[derive(Clone, Copy, Debug, PartialEq, Eq)]
 pub enum LineFault {
     NoMemory,

@@ -1,23 +1,42 @@
 //! The operands of a listing's lines.
 
-ghost use Rattle.std.specs.Prelude.{◌≡◌, ◌≢◌, ◌<◌, ◌^◌};
+ghost use Rattle.std.specs.Prelude.{◌≡◌, ◌≢◌, ◌<◌, ◌≤◌, ◌^◌, ◌==◌, IfOk, position};
 ghost use Rattle.cheri_model.specs.Capability.{IsLawfulType};
-ghost use Rattle.texts.specs.ListingOperands.{register_of, register_numbered, immediate_of, immediate_of_12_bits, type_operand_of, type_in_range};
+ghost use Rattle.texts.specs.ListingOperands.{
+  register_of,
+  register_numbered,
+  immediate_of,
+  immediate_of_12_bits,
+  immediate_up_to,
+  before_bracket,
+  from_bracket,
+  memory_operand_from,
+  memory_operand_of,
+  type_operand_of,
+  type_in_range,
+};
 
 use crate::listing::fault::ListingFaultKind;
-use crate::listing::numbers::{at_most, number_of};
+use crate::listing::numerals::{at_most, number_of};
 use cheri_model::{OType, Reg};
 use std::marker::Model;
 
-/// An immediate as a word writes it: its size has none from 2^128 on.
-#[derive(Clone, Copy, Debug, PartialEq, Eq)]
+/// An immediate as a token writes it: its size has none from 2^128 on.
+#[derive(Clone, Copy)]
 pub struct Immediate {
     pub negative: bool,
     pub size: Option<u128>,
 }
 
-/// An object type as a line writes it: unsealed where no word does.
-#[derive(Clone, Copy, Debug, PartialEq, Eq)]
+/// A register and an offset from its address.
+#[derive(Clone, Copy)]
+pub struct MemoryOperand {
+    pub imm: Immediate,
+    pub c1: Reg,
+}
+
+/// An object type as a line writes it: unsealed where no token does.
+#[derive(Clone, Copy)]
 pub enum TypeOperand {
     Unsealed,
     Sentry,
@@ -25,7 +44,7 @@ pub enum TypeOperand {
 }
 
 /// An object type that a tagged capability can have: neither of the two that are reserved.
-#[derive(Clone, Copy, Debug, PartialEq, Eq)]
+#[derive(Clone, Copy)]
 pub struct LawfulType {
     otype: OType,
 }
@@ -73,12 +92,12 @@ fn register_numbered(number: u8) -> Result<Reg, ListingFaultKind>
     }
 }
 
-/// The register that a word names, `c0` to `c31` without leading zeros.
+/// The register that a token names, `c0` to `c31` without leading zeros.
 #[tactic(auto, unfolding(crate::specs::ListingOperands::register_of))]
-pub fn register_of(word: &[u8]) -> Result<Reg, ListingFaultKind>
-    ensures { result ≡ register_of word.now }
+pub fn register_of(token: &[u8]) -> Result<Reg, ListingFaultKind>
+    ensures { result ≡ register_of token.now }
 {
-    match word {
+    match token {
         [b'c', ones @ b'0'..=b'9'] => register_numbered(*ones - b'0'),
         [b'c', tens @ b'1'..=b'9', ones @ b'0'..=b'9'] => {
             register_numbered(10 * (*tens - b'0') + (*ones - b'0'))
@@ -87,19 +106,19 @@ pub fn register_of(word: &[u8]) -> Result<Reg, ListingFaultKind>
     }
 }
 
-/// The immediate that a word writes.
+/// The immediate that a token writes.
 #[tactic(auto, unfolding(crate::specs::ListingOperands::immediate_of))]
-pub fn immediate_of(word: &[u8]) -> Result<Immediate, ListingFaultKind>
-    ensures { result ≡ immediate_of word.now }
+pub fn immediate_of(token: &[u8]) -> Result<Immediate, ListingFaultKind>
+    ensures { result ≡ immediate_of token.now }
 {
-    match word {
+    match token {
         [b'-', digits @ ..] => Ok(Immediate {
             negative: true,
             size: number_of(digits)?,
         }),
         _ => Ok(Immediate {
             negative: false,
-            size: number_of(word)?,
+            size: number_of(token)?,
         }),
     }
 }
@@ -116,15 +135,62 @@ pub fn immediate_of_12_bits(imm: Immediate) -> Result<i16, ListingFaultKind>
     }
 }
 
-/// The object type that a word writes: `sentry` or a number.
-#[tactic(auto, unfolding(crate::specs::ListingOperands::type_operand_of))]
-pub fn type_operand_of(word: &[u8]) -> Result<TypeOperand, ListingFaultKind>
-    ensures { result ≡ type_operand_of word.now }
+/// An immediate from 0 to a limit.
+#[tactic(auto, unfolding(crate::specs::ListingOperands::immediate_up_to))]
+pub fn immediate_up_to(limit: u128, imm: Immediate) -> Result<u128, ListingFaultKind>
+    ensures value { result ≡ immediate_up_to limit imm }
+    ensures bound { IfOk result (λ n. n ≤ limit) }
 {
-    if word == b"sentry".as_slice() {
+    if imm.negative {
+        at_most(0, imm.size)
+    } else {
+        at_most(limit, imm.size)
+    }
+}
+
+/// Where the first `(` of a token is.
+fn bracket(token: &[u8]) -> Option<usize>
+    ensures { result ≡ position (λ b. b == 0x28) token.now }
+{
+    token.iter().position(|byte| *byte == b'(')
+}
+
+/// A register in brackets, after an immediate.
+#[tactic(auto, unfolding(crate::specs::ListingOperands::memory_operand_from))]
+fn memory_operand_from(imm: Immediate, part: &[u8]) -> Result<MemoryOperand, ListingFaultKind>
+    ensures { result ≡ memory_operand_from imm part.now }
+{
+    match part {
+        [b'(', reg @ .., b')'] => Ok(MemoryOperand {
+            imm,
+            c1: register_of(reg)?,
+        }),
+        _ => Err(ListingFaultKind::Operand),
+    }
+}
+
+/// The memory operand that a token writes: an immediate and a register in brackets.
+#[tactic(auto, using(crate::proofs::OperandLemmas::without_bracket, crate::proofs::OperandLemmas::at_bracket), unfolding(crate::specs::ListingOperands::memory_operand_of))]
+pub fn memory_operand_of(token: &[u8]) -> Result<MemoryOperand, ListingFaultKind>
+    ensures { result ≡ memory_operand_of token.now }
+{
+    let (imm, part) = match bracket(token) {
+        Some(at) => (&token[..at], &token[at..]),
+        None => (token, &token[token.len()..]),
+    };
+    let imm = immediate_of(imm)?;
+    memory_operand_from(imm, part)
+}
+
+/// The object type that a token writes: `sentry` or a number.
+#[tactic(auto, unfolding(crate::specs::ListingOperands::type_operand_of))]
+pub fn type_operand_of(token: &[u8]) -> Result<TypeOperand, ListingFaultKind>
+    ensures { result ≡ type_operand_of token.now }
+{
+    if token == b"sentry".as_slice() {
         return Ok(TypeOperand::Sentry);
     }
-    Ok(TypeOperand::Number(number_of(word)?))
+    Ok(TypeOperand::Number(number_of(token)?))
 }
 
 /// An object type in its range: below the reserved types, or a sentry, or unsealed.

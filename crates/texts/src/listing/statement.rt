@@ -1,229 +1,243 @@
-//! What a line of a listing says by itself.
+//! What one line of a listing makes of what the lines before it made.
 
 ghost use Rattle.std.specs.Prelude.{◌≡◌};
-ghost use Rattle.texts.specs.ListingWords.{texts};
-ghost use Rattle.texts.specs.ListingStatements.{cap_operands_of, cap_parts_of, counted, hart_statement, set_form, settable_register_of, set_type_of, set_statement, addi_statement, csetbounds_statement, cgetlen_statement, ecall_statement, statement_for, statement_of};
-
-use crate::listing::capability::CapParts;
-use crate::listing::fault::ListingFaultKind;
-use crate::listing::keywords::{Keyword, keyword_of};
-use crate::listing::numbers::{at_most, number_of};
-use crate::listing::operands::{
-    TypeOperand, immediate_of, immediate_of_12_bits, register_of, type_in_range, type_operand_of,
+ghost use Rattle.texts.specs.ListingTokens.{texts, token_at};
+ghost use Rattle.texts.specs.ListingMnemonics.{mnemonic_of};
+ghost use Rattle.texts.specs.ListingFaults.{GivesLine};
+ghost use Rattle.texts.specs.ListingPlaces.{shown};
+ghost use Rattle.texts.specs.ListingStatement.{
+  ram_line,
+  hart_line,
+  settable_register_of,
+  word_setting,
+  capability_setting,
+  setting_of,
+  set_line,
+  hex_bytes,
+  bytes_line,
+  cap_line,
+  directive_line,
+  instruction_line,
+  label_line,
+  other_line,
+  line_from,
+  tokens_meaning,
 };
-use crate::listing::permissions::{PermissionSet, permissions_of};
-use crate::listing::words::word_at;
-use cheri_model::{Instr, Reg};
 
-/// The operands of a capability, of which the numbers may be outside their ranges.
-#[derive(Clone, Copy, Debug, PartialEq, Eq)]
-pub struct CapOperands {
-    pub base: Option<u128>,
-    pub len: Option<u128>,
-    pub addr: Option<u128>,
-    pub perms: PermissionSet,
-    pub otype: TypeOperand,
-}
+use crate::listing::capability::{cap_operands_of, cap_parts_of, cap_tokens};
+use crate::listing::directives::{Directive, directive_of};
+use crate::listing::draft::{Data, Draft, Setting};
+use crate::listing::fault::{LineFault, ListingFaultKind};
+use crate::listing::forms::{counted, form_from};
+use crate::listing::labels::{Places, is_label_token, label_fault, label_name};
+use crate::listing::mnemonics::{Mnemonic, mnemonic_of};
+use crate::listing::numerals::{at_most, number_of};
+use crate::listing::operands::{TypeOperand, register_of};
+use crate::listing::tokens::token_at;
+use cheri_model::Reg;
+use hex::FromHexError;
+use std::alloc::Global;
 
-/// What a line says: the next hart, with this PCC; the value of a register of the latest hart; or an instruction.
-#[derive(Clone, Copy, Debug, PartialEq, Eq)]
-pub enum Statement {
-    Hart(CapParts),
-    Set(Reg, CapParts),
-    Instruction(Instr),
-}
-
-/// The operands of a capability by their shapes.
-#[tactic(auto, unfolding(crate::specs::ListingStatements::cap_operands_of))]
-fn cap_operands_of(
-    base: &[u8],
-    len: &[u8],
-    addr: &[u8],
-    perms: &[u8],
-    otype: TypeOperand,
-) -> Result<CapOperands, ListingFaultKind>
-    ensures { result ≡ cap_operands_of base.now len.now addr.now perms.now otype }
+/// `.ram N`
+#[tactic(auto, unfolding(crate::specs::ListingStatement::ram_line))]
+fn ram_line(alloc: Global, draft: Draft, tokens: &[&[u8]]) -> Result<Draft, LineFault>
+    ensures { GivesLine result (ram_line draft (texts tokens.now)) }
 {
-    Ok(CapOperands {
-        base: number_of(base)?,
-        len: number_of(len)?,
-        addr: number_of(addr)?,
-        perms: permissions_of(perms)?,
-        otype,
-    })
-}
-
-/// The operands of a capability in their ranges.
-#[tactic(auto, unfolding(crate::specs::ListingStatements::cap_parts_of))]
-fn cap_parts_of(operands: CapOperands) -> Result<CapParts, ListingFaultKind>
-    ensures { result ≡ cap_parts_of operands }
-{
-    let base = at_most(0xFFFF_FFFF_FFFF_FFFF, operands.base)? as u64;
-    let len = at_most(0x1_0000_0000_0000_0000, operands.len)?;
-    let addr = at_most(0xFFFF_FFFF_FFFF_FFFF, operands.addr)? as u64;
-    let otype = type_in_range(operands.otype)?;
-    Ok(CapParts {
-        base,
-        len,
-        addr,
-        perms: operands.perms,
-        otype,
-    })
-}
-
-/// Refuses a line of more or fewer words.
-#[tactic(auto, using(crate::proofs::Words::length_of_texts), unfolding(crate::specs::ListingStatements::counted))]
-fn counted(count: usize, words: &[&[u8]]) -> Result<(), ListingFaultKind>
-    ensures { result ≡ counted count (texts words.now) }
-{
-    if words.len() == count {
-        Ok(())
-    } else {
-        Err(ListingFaultKind::Operand)
-    }
+    counted(2, tokens)?;
+    let size = number_of(token_at(tokens, 1))?;
+    draft.with_ram(alloc, size)
 }
 
 /// `.hart BASE LEN ADDR PERMS`
-#[tactic(auto, unfolding(crate::specs::ListingStatements::hart_statement))]
-fn hart_statement(words: &[&[u8]]) -> Result<Statement, ListingFaultKind>
-    ensures { result ≡ hart_statement (texts words.now) }
+#[tactic(auto, unfolding(crate::specs::ListingStatement::hart_line))]
+fn hart_line(draft: Draft, tokens: &[&[u8]]) -> Result<Draft, LineFault>
+    ensures { GivesLine result (hart_line draft (texts tokens.now)) }
 {
-    counted(5, words)?;
-    let operands = cap_operands_of(
-        word_at(words, 1),
-        word_at(words, 2),
-        word_at(words, 3),
-        word_at(words, 4),
-        TypeOperand::Unsealed,
-    )?;
-    Ok(Statement::Hart(cap_parts_of(operands)?))
+    counted(5, tokens)?;
+    let operands = cap_operands_of(tokens, 1, TypeOperand::Unsealed)?;
+    let parts = cap_parts_of(operands)?;
+    draft.with_hart(parts)
 }
 
-/// The form of `.set`, of which this reader has `cap`: it knows no line of the forms `int` and `word`, whatever else
-/// is wrong with it.
-#[tactic(auto, unfolding(crate::specs::ListingStatements::set_form))]
-fn set_form(word: &[u8]) -> Result<(), ListingFaultKind>
-    ensures { result ≡ set_form word.now }
+/// A register other than `c0`.
+#[tactic(auto, unfolding(crate::specs::ListingStatement::settable_register_of))]
+fn settable_register_of(token: &[u8]) -> Result<Reg, ListingFaultKind>
+    ensures { result ≡ settable_register_of token.now }
 {
-    if word == b"cap".as_slice() {
-        Ok(())
-    } else if word == b"int".as_slice() || word == b"word".as_slice() {
-        Err(ListingFaultKind::Word)
-    } else {
-        Err(ListingFaultKind::Operand)
-    }
-}
-
-/// The register that a word names, other than `c0`.
-#[tactic(auto, unfolding(crate::specs::ListingStatements::settable_register_of))]
-fn settable_register_of(word: &[u8]) -> Result<Reg, ListingFaultKind>
-    ensures { result ≡ settable_register_of word.now }
-{
-    let reg = register_of(word)?;
+    let reg = register_of(token)?;
     if reg.number() == 0 {
-        Err(ListingFaultKind::Operand)
+        return Err(ListingFaultKind::Operand);
+    }
+    Ok(reg)
+}
+
+/// `V` of a line of 4 tokens, up to a limit.
+#[tactic(auto, unfolding(crate::specs::ListingStatement::word_setting))]
+fn word_setting(limit: u128, tokens: &[&[u8]]) -> Result<Setting, ListingFaultKind>
+    ensures { result ≡ word_setting limit (texts tokens.now) }
+{
+    counted(4, tokens)?;
+    let number = number_of(token_at(tokens, 3))?;
+    Ok(Setting::Word(at_most(limit, number)?))
+}
+
+/// `BASE LEN ADDR PERMS [TYPE]`
+#[tactic(auto, unfolding(crate::specs::ListingStatement::capability_setting))]
+fn capability_setting(tokens: &[&[u8]]) -> Result<Setting, ListingFaultKind>
+    ensures { result ≡ capability_setting (texts tokens.now) }
+{
+    let operands = cap_tokens(tokens, 3)?;
+    Ok(Setting::Capability(cap_parts_of(operands)?))
+}
+
+/// `int V`, `word V` or `cap ..`
+#[tactic(auto, unfolding(crate::specs::ListingStatement::setting_of))]
+fn setting_of(tokens: &[&[u8]]) -> Result<Setting, ListingFaultKind>
+    ensures { result ≡ setting_of (texts tokens.now) }
+{
+    let kind = token_at(tokens, 2);
+    if kind == b"int".as_slice() {
+        word_setting(0xFFFF_FFFF_FFFF_FFFF, tokens)
+    } else if kind == b"word".as_slice() {
+        word_setting(0xFFFF_FFFF_FFFF_FFFF_FFFF_FFFF_FFFF_FFFF, tokens)
+    } else if kind == b"cap".as_slice() {
+        capability_setting(tokens)
     } else {
-        Ok(reg)
-    }
-}
-
-/// The object type of a `.set` line, which may leave it out.
-#[tactic(auto, using(crate::proofs::Words::length_of_texts), unfolding(crate::specs::ListingStatements::set_type_of))]
-fn set_type_of(words: &[&[u8]]) -> Result<TypeOperand, ListingFaultKind>
-    ensures { result ≡ set_type_of (texts words.now) }
-{
-    if words.len() == 8 {
-        type_operand_of(word_at(words, 7))
-    } else if words.len() == 7 {
-        Ok(TypeOperand::Unsealed)
-    } else {
         Err(ListingFaultKind::Operand)
     }
 }
 
-/// `.set cN cap BASE LEN ADDR PERMS [TYPE]`
-#[tactic(auto, unfolding(crate::specs::ListingStatements::set_statement))]
-fn set_statement(words: &[&[u8]]) -> Result<Statement, ListingFaultKind>
-    ensures { result ≡ set_statement (texts words.now) }
+/// `.set cN int V`, `.set cN word V`, `.set cN cap BASE LEN ADDR PERMS [TYPE]`
+#[tactic(auto, unfolding(crate::specs::ListingStatement::set_line))]
+fn set_line(draft: Draft, tokens: &[&[u8]]) -> Result<Draft, LineFault>
+    ensures { GivesLine result (set_line draft (texts tokens.now)) }
 {
-    set_form(word_at(words, 2))?;
-    let otype = set_type_of(words)?;
-    let reg = settable_register_of(word_at(words, 1))?;
-    let operands = cap_operands_of(
-        word_at(words, 3),
-        word_at(words, 4),
-        word_at(words, 5),
-        word_at(words, 6),
-        otype,
-    )?;
-    Ok(Statement::Set(reg, cap_parts_of(operands)?))
+    let reg = settable_register_of(token_at(tokens, 1))?;
+    let setting = setting_of(tokens)?;
+    draft.with_set(reg, setting)
 }
 
-/// `addi cd, c1, i`
-#[tactic(auto, unfolding(crate::specs::ListingStatements::addi_statement))]
-fn addi_statement(words: &[&[u8]]) -> Result<Statement, ListingFaultKind>
-    ensures { result ≡ addi_statement (texts words.now) }
+/// The bytes of an even count of hexadecimal digits, not empty.
+#[tactic(auto, unfolding(crate::specs::ListingStatement::hex_bytes))]
+fn hex_bytes(alloc: Global, token: &[u8]) -> Result<Data, LineFault>
+    ensures { GivesLine result (hex_bytes token.now) }
 {
-    counted(4, words)?;
-    let cd = register_of(word_at(words, 1))?;
-    let c1 = register_of(word_at(words, 2))?;
-    let imm = immediate_of(word_at(words, 3))?;
-    let imm = immediate_of_12_bits(imm)?;
-    Ok(Statement::Instruction(Instr::Addi { cd, c1, imm }))
-}
-
-/// `csetbounds cd, c1, c2`
-#[tactic(auto, unfolding(crate::specs::ListingStatements::csetbounds_statement))]
-fn csetbounds_statement(words: &[&[u8]]) -> Result<Statement, ListingFaultKind>
-    ensures { result ≡ csetbounds_statement (texts words.now) }
-{
-    counted(4, words)?;
-    let cd = register_of(word_at(words, 1))?;
-    let c1 = register_of(word_at(words, 2))?;
-    let c2 = register_of(word_at(words, 3))?;
-    Ok(Statement::Instruction(Instr::CSetBounds { cd, c1, c2 }))
-}
-
-/// `cgetlen cd, c1`
-#[tactic(auto, unfolding(crate::specs::ListingStatements::cgetlen_statement))]
-fn cgetlen_statement(words: &[&[u8]]) -> Result<Statement, ListingFaultKind>
-    ensures { result ≡ cgetlen_statement (texts words.now) }
-{
-    counted(3, words)?;
-    let cd = register_of(word_at(words, 1))?;
-    let c1 = register_of(word_at(words, 2))?;
-    Ok(Statement::Instruction(Instr::CGetLen { cd, c1 }))
-}
-
-/// `ecall`
-#[tactic(auto, unfolding(crate::specs::ListingStatements::ecall_statement))]
-fn ecall_statement(words: &[&[u8]]) -> Result<Statement, ListingFaultKind>
-    ensures { result ≡ ecall_statement (texts words.now) }
-{
-    counted(1, words)?;
-    Ok(Statement::Instruction(Instr::Ecall))
-}
-
-/// What the words of a line of this directive or instruction say.
-#[tactic(auto, unfolding(crate::specs::ListingStatements::statement_for))]
-fn statement_for(keyword: Keyword, words: &[&[u8]]) -> Result<Statement, ListingFaultKind>
-    ensures { result ≡ statement_for keyword (texts words.now) }
-{
-    match keyword {
-        Keyword::Hart => hart_statement(words),
-        Keyword::Set => set_statement(words),
-        Keyword::Addi => addi_statement(words),
-        Keyword::Csetbounds => csetbounds_statement(words),
-        Keyword::Cgetlen => cgetlen_statement(words),
-        Keyword::Ecall => ecall_statement(words),
+    if token.is_empty() {
+        return Err(LineFault::Kind(ListingFaultKind::Operand));
+    }
+    match hex::decode(alloc, token) {
+        Ok(bytes) => Ok(Data { bytes }),
+        Err(FromHexError::OutOfMemory) => Err(LineFault::NoMemory),
+        Err(_) => Err(LineFault::Kind(ListingFaultKind::Operand)),
     }
 }
 
-/// What the words of a line say.
-#[tactic(auto, unfolding(crate::specs::ListingStatements::statement_of))]
-pub fn statement_of(words: &[&[u8]]) -> Result<Statement, ListingFaultKind>
-    ensures { result ≡ statement_of (texts words.now) }
+/// `.bytes A HEX`
+#[tactic(auto, unfolding(crate::specs::ListingStatement::bytes_line))]
+fn bytes_line(alloc: Global, draft: Draft, tokens: &[&[u8]]) -> Result<Draft, LineFault>
+    ensures { GivesLine result (bytes_line draft (texts tokens.now)) }
 {
-    let keyword = keyword_of(word_at(words, 0)).ok_or(ListingFaultKind::Word)?;
-    statement_for(keyword, words)
+    counted(3, tokens)?;
+    let addr = number_of(token_at(tokens, 1))?;
+    let bytes = hex_bytes(alloc, token_at(tokens, 2))?;
+    let addr = at_most(0xFFFF_FFFF_FFFF_FFFF, addr)? as u64;
+    draft.with_bytes(addr, bytes)
+}
+
+/// `.cap A BASE LEN ADDR PERMS [TYPE]`
+#[tactic(auto, unfolding(crate::specs::ListingStatement::cap_line))]
+fn cap_line(draft: Draft, tokens: &[&[u8]]) -> Result<Draft, LineFault>
+    ensures { GivesLine result (cap_line draft (texts tokens.now)) }
+{
+    let addr = number_of(token_at(tokens, 1))?;
+    let operands = cap_tokens(tokens, 2)?;
+    let addr = at_most(0xFFFF_FFFF_FFFF_FFFF, addr)? as u64;
+    let parts = cap_parts_of(operands)?;
+    draft.with_capability(addr, parts)
+}
+
+#[tactic(auto, unfolding(crate::specs::ListingStatement::directive_line))]
+fn directive_line(
+    alloc: Global,
+    draft: Draft,
+    directive: Directive,
+    tokens: &[&[u8]],
+) -> Result<Draft, LineFault>
+    ensures { GivesLine result (directive_line draft directive (texts tokens.now)) }
+{
+    match directive {
+        Directive::Ram => ram_line(alloc, draft, tokens),
+        Directive::Hart => hart_line(draft, tokens),
+        Directive::Set => set_line(draft, tokens),
+        Directive::Bytes => bytes_line(alloc, draft, tokens),
+        Directive::Cap => cap_line(draft, tokens),
+    }
+}
+
+/// An instruction and its operands.
+#[tactic(auto, unfolding(crate::specs::ListingStatement::instruction_line))]
+fn instruction_line(
+    places: &Places<'_>,
+    draft: Draft,
+    mnemonic: Mnemonic,
+    tokens: &[&[u8]],
+) -> Result<Draft, LineFault>
+    ensures { GivesLine result (instruction_line (shown places.now) draft mnemonic (texts tokens.now)) }
+{
+    let form = form_from(places, mnemonic, tokens)?;
+    draft.with_instruction(form.instr())
+}
+
+/// `name:`, alone on its line, which has this number.
+#[tactic(auto, unfolding(crate::specs::ListingStatement::label_line))]
+fn label_line(
+    places: &Places<'_>,
+    number: usize,
+    draft: Draft,
+    tokens: &[&[u8]],
+) -> Result<Draft, LineFault>
+    ensures { GivesLine result (label_line (shown places.now) number draft (texts tokens.now)) }
+{
+    counted(1, tokens)?;
+    label_fault(places, number, label_name(token_at(tokens, 0)))?;
+    Ok(draft)
+}
+
+/// A line that begins with no directive: an instruction's, or a label's.
+#[tactic(auto, unfolding(crate::specs::ListingStatement::other_line))]
+fn other_line(
+    places: &Places<'_>,
+    number: usize,
+    draft: Draft,
+    tokens: &[&[u8]],
+) -> Result<Draft, LineFault>
+    ensures { GivesLine result (other_line (shown places.now) number draft
+        (mnemonic_of (token_at (texts tokens.now) 0)) (texts tokens.now)) }
+{
+    let first = token_at(tokens, 0);
+    match mnemonic_of(first) {
+        Some(mnemonic) => instruction_line(places, draft, mnemonic, tokens),
+        None if is_label_token(first) => label_line(places, number, draft, tokens),
+        None => Err(LineFault::Kind(ListingFaultKind::Word)),
+    }
+}
+
+/// What a line's tokens make of what the lines before it made. The line has this number.
+#[tactic(auto, using(crate::proofs::TokenLemmas::length_of_texts), unfolding(crate::specs::ListingStatement::tokens_meaning, crate::specs::ListingStatement::line_from))]
+pub fn with_line(
+    alloc: Global,
+    places: &Places<'_>,
+    number: usize,
+    draft: Draft,
+    tokens: &[&[u8]],
+) -> Result<Draft, LineFault>
+    ensures { GivesLine result (tokens_meaning (shown places.now) number draft (texts tokens.now)) }
+{
+    if tokens.is_empty() {
+        return Ok(draft);
+    }
+    match directive_of(token_at(tokens, 0)) {
+        Some(directive) => directive_line(alloc, draft, directive, tokens),
+        None => other_line(places, number, draft, tokens),
+    }
 }
