@@ -17,10 +17,10 @@ append-requires c =
 
 pub invariant_of-self : goal.invariant_of-self
 invariant_of-self c =
-    let t = took _ _ c.args.hart c.from-number.result _ c.index-stepped.result.now _ _ _ c.self.view_is c.self.invariant.0 c.requires c.from-number.ensures c.program.ensures c.index-stepped.ensures c.step_hart-entry.ensures in
+    let t = took _ _ c.args.hart c.from-number.result _ c.index.result.now _ _ _ c.self.view_is c.self.invariant.0 c.requires c.from-number.ensures c.program.ensures c.index.ensures c.step_hart-entry.ensures in
     (rw c.append.ensures.items t.keeps, omega (arith, c.self.invariant.1, c.append.ensures.capacity))
 
 pub returns : goal.returns
 returns c =
-    let t = took _ _ c.args.hart c.from-number.result _ c.index-stepped.result.now _ _ _ c.self.view_is c.self.invariant.0 c.requires c.from-number.ensures c.program.ensures c.index-stepped.ensures c.step_hart-entry.ensures in
+    let t = took _ _ c.args.hart c.from-number.result _ c.index.result.now _ _ _ c.self.view_is c.self.invariant.0 c.requires c.from-number.ensures c.program.ensures c.index.ensures c.step_hart-entry.ensures in
     record { entry = t.entry_is; after = rw c.append.ensures.items t.core_is; core = rw c.append.ensures.items t.keeps }
