@@ -4,6 +4,7 @@ use super::{done, hart, made, ram, run};
 use crate::{Access, access_check};
 use cap_ops::Cap;
 use cheri_model::{Instr, Reg, Trap, Width};
+use std::process::Abort;
 
 /// The cause of a trap of a check, or 0 where it passes.
 fn cause(checked: Result<(), Trap>) -> u8 {
@@ -17,41 +18,61 @@ const WORD: Access = Access::Load(Width::Word);
 
 const STORED_WORD: Access = Access::Store(Width::Word);
 
-/// Permission bits, the address, the access, and the cause. Bounds are [0x8000_0000, 0x8000_0080), of which RAM has
-/// the first 64 bytes. Where two checks fail the one that is earlier in the table is answered.
+/// What a row stores.
+#[derive(Clone, Copy)]
+enum Stored {
+    Nothing,
+    Untagged,
+    Local,
+    Global,
+}
+
+/// The value of a row, of which a tagged one has Load alone or Global alone.
+fn stored_value(rt: &impl Abort, stored: Stored) -> Option<Cap> {
+    match stored {
+        Stored::Nothing => None,
+        Stored::Untagged => Some(Cap::of_int(1)),
+        Stored::Local => Some(made(rt, 0, 16, 0x4)),
+        Stored::Global => Some(made(rt, 0, 16, 0x1)),
+    }
+}
+
+/// Permission bits, the address, the access, what is stored, and the cause. Bounds are
+/// [0x8000_0000, 0x8000_0080), of which RAM has the first 64 bytes. Where two checks fail the one
+/// that is earlier in the table is answered.
+const ACCESSES: [(u32, u64, Access, Stored, u8); 23] = [
+    (0x4, 0x8000_0000, WORD, Stored::Nothing, 0),
+    (0x8, 0x8000_007e, WORD, Stored::Nothing, 4),
+    (0x4, 0x8000_0000, STORED_WORD, Stored::Nothing, 5),
+    (0x8, 0x8000_0000, STORED_WORD, Stored::Nothing, 0),
+    (0x4, 0x8000_007d, WORD, Stored::Nothing, 8),
+    (0x4, 0x7fff_ffff, WORD, Stored::Nothing, 8),
+    (0x4, 0x8000_0041, WORD, Stored::Nothing, 9),
+    (0x4, 0x8000_0040, WORD, Stored::Nothing, 10),
+    (0x4, 0x8000_003c, WORD, Stored::Nothing, 0),
+    (0x0, 0x8000_0000, Access::LoadCap, Stored::Nothing, 4),
+    (0x4, 0x8000_0008, Access::LoadCap, Stored::Nothing, 9),
+    (0x4, 0x8000_0030, Access::LoadCap, Stored::Nothing, 0),
+    (0x4, 0x8000_0000, Access::StoreCap, Stored::Local, 5),
+    (0x8, 0x8000_0000, Access::StoreCap, Stored::Local, 6),
+    (0x28, 0x8000_0078, Access::StoreCap, Stored::Local, 7),
+    (0x28, 0x8000_0078, Access::StoreCap, Stored::Global, 8),
+    (0x28, 0x8000_0010, Access::StoreCap, Stored::Global, 0),
+    (0x68, 0x8000_0010, Access::StoreCap, Stored::Local, 0),
+    (0x8, 0x8000_0010, Access::StoreCap, Stored::Untagged, 0),
+    (0x0, 0x8000_0000, Access::Swap, Stored::Untagged, 4),
+    (0x4, 0x8000_0000, Access::Swap, Stored::Untagged, 5),
+    (0xc, 0x8000_0000, Access::Swap, Stored::Global, 6),
+    (0xc, 0x8000_0000, Access::Swap, Stored::Untagged, 0),
+];
+
 #[test]
 fn accesses_are_checked_in_order(rt: HostRuntime) {
     let memory = ram(&rt, rt.alloc());
-    let (local, global) = (Some(made(&rt, 0, 16, 0x4)), Some(made(&rt, 0, 16, 0x1)));
-    let untagged = Some(Cap::of_int(1));
-    let rows: [(u32, u64, Access, Option<Cap>, u8); 23] = [
-        (0x4, 0x8000_0000, WORD, None, 0),
-        (0x8, 0x8000_007e, WORD, None, 4),
-        (0x4, 0x8000_0000, STORED_WORD, None, 5),
-        (0x8, 0x8000_0000, STORED_WORD, None, 0),
-        (0x4, 0x8000_007d, WORD, None, 8),
-        (0x4, 0x7fff_ffff, WORD, None, 8),
-        (0x4, 0x8000_0041, WORD, None, 9),
-        (0x4, 0x8000_0040, WORD, None, 10),
-        (0x4, 0x8000_003c, WORD, None, 0),
-        (0x0, 0x8000_0000, Access::LoadCap, None, 4),
-        (0x4, 0x8000_0008, Access::LoadCap, None, 9),
-        (0x4, 0x8000_0030, Access::LoadCap, None, 0),
-        (0x4, 0x8000_0000, Access::StoreCap, local, 5),
-        (0x8, 0x8000_0000, Access::StoreCap, local, 6),
-        (0x28, 0x8000_0078, Access::StoreCap, local, 7),
-        (0x28, 0x8000_0078, Access::StoreCap, global, 8),
-        (0x28, 0x8000_0010, Access::StoreCap, global, 0),
-        (0x68, 0x8000_0010, Access::StoreCap, local, 0),
-        (0x8, 0x8000_0010, Access::StoreCap, untagged, 0),
-        (0x0, 0x8000_0000, Access::Swap, untagged, 4),
-        (0x4, 0x8000_0000, Access::Swap, untagged, 5),
-        (0xc, 0x8000_0000, Access::Swap, global, 6),
-        (0xc, 0x8000_0000, Access::Swap, untagged, 0),
-    ];
-    for (perms, addr, kind, stored, expected) in rows {
+    for (perms, addr, kind, stored, expected) in ACCESSES {
         let auth = made(&rt, 0x8000_0000, 128, perms);
-        let checked = access_check(auth, 5, addr, kind, stored, &memory);
+        let value = stored_value(&rt, stored);
+        let checked = access_check(auth, 5, addr, kind, value, &memory);
         assert_eq!(rt; cause(checked), expected, "{perms:x} {addr:x}");
     }
 }
@@ -111,25 +132,33 @@ fn stores_write_low_bytes(rt: HostRuntime) {
     }
 }
 
+/// LC, or AMOSWAP.C.
+fn capability_load(swaps: bool, cd: Reg, c1: Reg, c2: Reg) -> Instr {
+    if swaps {
+        Instr::AmoSwapC { cd, c2, c1 }
+    } else {
+        Instr::Lc { cd, c1, imm: 0 }
+    }
+}
+
 /// A tag is loaded only under the permission Load_Capability, by LC and by AMOSWAP.C.
 #[test]
 fn tags_are_loaded_by_permission(rt: HostRuntime) {
     let (cd, c1, c2) = (Reg::new(7), Reg::new(5), Reg::new(6));
-    let load = Instr::Lc { cd, c1, imm: 0 };
-    let swap = Instr::AmoSwapC { cd, c2, c1 };
-    let rows: [(Instr, u32, bool); 4] = [
-        (load, 0x14, true),
-        (load, 0x4, false),
-        (swap, 0x1c, true),
-        (swap, 0xc, false),
+    let rows = [
+        (false, 0x14, true),
+        (false, 0x4, false),
+        (true, 0x1c, true),
+        (true, 0xc, false),
     ];
-    for (instr, perms, tagged) in rows {
+    for (swaps, perms, tagged) in rows {
         let stored = made(&rt, 0x8000_0000, 16, 0x5);
         let mut memory = ram(&rt, rt.alloc());
-        memory.store_cap(0x8000_0010, stored);
+        memory.store_cap(0x8000_0000, stored);
         let mut hart = hart(&rt);
-        hart.put(c1, made(&rt, 0x8000_0010, 16, perms));
+        hart.put(c1, made(&rt, 0x8000_0000, 16, perms));
         hart.put(c2, Cap::of_int(9));
+        let instr = capability_load(swaps, cd, c1, c2);
         assert!(rt; done(run(instr, &mut hart, &mut memory)));
         assert_eq!(rt; hart.register(cd).bits(), stored.bits());
         assert_eq!(rt; hart.register(cd).tag(), tagged);

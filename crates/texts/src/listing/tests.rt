@@ -791,17 +791,18 @@ fn what_is_in_an_image(rt: HostRuntime) -> Result<(), Fail> {
         }
     );
     assert_eq!(rt; image.harts().len(), 2);
-    assert_eq!(rt; image.harts()[0].regs[0].bits(), 0x10);
-    assert_eq!(rt;
-        image.harts()[0].regs[30].bits(),
-        0x1000_0000_0000_0000_0000_0000_0000_00FF
-    );
-    assert!(rt; image.harts()[0].regs[8].tag());
-    assert_eq!(rt; image.granules().len(), 3);
-    assert_eq!(rt; image.granules()[0].0, 0x8000_0000);
-    assert_eq!(rt; image.granules()[0].1.bits(), 0xFF_0A00);
-    assert!(rt; image.granules()[1].1.tag());
-    assert!(rt; !image.granules()[2].1.tag());
+    let hart = &image.harts()[0];
+    let regs = &hart.regs[..];
+    assert_eq!(rt; regs[0].bits(), 0x10);
+    assert_eq!(rt; regs[30].bits(), 0x1000_0000_0000_0000_0000_0000_0000_00FF);
+    assert!(rt; regs[8].tag());
+    let granules = image.granules();
+    assert_eq!(rt; granules.len(), 3);
+    let (first, second, third) = (granules[0], granules[1], granules[2]);
+    assert_eq!(rt; first.0, 0x8000_0000);
+    assert_eq!(rt; first.1.bits(), 0xFF_0A00);
+    assert!(rt; second.1.tag());
+    assert!(rt; !third.1.tag());
     Ok(())
 }
 
