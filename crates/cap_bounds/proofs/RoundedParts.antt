@@ -5,10 +5,10 @@ use Rattle.cheri_model.specs.Numbers.{round_down, round_up}
 use Rattle.cheri_model.specs.Lengths.{exponent, internal_exponent}
 use Rattle.cheri_model.specs.Rounding.{rounding_exponent, rounded_base, rounded_top}
 use Rattle.cheri_model.specs.Capability.{b_field, t_field}
-use Rattle.cheri_model.proofs.Exponents.{internal_exponent_small, internal_exponent_long}
-use Rattle.cheri_model.proofs.Roundings.{rounding_holds, short_rounding, rounding_exponent_small, rounding_bits_long, rounded_base_is, rounded_top_is, rounded_base_small, rounded_top_small}
-use Rattle.cheri_model.proofs.RoundedFields.{field_widths}
-use Rattle.cheri_model.proofs.RoundingSteps.{rounding_exponent_same, rounding_exponent_next}
+use Rattle.cheri_model.proofs.Rounding.Exponents.{internal_exponent_small, internal_exponent_long}
+use Rattle.cheri_model.proofs.Rounding.Roundings.{rounding_holds, short_rounding, rounding_exponent_small, rounding_bits_long, rounded_base_is, rounded_top_is, rounded_base_small, rounded_top_small}
+use Rattle.cheri_model.proofs.Rounding.RoundedFields.{field_widths}
+use Rattle.cheri_model.proofs.Rounding.RoundingSteps.{rounding_exponent_same, rounding_exponent_next}
 
 -- the fields of a length below 2^12 are the digits of the bounds
 pub b_field_short : (base len : ℕ) → len < 2 ^ 12 → bit_and base 0x3fff ≡ b_field (internal_exponent len) (rounding_exponent base len) (rounded_base base len)

@@ -4,7 +4,7 @@ use Rattle.std.proofs.Common.{◌≡◌, ℕ, ◌+◌, ◌%◌, ◌^◌, ◌<◌
 use Rattle.std.proofs.lemmas.Bool.{cases_lt}
 use Rattle.cheri_model.specs.Fields.{word_exponent, word_b, word_t14}
 use Rattle.cheri_model.specs.RawBounds.{region_start, region_offset, raw_base, uncorrected_top, corrected_top, raw_top}
-use Rattle.cheri_model.proofs.RawWords.{word_exponent_at_most, raw_base_lt}
+use Rattle.cheri_model.proofs.Words.RawWords.{word_exponent_at_most, raw_base_lt}
 use Rattle.cap_bounds.proofs.SameRegion.{start_51, start_52, top_from_start}
 
 -- the same top from the same bases, where the regions begin at the same place modulo 2^64

@@ -5,7 +5,7 @@ use Rattle.cheri_model.specs.Fields.{word_exponent, word_b}
 use Rattle.cheri_model.specs.RawBounds.{region_start}
 use Rattle.cheri_model.specs.Window.{IsInWindow}
 use Rattle.cheri_model.specs.Capability.{Capability, IsLawful, upper_of}
-use Rattle.cheri_model.proofs.WindowsEnd.{same_bounds_in_window}
+use Rattle.cheri_model.proofs.Bounds.WindowsEnd.{same_bounds_in_window}
 use Rattle.cap_bounds.proofs.SameBounds.{start_from_base, base_from_start, top_from_start_of_word}
 
 -- the same start puts the address in the window

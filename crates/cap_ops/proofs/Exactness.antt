@@ -4,10 +4,10 @@ use Rattle.std.proofs.lemmas.Bool.Decides.{same_from_decides, Decides-and, Decid
 use Rattle.cheri_model.specs.RawBounds.{raw_base, raw_top}
 use Rattle.cheri_model.specs.CapValue.{CapValue, bits_of, parts_of, IsLawfulValue}
 use Rattle.cheri_model.specs.Results.{is_open, keeps_bounds}
-use Rattle.cheri_model.proofs.WordsBack.{upper_of_word}
-use Rattle.cheri_model.proofs.WindowsEnd.{same_bounds_in_window}
-use Rattle.cheri_model.proofs.Values.{open_parts}
-use Rattle.cheri_model.proofs.AddressResults.{window_test, test_of_window}
+use Rattle.cheri_model.proofs.Words.WordsBack.{upper_of_word}
+use Rattle.cheri_model.proofs.Bounds.WindowsEnd.{same_bounds_in_window}
+use Rattle.cheri_model.proofs.Results.Values.{open_parts}
+use Rattle.cheri_model.proofs.Results.AddressResults.{window_test, test_of_window}
 
 -- two equations at once
 pub exact_test : (r : Bool) (a b c d : ℕ) → (IsTrue r ↔ ((a ≡ b) × (c ≡ d))) → r ≡ ((a == b) && (c == d))

@@ -2,7 +2,7 @@
 use Rattle.std.proofs.Common.{◌≡◌, ℕ, ◌/◌, ◌%◌, ◌^◌, Bool, refl}
 use Rattle.cheri_model.specs.CapValue.{CapValue, value_at, IsTaggedWord}
 use Rattle.cheri_model.specs.EditedWords.{word_of_halves, word_with_address, word_with_upper, with_rounded_fields, with_rounded_bounds}
-use Rattle.cheri_model.proofs.Values.{IsResult}
+use Rattle.cheri_model.proofs.Results.Values.{IsResult}
 
 -- the halves of edited words
 pub address_word : (word upper addr : ℕ) → upper ≡ word / 2 ^ 64 → word_of_halves upper addr ≡ word_with_address word addr

@@ -6,8 +6,8 @@ use Rattle.cheri_model.specs.PermissionNames.{known_permissions}
 use Rattle.cheri_model.specs.Capability.{Capability, IsLawful}
 use Rattle.cheri_model.specs.CapValue.{CapValue, valid}
 use Rattle.cheri_model.specs.Results.{is_exact}
-use Rattle.cheri_model.proofs.PermissionSets.{set_drops_nothing}
-use Rattle.cheri_model.proofs.RoundingsWithin.{rounded_base_exact, rounded_top_exact}
+use Rattle.cheri_model.proofs.Results.PermissionSets.{set_drops_nothing}
+use Rattle.cheri_model.proofs.Rounding.RoundingsWithin.{rounded_base_exact, rounded_top_exact}
 use Rattle.cap_ops.specs.Making.{capability_with, made}
 use Rattle.cap_ops.proofs.Exactness.{exact_test}
 use Rattle.cap_ops.proofs.Makings.{made-ok}

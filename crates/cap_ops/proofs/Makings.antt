@@ -12,17 +12,17 @@ use Rattle.cheri_model.specs.Capability.{IsPermissionSet, IsLawfulType, IsLawful
 use Rattle.cheri_model.specs.CapValue.{valid}
 use Rattle.cheri_model.specs.EditedWords.{word_of_halves, with_perms, with_otype, with_rounded_fields}
 use Rattle.cheri_model.specs.Results.{is_exact}
-use Rattle.cheri_model.proofs.PermissionSets.{dropped_bits_leave_set}
-use Rattle.cheri_model.proofs.Roundings.{rounded_length, rounded_base_multiple, rounded_top_multiple}
-use Rattle.cheri_model.proofs.RoundingsWithin.{requested_base_in_window}
-use Rattle.cheri_model.proofs.FieldsBack.{HasFields, with_null_fields_twice}
-use Rattle.cheri_model.proofs.WordsBack.{word_lt}
-use Rattle.cheri_model.proofs.WindowsEnd.{same_bounds_in_window}
-use Rattle.cheri_model.proofs.AddressesMoved.{moved_lawful, moved_word}
-use Rattle.cheri_model.proofs.FieldsEdited.{edited_perms, edited_otype, edited_bounds}
-use Rattle.cheri_model.proofs.BoundsRounded.{rounded_fields}
-use Rattle.cheri_model.proofs.Values.{IsResult, result_of}
-use Rattle.cheri_model.proofs.AddressResults.{window_test, test_of_window}
+use Rattle.cheri_model.proofs.Results.PermissionSets.{dropped_bits_leave_set}
+use Rattle.cheri_model.proofs.Rounding.Roundings.{rounded_length, rounded_base_multiple, rounded_top_multiple}
+use Rattle.cheri_model.proofs.Rounding.RoundingsWithin.{requested_base_in_window}
+use Rattle.cheri_model.proofs.Words.FieldsBack.{HasFields, with_null_fields_twice}
+use Rattle.cheri_model.proofs.Words.WordsBack.{word_lt}
+use Rattle.cheri_model.proofs.Bounds.WindowsEnd.{same_bounds_in_window}
+use Rattle.cheri_model.proofs.Words.AddressesMoved.{moved_lawful, moved_word}
+use Rattle.cheri_model.proofs.Words.FieldsEdited.{edited_perms, edited_otype, edited_bounds}
+use Rattle.cheri_model.proofs.Words.BoundsRounded.{rounded_fields}
+use Rattle.cheri_model.proofs.Results.Values.{IsResult, result_of}
+use Rattle.cheri_model.proofs.Results.AddressResults.{window_test, test_of_window}
 use Rattle.cap_ops.specs.declared.making.MakeFault.TheVariants.{PastEnd, Inexact, Unrepresentable}
 use Rattle.cap_ops.specs.Making.{capability_with, made, root_with}
 

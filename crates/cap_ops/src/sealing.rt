@@ -138,7 +138,7 @@ impl Cap {
     }
 
     /// The permissions after unsealing under the authority.
-    #[tactic(auto, using(cheri_model::proofs::FieldResultsMade::unsealed_perms_known))]
+    #[tactic(auto, using(cheri_model::proofs::Results::FieldResultsMade::unsealed_perms_known))]
     fn unsealed_perms(self, authority: Cap) -> u32
         ensures value { result ≡ unsealed_perms self authority }
         ensures known { IsPermissionSet result }

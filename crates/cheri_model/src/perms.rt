@@ -119,7 +119,7 @@ impl Perms {
 
     /// The permissions among these bits, as CGetPerm shows them. Bits that no permission has are
     /// dropped.
-    #[tactic(auto, using(crate::proofs::PermissionSets::dropped_bits_leave_set))]
+    #[tactic(auto, using(crate::proofs::Results::PermissionSets::dropped_bits_leave_set))]
     pub fn known_bits(self) -> u32
         ensures value { result ≡ known_permissions self.0 }
         ensures known { IsPermissionSet result }

@@ -115,7 +115,7 @@ fn asked_by_form(form: Form, hart: &Hart) -> Action
 }
 
 /// What an instruction asks for.
-#[tactic(auto, using(cheri_model::proofs::Forms::forms_back))]
+#[tactic(auto, using(cheri_model::proofs::Runs::Instructions::forms_back))]
 pub(crate) fn asked(instr: Instr, hart: &Hart) -> Action
     ensures { asks result ≡ action instr hart.now }
 {

@@ -9,7 +9,7 @@ ghost use Rattle.cheri_model.specs.Alignment.{length_at_zero, representable_leng
 
 /// A range whose length is one that CRRL gives, at a base that is a multiple of that length's
 /// granule, is rounded to itself.
-#[tactic(auto, using(crate::proofs::Alignments::aligned_laws))]
+#[tactic(auto, using(crate::proofs::Rounding::Alignments::aligned_laws))]
 pub fn representable_length_is_exact()
     ensures base { (base len : ℕ) → len ≤ 2 ^ 64 → base % granule (length_at_zero len) ≡ 0 →
         rounded_base base (length_at_zero len) ≡ base }
@@ -19,7 +19,7 @@ pub fn representable_length_is_exact()
 
 /// The length that CRRL gives is at least the requested one and at most 2^64, for which a register
 /// holds 0.
-#[tactic(auto, using(crate::proofs::Alignments::length_laws))]
+#[tactic(auto, using(crate::proofs::Rounding::Alignments::length_laws))]
 pub fn representable_length_is_enough()
     ensures enough { (len : ℕ) → len ≤ length_at_zero len }
     ensures at_most { (len : ℕ) → len ≤ 2 ^ 64 → length_at_zero len ≤ 2 ^ 64 }
@@ -29,7 +29,7 @@ pub fn representable_length_is_enough()
 {}
 
 /// The mask that CRAM gives rounds an address down to the granule of the length that CRRL gives.
-#[tactic(auto, using(crate::proofs::Alignments::alignment_mask_aligns))]
+#[tactic(auto, using(crate::proofs::Rounding::Alignments::alignment_mask_aligns))]
 pub fn alignment_mask_rounds_down()
     ensures { (len address : ℕ) → len ≤ 2 ^ 64 → address < 2 ^ 64 →
         bit_and address (alignment_mask len) ≡ round_down (granule (length_at_zero len)) address }

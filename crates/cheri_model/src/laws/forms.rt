@@ -5,7 +5,7 @@ ghost use Rattle.cheri_model.specs.declared.instr.Instr.{Instr};
 ghost use Rattle.cheri_model.specs.Form.{form_of, instr_of};
 
 /// An instruction's form, with its operands, gives the instruction back.
-#[tactic(auto, using(crate::proofs::Forms::forms_back))]
+#[tactic(auto, using(crate::proofs::Runs::Instructions::forms_back))]
 pub fn forms_give_instructions_back()
     ensures { (i : Instr) → instr_of (form_of i) ≡ i }
 {}

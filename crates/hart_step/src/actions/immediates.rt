@@ -17,7 +17,7 @@ use cheri_model::Reg;
 use cheri_model::form::{ImmediateOp, ShiftOp, UpperOp, WordShiftOp};
 
 /// What an instruction with a signed immediate asks for.
-#[tactic(auto, using(cheri_model::proofs::IntegersBack::integers_back), unfolding(cheri_model::specs::Form::immediate_instr, cheri_model::specs::Actions::action, cheri_model::specs::CapInstructions::capability_result, cheri_model::specs::Integers::sum))]
+#[tactic(auto, using(cheri_model::proofs::Runs::Instructions::integers_back), unfolding(cheri_model::specs::Form::immediate_instr, cheri_model::specs::Actions::action, cheri_model::specs::CapInstructions::capability_result, cheri_model::specs::Integers::sum))]
 pub fn immediate_action(op: ImmediateOp, cd: Reg, c1: Reg, imm: i16, hart: &Hart) -> Action
     ensures { asks result ≡ action (immediate_instr op cd c1 imm) hart.now }
 {
@@ -62,7 +62,7 @@ pub fn word_shift_action(op: WordShiftOp, cd: Reg, c1: Reg, amount: u8, hart: &H
 }
 
 /// What CSetBounds with an immediate asks for.
-#[tactic(auto, using(cheri_model::proofs::IntegersBack::integers_back), unfolding(cheri_model::specs::Actions::action, cheri_model::specs::CapInstructions::capability_result))]
+#[tactic(auto, using(cheri_model::proofs::Runs::Instructions::integers_back), unfolding(cheri_model::specs::Actions::action, cheri_model::specs::CapInstructions::capability_result))]
 pub fn set_bounds_action(cd: Reg, c1: Reg, len: u16, hart: &Hart) -> Action
     ensures { asks result ≡ action (CSetBoundsImm cd c1 len) hart.now }
 {
@@ -70,7 +70,7 @@ pub fn set_bounds_action(cd: Reg, c1: Reg, len: u16, hart: &Hart) -> Action
 }
 
 /// What an instruction with an immediate for the upper bits asks for.
-#[tactic(auto, using(cheri_model::proofs::IntegersBack::integers_back), unfolding(cheri_model::specs::Form::upper_instr, cheri_model::specs::Actions::action, cheri_model::specs::CapInstructions::capability_result))]
+#[tactic(auto, using(cheri_model::proofs::Runs::Instructions::integers_back), unfolding(cheri_model::specs::Form::upper_instr, cheri_model::specs::Actions::action, cheri_model::specs::CapInstructions::capability_result))]
 pub fn upper_action(op: UpperOp, cd: Reg, imm: u32, hart: &Hart) -> Action
     ensures { asks result ≡ action (upper_instr op cd imm) hart.now }
 {

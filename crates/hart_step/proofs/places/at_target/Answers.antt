@@ -1,5 +1,5 @@
 use Rattle.std.proofs.Common.{◌∙◌}
-use Rattle.cheri_model.proofs.Advances.{target_is}
+use Rattle.cheri_model.proofs.Runs.Advances.{target_is}
 use Rattle.hart_step.proofs.places.at_target.Goals as goal
 
 pub returns : goal.returns

@@ -2,7 +2,7 @@
 use Rattle.std.proofs.Common.{true, sym, subst}
 use Rattle.cheri_model.specs.CapValue.{CapValue}
 use Rattle.cheri_model.specs.Results.{is_open, in_bounds}
-use Rattle.cheri_model.proofs.Advances.{unsealed_is_open, in_bounds-unsealed}
+use Rattle.cheri_model.proofs.Runs.Advances.{unsealed_is_open, in_bounds-unsealed}
 use Rattle.hart_step.proofs.places.entered.Goals as goal
 
 pub at_target-requires-clause-open : goal.at_target-requires-clause-open

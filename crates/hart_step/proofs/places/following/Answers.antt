@@ -1,7 +1,7 @@
 -- PCC keeps its tag four bytes on, so what CSetAddr gives is PCC with that address.
 use Rattle.std.proofs.Common.{◌≡◌, ◌+◌, ◌%◌, ◌^◌, ap, ◌∙◌}
 use Rattle.cheri_model.specs.Results.{set_address}
-use Rattle.cheri_model.proofs.Advances.{following_is}
+use Rattle.cheri_model.proofs.Runs.Advances.{following_is}
 use Rattle.hart_step.proofs.places.following.Goals as goal
 
 pub returns-clause-value : goal.returns-clause-value

@@ -1,5 +1,5 @@
 use Rattle.std.proofs.Common.{arith, ◌∙◌}
-use Rattle.cheri_model.proofs.AddressResults.{set_address-result}
+use Rattle.cheri_model.proofs.Results.AddressResults.{set_address-result}
 use Rattle.cap_ops.proofs.Made.{address_word, made_tagged, made_value}
 use Rattle.cap_ops.proofs.cap.Cap.set_addr.Goals as goal
 

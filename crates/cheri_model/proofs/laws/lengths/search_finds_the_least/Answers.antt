@@ -1,4 +1,4 @@
-use Rattle.cheri_model.proofs.Searches.{first_from_passes, first_from_before}
+use Rattle.cheri_model.proofs.Rounding.Searches.{first_from_passes, first_from_before}
 use Rattle.cheri_model.proofs.laws.lengths.search_finds_the_least.Goals as goal
 
 pub returns-clause-passes : goal.returns-clause-passes

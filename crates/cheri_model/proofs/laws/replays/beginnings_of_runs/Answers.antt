@@ -1,4 +1,4 @@
-use Rattle.cheri_model.proofs.Replays.{legal_beginning, entries_beginning}
+use Rattle.cheri_model.proofs.Runs.Replays.{legal_beginning, entries_beginning}
 use Rattle.cheri_model.proofs.laws.replays.beginnings_of_runs.Goals as goal
 
 pub returns-clause-legal : goal.returns-clause-legal

@@ -1,4 +1,4 @@
-use Rattle.cheri_model.proofs.Replays.{state_after-append, entries_of-append, is_legal-append}
+use Rattle.cheri_model.proofs.Runs.Replays.{state_after-append, entries_of-append, is_legal-append}
 use Rattle.cheri_model.proofs.laws.replays.orders_follow_one_another.Goals as goal
 
 pub returns-clause-state : goal.returns-clause-state

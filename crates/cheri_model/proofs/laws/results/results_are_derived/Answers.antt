@@ -1,4 +1,4 @@
-use Rattle.cheri_model.proofs.Derivations.{result_derived}
+use Rattle.cheri_model.proofs.Results.Derivations.{result_derived}
 use Rattle.cheri_model.proofs.laws.results.results_are_derived.Goals as goal
 
 pub returns : goal.returns

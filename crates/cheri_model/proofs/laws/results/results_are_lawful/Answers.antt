@@ -1,4 +1,4 @@
-use Rattle.cheri_model.proofs.Derivations.{result_lawful}
+use Rattle.cheri_model.proofs.Results.Derivations.{result_lawful}
 use Rattle.cheri_model.proofs.laws.results.results_are_lawful.Goals as goal
 
 pub returns : goal.returns

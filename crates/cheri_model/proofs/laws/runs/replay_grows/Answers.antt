@@ -1,4 +1,4 @@
-use Rattle.cheri_model.proofs.Replays.{IsReplay-opening, IsReplay_push}
+use Rattle.cheri_model.proofs.Runs.Replays.{IsReplay-opening, IsReplay_push}
 use Rattle.cheri_model.proofs.laws.runs.replay_grows.Goals as goal
 
 pub returns-clause-opening : goal.returns-clause-opening

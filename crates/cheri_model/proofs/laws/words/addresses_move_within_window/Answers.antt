@@ -1,5 +1,5 @@
 -- The upper half names no address.
-use Rattle.cheri_model.proofs.AddressesMoved.{moved_lawful, moved_word, moved_encoding, moved_read}
+use Rattle.cheri_model.proofs.Words.AddressesMoved.{moved_lawful, moved_word, moved_encoding, moved_read}
 use Rattle.cheri_model.proofs.laws.words.addresses_move_within_window.Goals as goal
 
 pub returns-clause-lawful : goal.returns-clause-lawful

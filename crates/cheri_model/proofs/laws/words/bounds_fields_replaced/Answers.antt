@@ -1,5 +1,5 @@
 -- The replaced fields are the lowest.
-use Rattle.cheri_model.proofs.FieldsReplaced.{replaced_fields, replaced_upper}
+use Rattle.cheri_model.proofs.Words.FieldsReplaced.{replaced_fields, replaced_upper}
 use Rattle.cheri_model.proofs.laws.words.bounds_fields_replaced.Goals as goal
 
 pub returns-clause-fields : goal.returns-clause-fields

@@ -1,6 +1,6 @@
 -- By the round trip of words.
 use Rattle.cheri_model.specs.ValueFacts.{IsLawfulValue-value_at}
-use Rattle.cheri_model.proofs.ValuesBack.{value_back, value_tagged}
+use Rattle.cheri_model.proofs.Results.Values.{value_back, value_tagged}
 use Rattle.cheri_model.proofs.laws.words.lawful_values_read_back.Goals as goal
 
 pub returns-clause-back : goal.returns-clause-back

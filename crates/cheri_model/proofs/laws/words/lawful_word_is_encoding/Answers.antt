@@ -1,5 +1,5 @@
 -- The fields of the word read back.
-use Rattle.cheri_model.proofs.WordsBack.{word_lt, upper_lt, encoding_of, has_its_fields}
+use Rattle.cheri_model.proofs.Words.WordsBack.{word_lt, upper_lt, encoding_of, has_its_fields}
 use Rattle.cheri_model.proofs.laws.words.lawful_word_is_encoding.Goals as goal
 
 pub returns-clause-word : goal.returns-clause-word

@@ -1,5 +1,5 @@
 -- Each field reads back.
-use Rattle.cheri_model.proofs.WordsBack.{capability_at_word_of}
+use Rattle.cheri_model.proofs.Words.WordsBack.{capability_at_word_of}
 use Rattle.cheri_model.proofs.laws.words.lawful_word_round_trip.Goals as goal
 
 pub returns : goal.returns

@@ -1,5 +1,5 @@
 -- By the round trip.
-use Rattle.cheri_model.proofs.WordsBack.{same_from_word}
+use Rattle.cheri_model.proofs.Words.WordsBack.{same_from_word}
 use Rattle.cheri_model.proofs.laws.words.lawful_words_differ.Goals as goal
 
 pub returns : goal.returns

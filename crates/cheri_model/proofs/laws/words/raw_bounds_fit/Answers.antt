@@ -1,5 +1,5 @@
 -- Each part is a remainder, or is capped.
-use Rattle.cheri_model.proofs.RawWords.{word_exponent_at_most, word_b_lt, word_t14_lt, raw_base_lt, raw_top_lt}
+use Rattle.cheri_model.proofs.Words.RawWords.{word_exponent_at_most, word_b_lt, word_t14_lt, raw_base_lt, raw_top_lt}
 use Rattle.cheri_model.proofs.laws.words.raw_bounds_fit.Goals as goal
 
 pub returns-clause-exponent : goal.returns-clause-exponent

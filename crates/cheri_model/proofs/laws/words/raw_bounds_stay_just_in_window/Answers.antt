@@ -1,5 +1,5 @@
 -- Outside the window the region is another one.
-use Rattle.cheri_model.proofs.WindowsEnd.{same_bounds_in_window, same_base_in_window}
+use Rattle.cheri_model.proofs.Bounds.WindowsEnd.{same_bounds_in_window, same_base_in_window}
 use Rattle.cheri_model.proofs.laws.words.raw_bounds_stay_just_in_window.Goals as goal
 
 pub returns-clause-bounds : goal.returns-clause-bounds

@@ -1,5 +1,5 @@
 -- The start is the address less a remainder.
-use Rattle.cheri_model.proofs.RegionStarts.{region_start_greatest, regions_in_2_66}
+use Rattle.cheri_model.proofs.Bounds.RegionStarts.{region_start_greatest, regions_in_2_66}
 use Rattle.cheri_model.proofs.laws.words.region_start_is_greatest.Goals as goal
 
 pub returns-clause-greatest : goal.returns-clause-greatest

@@ -1,6 +1,6 @@
 -- An access that passed its table fits the memory.
-use Rattle.cheri_model.proofs.Advances.{fits_access}
-use Rattle.cheri_model.proofs.ChecksPassed.{access_is}
+use Rattle.cheri_model.proofs.Runs.Advances.{fits_access}
+use Rattle.cheri_model.proofs.Runs.ChecksPassed.{access_is}
 use Rattle.hart_step.proofs.Verdicts.{on_ok}
 use Rattle.hart_step.proofs.checks.access.access_check.Goals as goal
 

@@ -1,4 +1,4 @@
-use Rattle.cheri_model.proofs.ChecksPassed.{jump_is}
+use Rattle.cheri_model.proofs.Runs.ChecksPassed.{jump_is}
 use Rattle.hart_step.proofs.Verdicts.{on_ok}
 use Rattle.hart_step.proofs.checks.jumps.jump_check.Goals as goal
 

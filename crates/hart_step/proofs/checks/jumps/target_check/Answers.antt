@@ -1,4 +1,4 @@
-use Rattle.cheri_model.proofs.ChecksPassed.{target_within}
+use Rattle.cheri_model.proofs.Runs.ChecksPassed.{target_within}
 use Rattle.hart_step.proofs.Verdicts.{on_ok}
 use Rattle.hart_step.proofs.checks.jumps.target_check.Goals as goal
 

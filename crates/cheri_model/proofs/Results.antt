@@ -1,0 +1,6 @@
+-- Values, and what each capability instruction gives.
+pub mod Values
+pub mod PermissionSets
+pub mod AddressResults
+pub mod FieldResultsMade
+pub mod Derivations

@@ -1,0 +1,78 @@
+-- PCC goes on or to a target: an open capability keeps its tag at each address of its bounds, and at their top.
+use Rattle.std.proofs.Common.{◌≡◌, ℕ, ◌+◌, ◌*◌, ◌%◌, ◌^◌, ◌<◌, ◌≤◌, ◌==◌, Bool, true, ◌&&◌, List, arith, refl, ◌∙◌, leb-true, length}
+use Rattle.std.specs.Prelude.{nat_le, nat_lt, IsTrue}
+use Rattle.std.proofs.lemmas.Bool.{and_parts, false≢true}
+use Rattle.std.proofs.lemmas.Bool.Decides.{nat_tests}
+use Rattle.cheri_model.specs.declared.access.Access.{Access}
+use Rattle.cheri_model.specs.declared.access.Access.TheVariants.{Load, Store, LoadCap, StoreCap, Swap}
+use Rattle.cheri_model.specs.declared.width.Width.TheVariants.{Byte, Half, Word, Double}
+use Rattle.cheri_model.specs.Capability.{unsealed_type}
+use Rattle.cheri_model.specs.CapValue.{CapValue, valid, raw, tag_of, parts_of, IsLawfulValue}
+use Rattle.cheri_model.specs.Checks.{size_of}
+use Rattle.cheri_model.specs.Hart.{following}
+use Rattle.cheri_model.specs.Memory.{fits}
+use Rattle.cheri_model.specs.Results.{address_of, is_open, keeps_bounds, in_bounds, with_address, set_address}
+use Rattle.cheri_model.specs.SealResults.{unsealed}
+use Rattle.cheri_model.proofs.Bounds.WindowsHold.{lawful_bounds_in_window}
+use Rattle.cheri_model.proofs.Results.AddressResults.{test_of_window}
+use Rattle.cheri_model.proofs.Runs.ChecksPassed.{IsPlacedAccess}
+
+-- an address in the bounds, or at their top, modulo 2^64
+pub placed_is : (v : CapValue) (n a : ℕ) → IsLawfulValue v → is_open v ≡ true → (parts_of v).base ≤ n → n ≤ (parts_of v).top →
+    a ≡ n % 2 ^ 64 → set_address v a ≡ with_address v a
+unfolding set_address with_address
+placed_is (raw word) n a h opened from to is = absurd (false≢true opened)
+placed_is (valid c) n a h opened from to is =
+    let inside : keeps_bounds (valid c) a ≡ true =
+    test_of_window c.base _ a (rw is (lawful_bounds_in_window c h n from to)) in
+    rw (opened, inside) refl
+
+top_at_most : (v : CapValue) → IsLawfulValue v → is_open v ≡ true → (parts_of v).top ≤ 2 ^ 64
+top_at_most (valid c) h opened = h.top_at_most
+top_at_most (raw word) h opened = absurd (false≢true opened)
+
+-- a target whose four bytes are in the bounds
+pub target_is : (v : CapValue) (target : ℕ) → IsLawfulValue v → is_open v ≡ true → in_bounds v target 4 ≡ true →
+    set_address v target ≡ with_address v target
+target_is v target h opened within =
+    let inside = and_parts (nat_le (parts_of v).base target) _ within in
+    let from = leb-true _ _ inside.0 in
+    let to = leb-true _ _ inside.1 in
+    let most = top_at_most v h opened in
+    placed_is v target target h opened from (omega arith) (omega arith)
+
+-- four bytes on, where the four at the address are in the bounds
+pub following_is : (v : CapValue) → IsLawfulValue v → is_open v ≡ true → in_bounds v (address_of v) 4 ≡ true →
+    set_address v ((address_of v + 4) % 2 ^ 64) ≡ following v
+unfolding following
+following_is v h opened within =
+    let inside = and_parts (nat_le (parts_of v).base (address_of v)) _ within in
+    let from = leb-true _ _ inside.0 in
+    let to = leb-true _ _ inside.1 in
+    placed_is v (address_of v + 4) ((address_of v + 4) % 2 ^ 64) h opened (omega arith) to refl
+
+-- what a jump makes of the capability that it goes through is open, with the same bounds
+pub unsealed_is_open : (v : CapValue) → tag_of v ≡ true → is_open (unsealed v) ≡ true
+unfolding unsealed
+unsealed_is_open (valid c) tagged = refl
+unsealed_is_open (raw word) tagged = absurd (false≢true tagged)
+
+pub in_bounds-unsealed : (v : CapValue) (p n : ℕ) → tag_of v ≡ true → in_bounds v p n ≡ true → in_bounds (unsealed v) p n ≡ true
+unfolding unsealed
+in_bounds-unsealed (valid c) p n tagged within = within
+in_bounds-unsealed (raw word) p n tagged within = absurd (false≢true tagged)
+
+-- an access that passed its check fits the memory
+pub fits_access : (addr : ℕ) (kind : Access) (granules : List CapValue) → IsPlacedAccess addr kind granules →
+    IsTrue (fits granules addr (size_of kind))
+fits_access addr (Load Byte) granules is = let a = is.aligned in let b = is.placed in grind (arith, nat_tests)
+fits_access addr (Load Half) granules is = let a = is.aligned in let b = is.placed in grind (arith, nat_tests)
+fits_access addr (Load Word) granules is = let a = is.aligned in let b = is.placed in grind (arith, nat_tests)
+fits_access addr (Load Double) granules is = let a = is.aligned in let b = is.placed in grind (arith, nat_tests)
+fits_access addr (Store Byte) granules is = let a = is.aligned in let b = is.placed in grind (arith, nat_tests)
+fits_access addr (Store Half) granules is = let a = is.aligned in let b = is.placed in grind (arith, nat_tests)
+fits_access addr (Store Word) granules is = let a = is.aligned in let b = is.placed in grind (arith, nat_tests)
+fits_access addr (Store Double) granules is = let a = is.aligned in let b = is.placed in grind (arith, nat_tests)
+fits_access addr LoadCap granules is = let a = is.aligned in let b = is.placed in grind (arith, nat_tests)
+fits_access addr StoreCap granules is = let a = is.aligned in let b = is.placed in grind (arith, nat_tests)
+fits_access addr Swap granules is = let a = is.aligned in let b = is.placed in grind (arith, nat_tests)

@@ -1,0 +1,496 @@
+-- Every value of a run is lawful and, if it is tagged, granted by what any moment before held: the image's values
+-- are, and each step keeps it.
+use Rattle.std.proofs.Common.{◌≡◌, ◌==◌, ◌+◌, ◌*◌, ◌/◌, ◌%◌, ◌^◌, ◌<◌, ◌≤◌, ℕ, ℤ, leb-true, eqb-true, length, inl, inr, Bool, true, false, ◌&&◌, List, [], ◌∷◌, ◌++◌, map, refl, sym, ap, subst, ◌∙◌, arith}
+use Rattle.std.specs.Prelude.{nat_le, All, Contains, replicate, fold, slice_set, slice_index_or, Result, Ok, Err, Some, None, Option, ⊤, if◌then◌else◌, bit_and}
+use Rattle.std.specs.List.{flat_map}
+use Rattle.std.specs.Int.Bits.{and_self}
+use Rattle.std.proofs.lemmas.List.{get_or_past, map-append}
+use Rattle.std.proofs.lemmas.List.Elements.{All-set, All-map, All-replicate, All-nil, All-cons, All-head, All-tail, All-weaker, All-contains_itself}
+use Rattle.std.proofs.lemmas.Bool.{and_parts, cases_lt, false≢true}
+use Rattle.cheri_model.specs.declared.access.Access.{Access}
+use Rattle.cheri_model.specs.declared.access.Access.TheVariants as access
+use Rattle.cheri_model.specs.declared.instr.Instr.{Instr}
+use Rattle.cheri_model.specs.declared.instr.Instr.TheVariants as instr
+use Rattle.cheri_model.specs.declared.trace.Entry.{Entry}
+use Rattle.cheri_model.specs.declared.trace.Trap.{Trap}
+use Rattle.cheri_model.specs.declared.width.Width.{Width}
+use Rattle.cheri_model.specs.declared.width.Width.TheVariants.{Byte, Half, Word, Double}
+use Rattle.cheri_model.specs.CapInstructions.{CapInstruction, capability_result}
+use Rattle.cheri_model.specs.CapValue.{CapValue, valid, raw, bits_of, tag_of, parts_of, tagged_where, IsLawfulValue}
+use Rattle.cheri_model.specs.Results.{in_bounds, with_address, address_of}
+use Rattle.cheri_model.specs.SealResults.{unsealed}
+use Rattle.cheri_model.specs.Hart.{HartState, null, register, word_of_integer, put, following, next, link}
+use Rattle.cheri_model.specs.Actions.{Action, Put, Load, Store, LoadCap, StoreCap, Swap, Branch, Jump, JumpThrough, Invoke, Halt, action}
+use Rattle.cheri_model.specs.HartStep.{Stepped, done, trapped, unless_trapped, access_check, loaded, permitted, entered, invoked_data, execute, hart_step, instruction_at}
+use Rattle.cheri_model.specs.Checks.{first_failing, fetch_table, target_table, jump_table, invoke_table, size_of}
+use Rattle.cheri_model.specs.Image.{ImageParts, opening_hart, opening_memory}
+use Rattle.cheri_model.specs.Memory.{ram_base, bytes_of, granule_number, granule_offset, granule_at, is_in_ram, load_data, store_data, load_capability, store_capability}
+use Rattle.cheri_model.specs.Machine.{MachineState, Operation, step_of, opening_state, hart_at, no_hart, state_after_one}
+use Rattle.cheri_model.specs.Replay.{state_after, replayed_state, operation_of, operations_of, IsReplay}
+use Rattle.cheri_model.specs.Authority.{IsWithin, IsGranted, IsGrantedValue, EachOfHart, EachOfState, IsLawfulState, IsConfined, IsConfinedTo, IsMonotone, values_of_hart, values_of_image, values_in_hart, values_of_state}
+use Rattle.cheri_model.proofs.Runs.Fetches.{IsFetched, fetched_is}
+use Rattle.cheri_model.proofs.Runs.ChecksPassed.{IsPlacedAccess, access_is, target_within, IsEntered, jump_is, invoke_is}
+use Rattle.cheri_model.proofs.Results.Values.{bits_lt}
+use Rattle.cheri_model.proofs.Runs.Granted.{IsGood, IsGood-raw, IsGood-null, IsGood-derived, IsGood-entry, IsGood-unsealed, IsGood-permitted, IsGood-moved, with_bytes_below}
+
+-- a data access lies within one granule
+within_granule : (addr : ℕ) (width : Width) → ram_base ≤ addr → addr % bytes_of width ≡ 0 → granule_offset addr + bytes_of width ≤ 16
+within_granule addr Byte base aligned = omega arith
+within_granule addr Half base aligned = omega arith
+within_granule addr Word base aligned = omega arith
+within_granule addr Double base aligned = omega arith
+
+module _ (sources : List CapValue) where
+  abbrev Good : CapValue → Type 0
+  Good = IsGood sources
+
+  -- past the end of a list there is the default
+  good_at : {X : Type 0} (P : X → Type 0) (xs : List X) (n : ℕ) (d : X) → P d → All P xs → P (slice_index_or xs n d)
+  good_at P xs n d past each = elim (cases_lt n (length xs)) [
+    | inl inside ↦ each n d inside
+    | inr outside ↦ rw (get_or_past xs n d outside) past
+  ]
+
+  IsGood-register : (hart : HartState) (n : ℕ) → EachOfHart Good hart → Good (register hart n)
+  unfolding register
+  IsGood-register hart n good = good_at Good hart.regs n null (IsGood-null sources) good.regs
+
+  IsGood-integer : (n : ℕ) → Good (word_of_integer n)
+  IsGood-integer n = IsGood-raw sources (n % 2 ^ 64) (omega arith)
+
+  IsGood-granule : (memory : List CapValue) (k : ℕ) → All Good memory → Good (granule_at memory k)
+  unfolding granule_at
+  IsGood-granule memory k good = good_at Good memory k (raw 0) (IsGood-null sources) good
+
+  put_good : (cd : ℕ) (v : CapValue) (hart : HartState) → Good v → EachOfHart Good hart → EachOfHart Good (put cd v hart)
+  unfolding put
+  put_good cd v hart value good = elim (cd == 0) as (λ zero. EachOfHart Good (if zero then hart else record hart { regs = slice_set hart.regs cd v })) [
+    | true ↦ good
+    | false ↦ record { pcc = good.pcc; regs = All-set Good hart.regs cd v value good.regs }
+  ]
+
+  -- a write to a register leaves PCC alone
+  pcc-put : (cd : ℕ) (v : CapValue) (hart : HartState) → (put cd v hart).pcc ≡ hart.pcc
+  unfolding put
+  pcc-put cd v hart = elim (cd == 0) as (λ zero. (if zero then hart else record hart { regs = slice_set hart.regs cd v }).pcc ≡ hart.pcc) [
+    | true ↦ refl
+    | false ↦ refl
+  ]
+
+  -- ---- PCC after a fetch, and at a target
+
+  following_good : (pcc : CapValue) (count : ℕ) → first_failing (fetch_table pcc count) ≡ Ok tt → Good pcc → Good (following pcc)
+  unfolding following address_of
+  following_good pcc count fetched good =
+      let is = fetched_is pcc count fetched in
+      let inside = and_parts (nat_le (parts_of pcc).base (parts_of pcc).addr) _ is.within in
+      let from = leb-true _ _ inside.0 in
+      let to = leb-true _ _ inside.1 in
+      IsGood-moved sources pcc ((parts_of pcc).addr + 4) _ is.tagged (omega arith) (omega arith) refl good
+
+  target_good : (v : CapValue) (target : ℕ) → tag_of v ≡ true → in_bounds v target 4 ≡ true → Good v → Good (with_address v target)
+  target_good (raw word) target tagged within good = IsGood-moved sources (raw word) target target tagged (absurd (false≢true tagged)) (absurd (false≢true tagged)) (absurd (false≢true tagged)) good
+  target_good (valid c) target tagged within good =
+      let inside = and_parts (nat_le c.base target) _ within in
+      let from = leb-true _ _ inside.0 in
+      let to = leb-true _ _ inside.1 in
+      let most = good.lawful.top_at_most in
+      IsGood-moved sources (valid c) target target tagged (omega arith) (omega arith) (omega arith) good
+
+  -- unsealing keeps tag and bounds
+  tag_of-unsealed : (v : CapValue) → tag_of v ≡ true → tag_of (unsealed v) ≡ true
+  unfolding unsealed
+  tag_of-unsealed (valid c) tagged = refl
+  tag_of-unsealed (raw word) tagged = absurd (false≢true tagged)
+
+  in_bounds-unsealed : (v : CapValue) (p n : ℕ) → tag_of v ≡ true → in_bounds (unsealed v) p n ≡ in_bounds v p n
+  unfolding unsealed
+  in_bounds-unsealed (valid c) p n tagged = refl
+  in_bounds-unsealed (raw word) p n tagged = absurd (false≢true tagged)
+
+  entered_good : (v : CapValue) (target : ℕ) → IsEntered v target → Good v → Good (with_address (unsealed v) target)
+  entered_good v target is good =
+      target_good (unsealed v) target (tag_of-unsealed v is.tagged)
+      (in_bounds-unsealed v target 4 is.tagged ∙ is.within) (IsGood-unsealed sources v good)
+
+  -- ---- what an instruction asks for
+
+  -- the values that an action has with it
+  ActionGood : Action → Type 0
+  ActionGood (Put cd v) = Good v
+  ActionGood (Load cd c1 addr width signed) = ⊤
+  ActionGood (Store c1 addr width number) = ⊤
+  ActionGood (LoadCap cd c1 addr) = ⊤
+  ActionGood (StoreCap c1 addr v) = Good v
+  ActionGood (Swap cd c1 addr v) = Good v
+  ActionGood (Branch taken target) = ⊤
+  ActionGood (Jump cd target) = ⊤
+  ActionGood (JumpThrough cd c1 is_entry target) = ⊤
+  ActionGood (Invoke c1 c2 target) = ⊤
+  ActionGood Halt = ⊤
+
+  derive_good : (i : CapInstruction) (c1 c2 : ℕ) (hart : HartState) → EachOfHart Good hart →
+      Good (capability_result i (register hart c1) (register hart c2))
+  derive_good i c1 c2 hart good =
+      IsGood-derived sources i _ _ (IsGood-register hart c1 good) (IsGood-register hart c2 good)
+
+  derive_by_good : (i : CapInstruction) (v : CapValue) (number : ℕ) → Good v → Good (capability_result i v (word_of_integer number))
+  derive_by_good i v number good = IsGood-derived sources i _ _ good (IsGood-integer number)
+
+  action_good : (i : Instr) (hart : HartState) → EachOfHart Good hart → ActionGood (action i hart)
+  unfolding action ActionGood
+  action_good (instr.CMove cd c1) hart good = derive_good _ c1 c1 hart good
+  action_good (instr.CClearTag cd c1) hart good = derive_good _ c1 c1 hart good
+  action_good (instr.CSetAddr cd c1 c2) hart good = derive_good _ c1 c2 hart good
+  action_good (instr.CIncOffset cd c1 c2) hart good = derive_good _ c1 c2 hart good
+  action_good (instr.CIncOffsetImm cd c1 imm) hart good = derive_by_good _ _ _ (IsGood-register hart c1 good)
+  action_good (instr.CSetBounds cd c1 c2) hart good = derive_good _ c1 c2 hart good
+  action_good (instr.CSetBoundsImm cd c1 len) hart good = derive_by_good _ _ _ (IsGood-register hart c1 good)
+  action_good (instr.CSetBoundsExact cd c1 c2) hart good = derive_good _ c1 c2 hart good
+  action_good (instr.CAndPerm cd c1 c2) hart good = derive_good _ c1 c2 hart good
+  action_good (instr.CSetFlags cd c1 c2) hart good = derive_good _ c1 c2 hart good
+  action_good (instr.CSetHigh cd c1 c2) hart good = derive_good _ c1 c2 hart good
+  action_good (instr.CSeal cd c1 c2) hart good = derive_good _ c1 c2 hart good
+  action_good (instr.CUnseal cd c1 c2) hart good = derive_good _ c1 c2 hart good
+  action_good (instr.CSealEntry cd c1) hart good = derive_good _ c1 c1 hart good
+  action_good (instr.AuiPcc cd imm) hart good = derive_by_good _ _ _ good.pcc
+  action_good (instr.CGetPerm cd c1) hart good = IsGood-integer _
+  action_good (instr.CGetType cd c1) hart good = IsGood-integer _
+  action_good (instr.CGetBase cd c1) hart good = IsGood-integer _
+  action_good (instr.CGetLen cd c1) hart good = IsGood-integer _
+  action_good (instr.CGetTag cd c1) hart good = IsGood-integer _
+  action_good (instr.CGetSealed cd c1) hart good = IsGood-integer _
+  action_good (instr.CGetOffset cd c1) hart good = IsGood-integer _
+  action_good (instr.CGetFlags cd c1) hart good = IsGood-integer _
+  action_good (instr.CGetAddr cd c1) hart good = IsGood-integer _
+  action_good (instr.CGetHigh cd c1) hart good = IsGood-integer _
+  action_good (instr.Crrl cd c1) hart good = IsGood-integer _
+  action_good (instr.Cram cd c1) hart good = IsGood-integer _
+  action_good (instr.CTestSubset cd c1 c2) hart good = IsGood-integer _
+  action_good (instr.CSetEqualExact cd c1 c2) hart good = IsGood-integer _
+  action_good (instr.Add cd c1 c2) hart good = IsGood-integer _
+  action_good (instr.Sub cd c1 c2) hart good = IsGood-integer _
+  action_good (instr.Sll cd c1 c2) hart good = IsGood-integer _
+  action_good (instr.Slt cd c1 c2) hart good = IsGood-integer _
+  action_good (instr.Sltu cd c1 c2) hart good = IsGood-integer _
+  action_good (instr.Xor cd c1 c2) hart good = IsGood-integer _
+  action_good (instr.Srl cd c1 c2) hart good = IsGood-integer _
+  action_good (instr.Sra cd c1 c2) hart good = IsGood-integer _
+  action_good (instr.Or cd c1 c2) hart good = IsGood-integer _
+  action_good (instr.And cd c1 c2) hart good = IsGood-integer _
+  action_good (instr.Addw cd c1 c2) hart good = IsGood-integer _
+  action_good (instr.Subw cd c1 c2) hart good = IsGood-integer _
+  action_good (instr.Sllw cd c1 c2) hart good = IsGood-integer _
+  action_good (instr.Srlw cd c1 c2) hart good = IsGood-integer _
+  action_good (instr.Sraw cd c1 c2) hart good = IsGood-integer _
+  action_good (instr.Addi cd c1 imm) hart good = IsGood-integer _
+  action_good (instr.Slti cd c1 imm) hart good = IsGood-integer _
+  action_good (instr.Sltiu cd c1 imm) hart good = IsGood-integer _
+  action_good (instr.Xori cd c1 imm) hart good = IsGood-integer _
+  action_good (instr.Ori cd c1 imm) hart good = IsGood-integer _
+  action_good (instr.Andi cd c1 imm) hart good = IsGood-integer _
+  action_good (instr.Addiw cd c1 imm) hart good = IsGood-integer _
+  action_good (instr.Slli cd c1 amount) hart good = IsGood-integer _
+  action_good (instr.Srli cd c1 amount) hart good = IsGood-integer _
+  action_good (instr.Srai cd c1 amount) hart good = IsGood-integer _
+  action_good (instr.Slliw cd c1 amount) hart good = IsGood-integer _
+  action_good (instr.Srliw cd c1 amount) hart good = IsGood-integer _
+  action_good (instr.Sraiw cd c1 amount) hart good = IsGood-integer _
+  action_good (instr.Lui cd imm) hart good = IsGood-integer _
+  action_good (instr.Lb cd c1 imm) hart good = tt
+  action_good (instr.Lbu cd c1 imm) hart good = tt
+  action_good (instr.Lh cd c1 imm) hart good = tt
+  action_good (instr.Lhu cd c1 imm) hart good = tt
+  action_good (instr.Lw cd c1 imm) hart good = tt
+  action_good (instr.Lwu cd c1 imm) hart good = tt
+  action_good (instr.Ld cd c1 imm) hart good = tt
+  action_good (instr.Lc cd c1 imm) hart good = tt
+  action_good (instr.Sb c2 c1 imm) hart good = tt
+  action_good (instr.Sh c2 c1 imm) hart good = tt
+  action_good (instr.Sw c2 c1 imm) hart good = tt
+  action_good (instr.Sd c2 c1 imm) hart good = tt
+  action_good (instr.Sc c2 c1 imm) hart good = IsGood-register hart c2 good
+  action_good (instr.AmoSwapC cd c2 c1) hart good = IsGood-register hart c2 good
+  action_good (instr.Beq c1 c2 target) hart good = tt
+  action_good (instr.Bne c1 c2 target) hart good = tt
+  action_good (instr.Blt c1 c2 target) hart good = tt
+  action_good (instr.Bge c1 c2 target) hart good = tt
+  action_good (instr.Bltu c1 c2 target) hart good = tt
+  action_good (instr.Bgeu c1 c2 target) hart good = tt
+  action_good (instr.CJal cd target) hart good = tt
+  action_good (instr.CJalr cd c1 imm) hart good = tt
+  action_good (instr.CInvoke c1 c2) hart good = tt
+  action_good instr.Ecall hart good = tt
+
+  -- ---- what a step leaves
+
+  record StepGood (after : Stepped) : Type 0 where
+    hart : EachOfHart Good after.hart
+    memory : All Good after.memory
+
+  unless_good : (verdict : Result (Unit {0}) Trap) (hart : HartState) (memory : List CapValue) (after : Stepped) →
+      EachOfHart Good hart → All Good memory → (verdict ≡ Ok tt → StepGood after) → StepGood (unless_trapped verdict hart memory after)
+  unfolding trapped
+  unless_good (Ok u) hart memory after good granules passed = passed refl
+  unless_good (Err trap) hart memory after good granules passed =
+      record { hart = record { pcc = good.pcc; regs = good.regs }; memory = granules }
+
+  next_good : (hart : HartState) → Good (following hart.pcc) → EachOfHart Good hart → EachOfHart Good (next hart)
+  unfolding next
+  next_good hart moved good = record { pcc = moved; regs = good.regs }
+
+  -- a register written, and PCC four bytes on
+  put_next_good : (cd : ℕ) (v : CapValue) (hart : HartState) → Good (following hart.pcc) → Good v → EachOfHart Good hart → EachOfHart Good (next (put cd v hart))
+  put_next_good cd v hart moved value good =
+      next_good (put cd v hart) (rw (pcc-put cd v hart) moved) (put_good cd v hart value good)
+
+  put_entered_good : (cd : ℕ) (v pcc : CapValue) (target : ℕ) (hart : HartState) → Good (with_address pcc target) → Good v → EachOfHart Good hart → EachOfHart Good (entered pcc target (put cd v hart))
+  put_entered_good cd v pcc target hart moved value good =
+      let written = put_good cd v hart value good in record { pcc = moved; regs = written.regs }
+
+  link_good : (pcc : CapValue) → Good (following pcc) → Good (link pcc)
+  unfolding link
+  link_good pcc moved = IsGood-entry sources (following pcc) moved
+
+  -- what a store leaves in its granule
+  stored_good : (memory : List CapValue) (addr : ℕ) (width : Width) (number : ℕ) → IsPlacedAccess addr (access.Store width) memory → All Good memory →
+      All Good (store_data memory addr (bytes_of width) number)
+  unfolding store_data
+  stored_good memory addr width number is good =
+      let k : ℕ = granule_number addr in
+      let before = IsGood-granule memory k good in
+      let inside = and_parts (nat_le ram_base addr) _ is.placed in
+      let fits = within_granule addr width (leb-true _ _ inside.0) (eqb-true _ _ is.aligned) in
+      let word = with_bytes_below (bits_of (granule_at memory k)) (granule_offset addr) (bytes_of width) number (bits_lt _ before.lawful) fits in
+      All-set Good memory k _ (IsGood-raw sources _ word) good
+
+  stored_capability_good : (memory : List CapValue) (addr : ℕ) (v : CapValue) → Good v → All Good memory → All Good (store_capability memory addr v)
+  unfolding store_capability
+  stored_capability_good memory addr v value good = All-set Good memory (granule_number addr) v value good
+
+  loaded_capability_good : (auth : CapValue) (memory : List CapValue) (addr : ℕ) → All Good memory → Good (permitted auth (load_capability memory addr))
+  unfolding load_capability
+  loaded_capability_good auth memory addr good =
+      IsGood-permitted sources auth _ (IsGood-granule memory (granule_number addr) good)
+
+  execute_good : (asked : Action) (hart : HartState) (memory : List CapValue) → tag_of hart.pcc ≡ true → Good (following hart.pcc) →
+      ActionGood asked → EachOfHart Good hart → All Good memory → StepGood (execute asked hart memory)
+  unfolding execute ActionGood
+  execute_good (Put cd v) hart memory tagged moved value good granules =
+      record { hart = put_next_good cd v hart moved value good; memory = granules }
+  execute_good (Load cd c1 addr width signed) hart memory tagged moved value good granules =
+      unless_good _ hart memory _ good granules
+      (λ passed. record {
+        hart = put_next_good cd _ hart moved (IsGood-integer (loaded signed width (load_data memory addr (bytes_of width)))) good;
+        memory = granules;
+      })
+  execute_good (Store c1 addr width number) hart memory tagged moved value good granules =
+      unless_good (access_check hart c1 addr (access.Store width) None memory) hart memory _ good granules
+      (λ passed. record {
+        hart = next_good hart moved good;
+        memory = stored_good memory addr width number (access_is (register hart c1) c1 addr (access.Store width) None memory passed) granules;
+      })
+  execute_good (LoadCap cd c1 addr) hart memory tagged moved value good granules =
+      unless_good _ hart memory _ good granules
+      (λ passed. record {
+        hart = put_next_good cd _ hart moved (loaded_capability_good (register hart c1) memory addr granules) good;
+        memory = granules;
+      })
+  execute_good (StoreCap c1 addr v) hart memory tagged moved value good granules =
+      unless_good _ hart memory _ good granules
+      (λ passed. record { hart = next_good hart moved good; memory = stored_capability_good memory addr v value granules })
+  execute_good (Swap cd c1 addr v) hart memory tagged moved value good granules =
+      unless_good _ hart memory _ good granules
+      (λ passed. record {
+        hart = put_next_good cd _ hart moved (loaded_capability_good (register hart c1) memory addr granules) good;
+        memory = stored_capability_good memory addr v value granules;
+      })
+  execute_good (Branch false target) hart memory tagged moved value good granules =
+      record { hart = next_good hart moved good; memory = granules }
+  execute_good (Branch true target) hart memory tagged moved value good granules =
+      unless_good (first_failing (target_table hart.pcc target)) hart memory _ good granules
+      (λ passed. record {
+        hart = record { pcc = target_good hart.pcc target tagged (target_within hart.pcc target passed) good.pcc; regs = good.regs };
+        memory = granules;
+      })
+  execute_good (Jump cd target) hart memory tagged moved value good granules =
+      unless_good (first_failing (target_table hart.pcc target)) hart memory _ good granules
+      (λ passed. record {
+        hart = put_entered_good cd (link hart.pcc) hart.pcc target hart
+            (target_good hart.pcc target tagged (target_within hart.pcc target passed) good.pcc) (link_good hart.pcc moved) good;
+        memory = granules;
+      })
+  execute_good (JumpThrough cd c1 is_entry target) hart memory tagged moved value good granules =
+      unless_good (first_failing (jump_table (register hart c1) c1 is_entry target)) hart memory _ good granules
+      (λ passed. record {
+        hart = put_entered_good cd (link hart.pcc) (unsealed (register hart c1)) target hart
+            (entered_good (register hart c1) target (jump_is (register hart c1) c1 is_entry target passed) (IsGood-register hart c1 good))
+            (link_good hart.pcc moved) good;
+        memory = granules;
+      })
+  execute_good (Invoke c1 c2 target) hart memory tagged moved value good granules =
+      unless_good (first_failing (invoke_table (register hart c1) c1 (register hart c2) c2 target)) hart memory _ good granules
+      (λ passed. record {
+        hart = put_entered_good invoked_data (unsealed (register hart c2)) (unsealed (register hart c1)) target hart
+            (entered_good (register hart c1) target (invoke_is (register hart c1) c1 (register hart c2) c2 target passed) (IsGood-register hart c1 good))
+            (IsGood-unsealed sources (register hart c2) (IsGood-register hart c2 good)) good;
+        memory = granules;
+      })
+  execute_good Halt hart memory tagged moved value good granules =
+      record { hart = record { pcc = good.pcc; regs = good.regs }; memory = granules }
+
+  step_good : (program : List Instr) (hart : HartState) (memory : List CapValue) →
+      EachOfHart Good hart → All Good memory → StepGood (hart_step program hart memory)
+  unfolding hart_step
+  step_good program hart memory good granules =
+      let asked = action (instruction_at program (address_of hart.pcc)) hart in
+      unless_good (first_failing (fetch_table hart.pcc (length program))) hart memory (execute asked hart memory) good granules
+      (λ passed.
+      execute_good asked hart memory (fetched_is hart.pcc (length program) passed).tagged
+      (following_good hart.pcc (length program) passed good.pcc) (action_good _ hart good) good granules)
+
+  -- ---- runs
+
+  state_good : (image : ImageParts) (state : MachineState) (op : Operation) →
+      EachOfState Good state → EachOfState Good (state_after_one image state op)
+  unfolding state_after_one hart_at
+  state_good image state (step_of number) good =
+      let default : EachOfHart Good no_hart = record { pcc = IsGood-null sources; regs = All-nil Good } in
+      let here = good_at (EachOfHart Good) state.harts number no_hart default good.harts in
+      let after = step_good image.program (hart_at state number) state.memory here good.memory in
+      record { harts = All-set (EachOfHart Good) state.harts number _ after.hart good.harts; memory = after.memory }
+
+  run_good : (image : ImageParts) (order : List Operation) (state : MachineState) →
+      EachOfState Good state → EachOfState Good (state_after image state order)
+  unfolding state_after
+  run_good image [] state good = good
+  run_good image (op ∷ order) state good = run_good image order _ (state_good image state op good)
+
+-- ---- the opening state
+
+module _ {X : Type 0} (P : X → Type 0) where
+  All-left : (xs ys : List X) → All P (xs ++ ys) → All P xs
+  All-left [] ys each = All-nil P
+  All-left (x ∷ xs) ys each = All-cons P x xs (All-head P x (xs ++ ys) each) (All-left xs ys (All-tail P x (xs ++ ys) each))
+
+  All-right : (xs ys : List X) → All P (xs ++ ys) → All P ys
+  All-right [] ys each = each
+  All-right (x ∷ xs) ys each = All-right xs ys (All-tail P x (xs ++ ys) each)
+
+  All-flat_map : {Y : Type 0} (f : Y → List X) (ys : List Y) → All P (flat_map f ys) → All (λ y. All P (f y)) ys
+  All-flat_map f [] each = All-nil (λ y. All P (f y))
+  All-flat_map f (y ∷ ys) each =
+      All-cons (λ y. All P (f y)) y ys (All-left (f y) (flat_map f ys) each) (All-flat_map f ys (All-right (f y) (flat_map f ys) each))
+
+module _ (P : CapValue → Type 0) (of_null : P null) where
+  -- a memory that granules are put into, one after another
+  each_put : (granules : List (ℕ × CapValue)) (memory : List CapValue) → All P (map (λ entry. entry.1) granules) → All P memory →
+      All P (fold (λ memory entry. store_capability memory entry.0 entry.1) memory granules)
+  unfolding store_capability
+  each_put [] memory each before = before
+  each_put (entry ∷ granules) memory each before =
+      each_put granules (slice_set memory (granule_number entry.0) entry.1)
+      (All-tail P entry.1 (map (λ entry. entry.1) granules) each)
+      (All-set P memory (granule_number entry.0) entry.1 (All-head P entry.1 (map (λ entry. entry.1) granules) each) before)
+
+  -- what holds of null and of each value of an image holds of each value of its opening state
+  opening_each : (image : ImageParts) → All P (values_of_image image) → EachOfState P (opening_state image)
+  unfolding values_of_image opening_state opening_hart opening_memory
+  opening_each image each =
+      let granules = map (λ entry. entry.1) image.granules in
+      let harts = flat_map values_of_hart image.harts in
+      let of_harts = All-flat_map P values_of_hart image.harts (All-left P harts granules each) in
+      let of_granules = All-right P harts granules each in
+      record {
+        harts = All-map (EachOfHart P) opening_hart image.harts
+            (All-weaker (λ h. All P (values_of_hart h)) (λ h. EachOfHart P (opening_hart h)) (λ h values. record {
+              pcc = All-head P h.pcc h.regs values;
+              regs = All-cons P null h.regs of_null (All-tail P h.pcc h.regs values);
+            }) image.harts of_harts);
+        memory = each_put image.granules (replicate (image.ram / 16) null) of_granules (All-replicate P (image.ram / 16) null of_null);
+      }
+
+-- what holds of each value of a state, as a list, holds of each where it is
+state_each : (P : CapValue → Type 0) (state : MachineState) → All P (values_of_state state) → EachOfState P state
+unfolding values_of_state
+state_each P state each =
+    let harts = flat_map values_in_hart state.harts in
+    record {
+      harts = All-weaker (λ h. All P (values_in_hart h)) (EachOfHart P)
+          (λ h values. record { pcc = All-head P h.pcc h.regs values; regs = All-tail P h.pcc h.regs values }) state.harts
+          (All-flat_map P values_in_hart state.harts (All-left P harts state.memory each));
+      memory = All-right P harts state.memory each;
+    }
+
+-- a tagged value is granted by itself
+granted_itself : (sources : List CapValue) (v : CapValue) → Contains sources v → IsGrantedValue sources v
+granted_itself sources (valid c) held = record {
+  source = c;
+  held = held;
+  within = record { base = omega arith; top = omega arith; perms = and_self c.perms };
+  sealed = λ low. record { source = c; held = held; by = inl refl };
+}
+granted_itself sources (raw word) held = tt
+
+-- the two halves of what is kept, together and apart
+both : (sources : List CapValue) (state : MachineState) → EachOfState IsLawfulValue state → EachOfState (IsGrantedValue sources) state → EachOfState (IsGood sources) state
+both sources state lawful granted = record {
+  harts = λ k d inside. record {
+    pcc = record { lawful = (lawful.harts k d inside).pcc; granted = (granted.harts k d inside).pcc };
+    regs = λ n v within. record { lawful = (lawful.harts k d inside).regs n v within; granted = (granted.harts k d inside).regs n v within };
+  };
+  memory = λ k v inside. record { lawful = lawful.memory k v inside; granted = granted.memory k v inside };
+}
+
+lawful_half : (sources : List CapValue) (state : MachineState) → EachOfState (IsGood sources) state → IsLawfulState state
+lawful_half sources state good = record {
+  harts = λ k d inside. record { pcc = (good.harts k d inside).pcc.lawful; regs = λ n v within. ((good.harts k d inside).regs n v within).lawful };
+  memory = λ k v inside. (good.memory k v inside).lawful;
+}
+
+granted_half : (sources : List CapValue) (state : MachineState) → EachOfState (IsGood sources) state → EachOfState (IsGrantedValue sources) state
+granted_half sources state good = record {
+  harts = λ k d inside. record { pcc = (good.harts k d inside).pcc.granted; regs = λ n v within. ((good.harts k d inside).regs n v within).granted };
+  memory = λ k v inside. (good.memory k v inside).granted;
+}
+
+-- What holds after any order: every value is lawful, and every tagged one is granted by the initial capabilities.
+pub run_lawful : (image : ImageParts) (order : List Operation) → IsLawfulState (opening_state image) →
+    IsLawfulState (replayed_state image order) × IsConfined image (replayed_state image order)
+unfolding replayed_state
+run_lawful image order lawful =
+    let sources = values_of_image image in
+    let granted = opening_each (IsGrantedValue sources) tt image (λ k d inside. granted_itself sources _ (All-contains_itself sources k d inside)) in
+    let good = run_good sources image order (opening_state image) (both sources (opening_state image) lawful granted) in
+    (lawful_half sources _ good, granted_half sources _ good)
+
+-- an order of two parts is run one part after the other
+state_after_both : (image : ImageParts) (state : MachineState) (before later : List Operation) →
+    state_after image state (before ++ later) ≡ state_after image (state_after image state before) later
+unfolding state_after
+state_after_both image state [] later = refl
+state_after_both image state (op ∷ before) later = state_after_both image (state_after_one image state op) before later
+
+-- the same of the values that any beginning of the order left
+pub run_monotone : (image : ImageParts) (before later : List Operation) → IsLawfulState (opening_state image) →
+    IsConfinedTo (replayed_state image before) (replayed_state image (before ++ later))
+unfolding replayed_state
+run_monotone image before later lawful =
+    let middle = state_after image (opening_state image) before in
+    let sources = values_of_state middle in
+    let middle_lawful : IsLawfulState middle = (run_lawful image before lawful).0 in
+    let granted = state_each (IsGrantedValue sources) middle (λ k d inside. granted_itself sources _ (All-contains_itself sources k d inside)) in
+    let good = run_good sources image later middle (both sources middle middle_lawful granted) in
+    subst (EachOfState (IsGrantedValue sources)) (sym (state_after_both image (opening_state image) before later))
+    (granted_half sources _ good)
+
+-- and of a replay, for every beginning of its trace
+pub replay_monotone : (image : ImageParts) (trace : List Entry) (state : MachineState) → IsReplay image trace state →
+    IsLawfulState (opening_state image) → IsMonotone image trace state
+unfolding operations_of
+replay_monotone image trace state replay lawful before later is =
+    let split : operations_of trace ≡ operations_of before ++ operations_of later =
+    ap operations_of is ∙ map-append operation_of before later in
+    subst (IsConfinedTo (replayed_state image (operations_of before)))
+    (sym (replay.state ∙ ap (replayed_state image) split))
+    (run_monotone image (operations_of before) (operations_of later) lawful)
