@@ -5,5 +5,6 @@ pub mod SameBounds
 pub mod Windows
 pub mod Digits
 pub mod RoundedParts
-pub mod RoundedAtZero
+pub mod AtZero
 pub mod Masks
+pub mod Open

@@ -68,3 +68,5 @@ same_below_64 steps more s start h = omega arith
 pub same_below_65 : (steps more s start : ℕ) → steps * s + 2 ^ 66 ≡ start + 2 ^ 66 * s →
     (steps + more) * s % 2 ^ 65 ≡ (start + more * s) % 2 ^ 65
 same_below_65 steps more s start h = omega arith
+
+pub ruleset same_bounds = (same_below_64, same_below_65)

@@ -7,7 +7,7 @@ ghost use Rattle.cheri_model.specs.Alignment.{representable_length, alignment_ma
 use crate::rounding::set_bounds;
 
 /// CRRL: the length rounded at base 0, modulo 2^64.
-#[tactic(auto, using(crate::proofs::RoundedAtZero::length_is_top), unfolding(cheri_model::specs::Alignment::representable_length))]
+#[tactic(auto, using(crate::proofs::AtZero::length_is_top), unfolding(crate::proofs::Open::length))]
 pub fn crrl(len: u64) -> u64
     ensures { result ≡ representable_length len }
 {
@@ -17,7 +17,7 @@ pub fn crrl(len: u64) -> u64
 
 /// CRAM: the mask that aligns a base for a length that `crrl` gives: 2^64 less the granule of that
 /// length.
-#[tactic(auto, using(crate::proofs::RoundedAtZero::alignment_masks))]
+#[tactic(auto, using(crate::proofs::AtZero::alignment_masks))]
 pub fn cram(len: u64) -> u64
     ensures { result ≡ alignment_mask len }
 {

@@ -27,7 +27,7 @@ const FIRST_UNCORRECTED_EXPONENT: u8 = 51;
 ///
 /// The base is below 2^64 and the top below 2^65. The top of a word that no instruction makes may
 /// lie below its base.
-#[tactic(auto, using(crate::proofs::Regions::same_below_64, crate::proofs::Regions::same_below_65), unfolding(cheri_model::specs::RawBounds::raw_base, cheri_model::specs::RawBounds::raw_top, cheri_model::specs::RawBounds::uncorrected_top, cheri_model::specs::RawBounds::region_offset))]
+#[tactic(auto, using(crate::proofs::Regions::same_bounds), unfolding(crate::proofs::Open::raw))]
 pub fn decode(meta: u64, addr: u64) -> (u64, u128)
     ensures base { result.0 ≡ raw_base meta addr }
     ensures top { result.1 ≡ raw_top meta addr }
@@ -62,7 +62,7 @@ fn floor_steps(b: u16) -> u64
 
 /// Where the region of the address begins, in steps of 2^E. It is counted from 2^66 steps below 0,
 /// as it may lie below 0; the model counts it from 2^66 below 0. Either is 0 modulo 2^65.
-#[tactic(auto, using(crate::proofs::Regions::steps_of_start), unfolding(cheri_model::specs::RawBounds::region_start))]
+#[tactic(auto, using(crate::proofs::Regions::steps_of_start), unfolding(crate::proofs::Open::from))]
 fn region_steps(e: u8, b: u16, addr: u64) -> u128
     requires exponent { e ≤ 52 }
     requires digits { b < 2 ^ 14 }

@@ -85,8 +85,10 @@ fn short_bounds(base: u64, len: u128) -> Rounded
     requires { len < 2 ^ 12 }
     ensures ie { result.ie ≡ internal_exponent len }
     ensures e { result.e ≡ rounding_exponent base len }
-    ensures b { result.b ≡ b_field (internal_exponent len) (rounding_exponent base len) (rounded_base base len) }
-    ensures t { result.t ≡ t_field (internal_exponent len) (rounding_exponent base len) (rounded_top base len) }
+    ensures b { result.b ≡ b_field (internal_exponent len) (rounding_exponent base len)
+        (rounded_base base len) }
+    ensures t { result.t ≡ t_field (internal_exponent len) (rounding_exponent base len)
+        (rounded_top base len) }
     ensures base { result.base ≡ rounded_base base len }
     ensures top { result.top ≡ rounded_top base len }
     ensures exact { IsTrue result.exact ↔ ((result.base ≡ base) × (result.top ≡ base + len)) }
@@ -110,8 +112,10 @@ fn long_bounds(base: u64, len: u128) -> Rounded
     requires length { len ≤ 2 ^ 64 }
     ensures ie { result.ie ≡ internal_exponent len }
     ensures e { result.e ≡ rounding_exponent base len }
-    ensures b { result.b ≡ b_field (internal_exponent len) (rounding_exponent base len) (rounded_base base len) }
-    ensures t { result.t ≡ t_field (internal_exponent len) (rounding_exponent base len) (rounded_top base len) }
+    ensures b { result.b ≡ b_field (internal_exponent len) (rounding_exponent base len)
+        (rounded_base base len) }
+    ensures t { result.t ≡ t_field (internal_exponent len) (rounding_exponent base len)
+        (rounded_top base len) }
     ensures base { result.base ≡ rounded_base base len }
     ensures top { result.top ≡ rounded_top base len }
     ensures exact { IsTrue result.exact ↔ ((result.base ≡ base) × (result.top ≡ base + len)) }
@@ -137,8 +141,10 @@ pub fn set_bounds(base: u64, len: u128) -> Rounded
     requires { len ≤ 2 ^ 64 }
     ensures ie { result.ie ≡ internal_exponent len }
     ensures e { result.e ≡ rounding_exponent base len }
-    ensures b { result.b ≡ b_field (internal_exponent len) (rounding_exponent base len) (rounded_base base len) }
-    ensures t { result.t ≡ t_field (internal_exponent len) (rounding_exponent base len) (rounded_top base len) }
+    ensures b { result.b ≡ b_field (internal_exponent len) (rounding_exponent base len)
+        (rounded_base base len) }
+    ensures t { result.t ≡ t_field (internal_exponent len) (rounding_exponent base len)
+        (rounded_top base len) }
     ensures base { result.base ≡ rounded_base base len }
     ensures top { result.top ≡ rounded_top base len }
 

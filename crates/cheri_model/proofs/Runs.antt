@@ -5,4 +5,5 @@ pub mod ChecksPassed
 pub mod Advances
 pub mod Granted
 pub mod Confined
+pub mod RunsConfined
 pub mod Replays

@@ -6,11 +6,11 @@ use Rattle.cheri_model.specs.declared.instr.Instr.TheVariants as instr
 use Rattle.cheri_model.specs.declared.width.Width.{Width}
 use Rattle.cheri_model.specs.declared.width.Width.TheVariants.{Byte, Half, Word, Double}
 use Rattle.cheri_model.specs.Alignment.{representable_length, alignment_mask}
-use Rattle.cheri_model.specs.CapValue.{CapValue, raw, tag_of}
+use Rattle.cheri_model.specs.CapValue.{CapValue, tag_of}
 use Rattle.cheri_model.specs.Results.{address_of, length_of}
 use Rattle.cheri_model.specs.Readings.{number_of, permissions_of, type_number_of, base_of, high_of, flags_of, offset_of, is_sealed, is_subset, is_equal_exact}
 use Rattle.cheri_model.specs.CapInstructions.{CapInstruction, CMove, CClearTag, CSetAddr, CIncOffset, CSetBounds, CSetBoundsExact, CAndPerm, CSetFlags, CSetHigh, CSeal, CUnseal, CSealEntry, capability_result}
-use Rattle.cheri_model.specs.Integers.{immediate, sum, difference, is_less_signed, shifted_left, shifted_right, shifted_arithmetic, extended_word, word_sum, word_difference, word_shifted_left, word_shifted_right, word_shifted_arithmetic, upper_immediate}
+use Rattle.cheri_model.specs.Integers.{immediate, sum, difference, is_less_signed, shifted_left, shifted_right, shifted_arithmetic, word_sum, word_difference, word_shifted_left, word_shifted_right, word_shifted_arithmetic, upper_immediate}
 use Rattle.cheri_model.specs.Checks.{code_base}
 use Rattle.cheri_model.specs.Hart.{HartState, register, integer, word_of_integer}
 

@@ -1,6 +1,6 @@
 -- Authority: what a tagged capability can reach, and that every one of a run lies within one that was there before
 -- (CHERI ISA v9, "capability monotonicity").
-use Rattle.std.specs.Prelude.{◌≡◌, ℕ, ◌+◌, ◌/◌, ◌%◌, ◌^◌, ◌<◌, ◌≤◌, ◌⊎◌, List, ◌∷◌, ◌++◌, map, bit_and, All, Contains, ⊤}
+use Rattle.std.specs.Prelude.{◌≡◌, ℕ, ◌/◌, ◌%◌, ◌^◌, ◌<◌, ◌≤◌, ◌⊎◌, List, ◌∷◌, ◌++◌, map, bit_and, All, Contains, ⊤}
 use Rattle.std.specs.List.{flat_map}
 use Rattle.cheri_model.specs.declared.image.HartImage.{HartImage}
 use Rattle.cheri_model.specs.declared.trace.Entry.{Entry}

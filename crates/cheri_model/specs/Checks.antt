@@ -1,7 +1,7 @@
 -- Checks before an instruction acts. A table of checks is a list of lines in order; the first that fails is the trap.
 -- The causes' numbers and the order of the checks are this project's own (CHERI ISA v9, "capability exceptions",
 -- leaves the order to the implementation).
-use Rattle.std.specs.Prelude.{ℕ, ◌+◌, ◌-◌, ◌*◌, ◌/◌, ◌%◌, ◌==◌, nat_le, nat_lt, Bool, true, false, not, ◌&&◌, ◌||◌, List, [], ◌∷◌, Option, Some, None, Result, Ok, Err, find}
+use Rattle.std.specs.Prelude.{ℕ, ◌-◌, ◌/◌, ◌%◌, ◌==◌, nat_le, nat_lt, Bool, true, false, not, ◌&&◌, ◌||◌, List, [], ◌∷◌, Option, Some, None, Result, Ok, Err, find}
 use Rattle.cheri_model.specs.declared.access.Access.{Access}
 use Rattle.cheri_model.specs.declared.access.Access.TheVariants.{Load, Store, LoadCap, StoreCap, Swap}
 use Rattle.cheri_model.specs.declared.code.TheConstants.{CODE_BASE}

@@ -139,7 +139,8 @@ pub enum BranchOp {
     Bgeu,
 }
 
-/// An instruction as its form has it: the name among those of this form, and the operands in a listing's order.
+/// An instruction as its form has it: the name among those of this form, and the operands in a
+/// listing's order.
 #[derive(Clone, Copy, Debug, PartialEq, Eq)]
 pub enum Form {
     Three(ThreeOp, Reg, Reg, Reg),

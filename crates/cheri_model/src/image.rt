@@ -73,7 +73,13 @@ impl PartialEq for Image {
 
     ghost eq = { same_images };
 
-    ghost laws = { Prim.search (comparing, rules, instr_laws.laws-law, value_laws.laws-law, hart_laws.laws-law) depth 9 };
+    ghost laws = { Prim.search (
+      comparing,
+      rules,
+      instr_laws.laws-law,
+      value_laws.laws-law,
+      hart_laws.laws-law,
+    ) depth 9 };
 
     fn eq(&self, other: &Image) -> bool {
         self.program() == other.program()
@@ -84,7 +90,13 @@ impl PartialEq for Image {
 }
 
 impl Eq for Image {
-    ghost laws = { Prim.search (comparing, rules, instr_equal.laws-law, value_equal.laws-law, hart_equal.laws-law) depth 9 };
+    ghost laws = { Prim.search (
+      comparing,
+      rules,
+      instr_equal.laws-law,
+      value_equal.laws-law,
+      hart_equal.laws-law,
+    ) depth 9 };
 }
 
 /// Whether a granule may be listed in an image with this RAM, after granules below `from`.

@@ -9,9 +9,9 @@ use crate::form::{
 use crate::operands::{Reg, Target};
 use std::fmt::{Debug, Error, Formatter, Write};
 
-/// One instruction, named as the standard names it (CHERI ISA v9, "CHERI-RISC-V instructions"; RISC-V
-/// unprivileged ISA, "RV64I"), with the destination `cd` and the sources `c1` and `c2`. Where a register is
-/// read as an integer its address counts.
+/// One instruction, named as the standard names it (CHERI ISA v9, "CHERI-RISC-V instructions";
+/// RISC-V unprivileged ISA, "RV64I"), with the destination `cd` and the sources `c1` and `c2`.
+/// Where a register is read as an integer its address counts.
 #[derive(Clone, Copy)]
 pub enum Instr {
     /// `c1` with the address that is `c2`'s.
@@ -183,7 +183,8 @@ pub enum Instr {
 }
 
 impl Instr {
-    /// The same instruction by its form: what its name is among those with the same operands, and the operands.
+    /// The same instruction by its form: its name among those with the same operands, and the
+    /// operands.
     #[tactic(auto, unfolding(crate::specs::Form::form_of))]
     pub fn form(self) -> Form
         ensures { result ≡ form_of self }

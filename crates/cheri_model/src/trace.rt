@@ -1,7 +1,7 @@
 //! What a step leaves behind: its outcome, the trap if there was one, and its entry in the trace.
 
-/// Why a hart trapped: the number of the cause, and the register that it speaks of. The causes' numbers are this
-/// project's own.
+/// Why a hart trapped: the number of the cause, and the register that it speaks of. The causes'
+/// numbers are this project's own.
 #[derive(Clone, Copy, Debug, PartialEq, Eq)]
 pub struct Trap {
     pub cause: u8,
@@ -55,7 +55,8 @@ pub enum Status {
     Trapped(Trap),
 }
 
-/// One entry of the trace: which hart stepped, the address of its PCC before the step, and how the step ended.
+/// One entry of the trace: which hart stepped, the address of its PCC before the step, and how the
+/// step ended.
 #[derive(Clone, Copy, Debug, PartialEq, Eq)]
 pub struct Entry {
     pub hart: u8,

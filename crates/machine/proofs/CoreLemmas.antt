@@ -17,7 +17,7 @@ use Rattle.cheri_model.specs.Replay.{IsReplay, operations_of, state_after, repla
 use Rattle.cheri_model.specs.ImageForm.{is_between, are_sizes, is_image}
 use Rattle.cheri_model.specs.Authority.{EachOfHart, IsLawfulState, IsConfined, IsMonotone}
 use Rattle.cheri_model.proofs.Runs.Replays.{IsReplay-opening, IsReplay_push, operations_of_push, operation-entry_of}
-use Rattle.cheri_model.proofs.Runs.Confined.{run_lawful, replay_monotone}
+use Rattle.cheri_model.proofs.Runs.RunsConfined.{run_lawful, replay_monotone}
 use Rattle.machine.specs.declared.faults.StepFault.{StepFault}
 use Rattle.machine.specs.declared.faults.StepFault.TheVariants.{NoSuchHart, TraceFull, HartStopped}
 use Rattle.machine.specs.Cores.{CoreParts, parts_of_core, is_limit, IsCore, IsHartStep, refused, unless_refused, answered, core_after}

@@ -1,16 +1,15 @@
 -- PCC goes on or to a target: an open capability keeps its tag at each address of its bounds, and at their top.
-use Rattle.std.proofs.Common.{◌≡◌, ℕ, ◌+◌, ◌*◌, ◌%◌, ◌^◌, ◌<◌, ◌≤◌, ◌==◌, Bool, true, ◌&&◌, List, arith, refl, ◌∙◌, leb-true, length}
+use Rattle.std.proofs.Common.{◌≡◌, ℕ, ◌+◌, ◌%◌, ◌^◌, ◌≤◌, ◌==◌, true, List, arith, refl, leb-true}
 use Rattle.std.specs.Prelude.{nat_le, nat_lt, IsTrue}
 use Rattle.std.proofs.lemmas.Bool.{and_parts, false≢true}
-use Rattle.std.proofs.lemmas.Bool.Decides.{nat_tests}
 use Rattle.cheri_model.specs.declared.access.Access.{Access}
 use Rattle.cheri_model.specs.declared.access.Access.TheVariants.{Load, Store, LoadCap, StoreCap, Swap}
+use Rattle.cheri_model.specs.declared.width.Width.{Width}
 use Rattle.cheri_model.specs.declared.width.Width.TheVariants.{Byte, Half, Word, Double}
-use Rattle.cheri_model.specs.Capability.{unsealed_type}
 use Rattle.cheri_model.specs.CapValue.{CapValue, valid, raw, tag_of, parts_of, IsLawfulValue}
 use Rattle.cheri_model.specs.Checks.{size_of}
 use Rattle.cheri_model.specs.Hart.{following}
-use Rattle.cheri_model.specs.Memory.{fits}
+use Rattle.cheri_model.specs.Memory.{bytes_of, is_in_ram, fits}
 use Rattle.cheri_model.specs.Results.{address_of, is_open, keeps_bounds, in_bounds, with_address, set_address}
 use Rattle.cheri_model.specs.SealResults.{unsealed}
 use Rattle.cheri_model.proofs.Bounds.WindowsHold.{lawful_bounds_in_window}
@@ -63,16 +62,23 @@ in_bounds-unsealed (valid c) p n tagged within = within
 in_bounds-unsealed (raw word) p n tagged within = absurd (false≢true tagged)
 
 -- an access that passed its check fits the memory
+fits_bytes : (addr bytes : ℕ) (granules : List CapValue) → nat_lt 0 bytes ≡ true → (addr % bytes == 0) ≡ true →
+    is_in_ram granules addr bytes ≡ true → IsTrue (fits granules addr bytes)
+fits_bytes addr bytes granules some aligned placed = rw (some, aligned, placed) refl
+
+some_bytes : (width : Width) → nat_lt 0 (bytes_of width) ≡ true
+some_bytes Byte = refl
+some_bytes Half = refl
+some_bytes Word = refl
+some_bytes Double = refl
+
+moves_bytes : (kind : Access) → nat_lt 0 (size_of kind) ≡ true
+moves_bytes (Load width) = some_bytes width
+moves_bytes (Store width) = some_bytes width
+moves_bytes LoadCap = refl
+moves_bytes StoreCap = refl
+moves_bytes Swap = refl
+
 pub fits_access : (addr : ℕ) (kind : Access) (granules : List CapValue) → IsPlacedAccess addr kind granules →
     IsTrue (fits granules addr (size_of kind))
-fits_access addr (Load Byte) granules is = let a = is.aligned in let b = is.placed in grind (arith, nat_tests)
-fits_access addr (Load Half) granules is = let a = is.aligned in let b = is.placed in grind (arith, nat_tests)
-fits_access addr (Load Word) granules is = let a = is.aligned in let b = is.placed in grind (arith, nat_tests)
-fits_access addr (Load Double) granules is = let a = is.aligned in let b = is.placed in grind (arith, nat_tests)
-fits_access addr (Store Byte) granules is = let a = is.aligned in let b = is.placed in grind (arith, nat_tests)
-fits_access addr (Store Half) granules is = let a = is.aligned in let b = is.placed in grind (arith, nat_tests)
-fits_access addr (Store Word) granules is = let a = is.aligned in let b = is.placed in grind (arith, nat_tests)
-fits_access addr (Store Double) granules is = let a = is.aligned in let b = is.placed in grind (arith, nat_tests)
-fits_access addr LoadCap granules is = let a = is.aligned in let b = is.placed in grind (arith, nat_tests)
-fits_access addr StoreCap granules is = let a = is.aligned in let b = is.placed in grind (arith, nat_tests)
-fits_access addr Swap granules is = let a = is.aligned in let b = is.placed in grind (arith, nat_tests)
+fits_access addr kind granules is = fits_bytes addr (size_of kind) granules (moves_bytes kind) is.aligned is.placed

@@ -1,34 +1,29 @@
--- Every value of a run is lawful and, if it is tagged, granted by what any moment before held: the image's values
--- are, and each step keeps it.
-use Rattle.std.proofs.Common.{◌≡◌, ◌==◌, ◌+◌, ◌*◌, ◌/◌, ◌%◌, ◌^◌, ◌<◌, ◌≤◌, ℕ, ℤ, leb-true, eqb-true, length, inl, inr, Bool, true, false, ◌&&◌, List, [], ◌∷◌, ◌++◌, map, refl, sym, ap, subst, ◌∙◌, arith}
-use Rattle.std.specs.Prelude.{nat_le, All, Contains, replicate, fold, slice_set, slice_index_or, Result, Ok, Err, Some, None, Option, ⊤, if◌then◌else◌, bit_and}
-use Rattle.std.specs.List.{flat_map}
-use Rattle.std.specs.Int.Bits.{and_self}
-use Rattle.std.proofs.lemmas.List.{get_or_past, map-append}
-use Rattle.std.proofs.lemmas.List.Elements.{All-set, All-map, All-replicate, All-nil, All-cons, All-head, All-tail, All-weaker, All-contains_itself}
+-- Every value of a run is lawful and, if it is tagged, granted by what any moment before held: each step keeps it.
+use Rattle.std.proofs.Common.{◌≡◌, ◌==◌, ◌+◌, ◌%◌, ◌^◌, ◌≤◌, ℕ, leb-true, eqb-true, length, inl, inr, true, false, List, [], ◌∷◌, refl, ◌∙◌, arith}
+use Rattle.std.specs.Prelude.{nat_le, All, slice_set, slice_index_or, Result, Ok, Err, None, ⊤, if◌then◌else◌}
+use Rattle.std.proofs.lemmas.List.{get_or_past}
+use Rattle.std.proofs.lemmas.List.Elements.{All-set, All-nil}
 use Rattle.std.proofs.lemmas.Bool.{and_parts, cases_lt, false≢true}
-use Rattle.cheri_model.specs.declared.access.Access.{Access}
 use Rattle.cheri_model.specs.declared.access.Access.TheVariants as access
 use Rattle.cheri_model.specs.declared.instr.Instr.{Instr}
 use Rattle.cheri_model.specs.declared.instr.Instr.TheVariants as instr
-use Rattle.cheri_model.specs.declared.trace.Entry.{Entry}
 use Rattle.cheri_model.specs.declared.trace.Trap.{Trap}
 use Rattle.cheri_model.specs.declared.width.Width.{Width}
 use Rattle.cheri_model.specs.declared.width.Width.TheVariants.{Byte, Half, Word, Double}
 use Rattle.cheri_model.specs.CapInstructions.{CapInstruction, capability_result}
-use Rattle.cheri_model.specs.CapValue.{CapValue, valid, raw, bits_of, tag_of, parts_of, tagged_where, IsLawfulValue}
+use Rattle.cheri_model.specs.CapValue.{CapValue, valid, raw, bits_of, tag_of, parts_of}
 use Rattle.cheri_model.specs.Results.{in_bounds, with_address, address_of}
 use Rattle.cheri_model.specs.SealResults.{unsealed}
 use Rattle.cheri_model.specs.Hart.{HartState, null, register, word_of_integer, put, following, next, link}
 use Rattle.cheri_model.specs.Actions.{Action, Put, Load, Store, LoadCap, StoreCap, Swap, Branch, Jump, JumpThrough, Invoke, Halt, action}
-use Rattle.cheri_model.specs.HartStep.{Stepped, done, trapped, unless_trapped, access_check, loaded, permitted, entered, invoked_data, execute, hart_step, instruction_at}
-use Rattle.cheri_model.specs.Checks.{first_failing, fetch_table, target_table, jump_table, invoke_table, size_of}
-use Rattle.cheri_model.specs.Image.{ImageParts, opening_hart, opening_memory}
-use Rattle.cheri_model.specs.Memory.{ram_base, bytes_of, granule_number, granule_offset, granule_at, is_in_ram, load_data, store_data, load_capability, store_capability}
-use Rattle.cheri_model.specs.Machine.{MachineState, Operation, step_of, opening_state, hart_at, no_hart, state_after_one}
-use Rattle.cheri_model.specs.Replay.{state_after, replayed_state, operation_of, operations_of, IsReplay}
-use Rattle.cheri_model.specs.Authority.{IsWithin, IsGranted, IsGrantedValue, EachOfHart, EachOfState, IsLawfulState, IsConfined, IsConfinedTo, IsMonotone, values_of_hart, values_of_image, values_in_hart, values_of_state}
-use Rattle.cheri_model.proofs.Runs.Fetches.{IsFetched, fetched_is}
+use Rattle.cheri_model.specs.HartStep.{Stepped, trapped, unless_trapped, access_check, loaded, permitted, entered, invoked_data, execute, hart_step, instruction_at}
+use Rattle.cheri_model.specs.Checks.{first_failing, fetch_table, target_table, jump_table, invoke_table}
+use Rattle.cheri_model.specs.Image.{ImageParts}
+use Rattle.cheri_model.specs.Memory.{ram_base, bytes_of, granule_number, granule_offset, granule_at, load_data, store_data, load_capability, store_capability}
+use Rattle.cheri_model.specs.Machine.{MachineState, Operation, step_of, hart_at, no_hart, state_after_one}
+use Rattle.cheri_model.specs.Replay.{state_after}
+use Rattle.cheri_model.specs.Authority.{EachOfHart, EachOfState}
+use Rattle.cheri_model.proofs.Runs.Fetches.{fetched_is}
 use Rattle.cheri_model.proofs.Runs.ChecksPassed.{IsPlacedAccess, access_is, target_within, IsEntered, jump_is, invoke_is}
 use Rattle.cheri_model.proofs.Results.Values.{bits_lt}
 use Rattle.cheri_model.proofs.Runs.Granted.{IsGood, IsGood-raw, IsGood-null, IsGood-derived, IsGood-entry, IsGood-unsealed, IsGood-permitted, IsGood-moved, with_bytes_below}
@@ -154,49 +149,6 @@ module _ (sources : List CapValue) where
   action_good (instr.CUnseal cd c1 c2) hart good = derive_good _ c1 c2 hart good
   action_good (instr.CSealEntry cd c1) hart good = derive_good _ c1 c1 hart good
   action_good (instr.AuiPcc cd imm) hart good = derive_by_good _ _ _ good.pcc
-  action_good (instr.CGetPerm cd c1) hart good = IsGood-integer _
-  action_good (instr.CGetType cd c1) hart good = IsGood-integer _
-  action_good (instr.CGetBase cd c1) hart good = IsGood-integer _
-  action_good (instr.CGetLen cd c1) hart good = IsGood-integer _
-  action_good (instr.CGetTag cd c1) hart good = IsGood-integer _
-  action_good (instr.CGetSealed cd c1) hart good = IsGood-integer _
-  action_good (instr.CGetOffset cd c1) hart good = IsGood-integer _
-  action_good (instr.CGetFlags cd c1) hart good = IsGood-integer _
-  action_good (instr.CGetAddr cd c1) hart good = IsGood-integer _
-  action_good (instr.CGetHigh cd c1) hart good = IsGood-integer _
-  action_good (instr.Crrl cd c1) hart good = IsGood-integer _
-  action_good (instr.Cram cd c1) hart good = IsGood-integer _
-  action_good (instr.CTestSubset cd c1 c2) hart good = IsGood-integer _
-  action_good (instr.CSetEqualExact cd c1 c2) hart good = IsGood-integer _
-  action_good (instr.Add cd c1 c2) hart good = IsGood-integer _
-  action_good (instr.Sub cd c1 c2) hart good = IsGood-integer _
-  action_good (instr.Sll cd c1 c2) hart good = IsGood-integer _
-  action_good (instr.Slt cd c1 c2) hart good = IsGood-integer _
-  action_good (instr.Sltu cd c1 c2) hart good = IsGood-integer _
-  action_good (instr.Xor cd c1 c2) hart good = IsGood-integer _
-  action_good (instr.Srl cd c1 c2) hart good = IsGood-integer _
-  action_good (instr.Sra cd c1 c2) hart good = IsGood-integer _
-  action_good (instr.Or cd c1 c2) hart good = IsGood-integer _
-  action_good (instr.And cd c1 c2) hart good = IsGood-integer _
-  action_good (instr.Addw cd c1 c2) hart good = IsGood-integer _
-  action_good (instr.Subw cd c1 c2) hart good = IsGood-integer _
-  action_good (instr.Sllw cd c1 c2) hart good = IsGood-integer _
-  action_good (instr.Srlw cd c1 c2) hart good = IsGood-integer _
-  action_good (instr.Sraw cd c1 c2) hart good = IsGood-integer _
-  action_good (instr.Addi cd c1 imm) hart good = IsGood-integer _
-  action_good (instr.Slti cd c1 imm) hart good = IsGood-integer _
-  action_good (instr.Sltiu cd c1 imm) hart good = IsGood-integer _
-  action_good (instr.Xori cd c1 imm) hart good = IsGood-integer _
-  action_good (instr.Ori cd c1 imm) hart good = IsGood-integer _
-  action_good (instr.Andi cd c1 imm) hart good = IsGood-integer _
-  action_good (instr.Addiw cd c1 imm) hart good = IsGood-integer _
-  action_good (instr.Slli cd c1 amount) hart good = IsGood-integer _
-  action_good (instr.Srli cd c1 amount) hart good = IsGood-integer _
-  action_good (instr.Srai cd c1 amount) hart good = IsGood-integer _
-  action_good (instr.Slliw cd c1 amount) hart good = IsGood-integer _
-  action_good (instr.Srliw cd c1 amount) hart good = IsGood-integer _
-  action_good (instr.Sraiw cd c1 amount) hart good = IsGood-integer _
-  action_good (instr.Lui cd imm) hart good = IsGood-integer _
   action_good (instr.Lb cd c1 imm) hart good = tt
   action_good (instr.Lbu cd c1 imm) hart good = tt
   action_good (instr.Lh cd c1 imm) hart good = tt
@@ -221,6 +173,7 @@ module _ (sources : List CapValue) where
   action_good (instr.CJalr cd c1 imm) hart good = tt
   action_good (instr.CInvoke c1 c2) hart good = tt
   action_good instr.Ecall hart good = tt
+  action_good _ hart good = IsGood-integer _
 
   -- ---- what a step leaves
 
@@ -360,137 +313,8 @@ module _ (sources : List CapValue) where
       let after = step_good image.program (hart_at state number) state.memory here good.memory in
       record { harts = All-set (EachOfHart Good) state.harts number _ after.hart good.harts; memory = after.memory }
 
-  run_good : (image : ImageParts) (order : List Operation) (state : MachineState) →
+  pub run_good : (image : ImageParts) (order : List Operation) (state : MachineState) →
       EachOfState Good state → EachOfState Good (state_after image state order)
   unfolding state_after
   run_good image [] state good = good
   run_good image (op ∷ order) state good = run_good image order _ (state_good image state op good)
-
--- ---- the opening state
-
-module _ {X : Type 0} (P : X → Type 0) where
-  All-left : (xs ys : List X) → All P (xs ++ ys) → All P xs
-  All-left [] ys each = All-nil P
-  All-left (x ∷ xs) ys each = All-cons P x xs (All-head P x (xs ++ ys) each) (All-left xs ys (All-tail P x (xs ++ ys) each))
-
-  All-right : (xs ys : List X) → All P (xs ++ ys) → All P ys
-  All-right [] ys each = each
-  All-right (x ∷ xs) ys each = All-right xs ys (All-tail P x (xs ++ ys) each)
-
-  All-flat_map : {Y : Type 0} (f : Y → List X) (ys : List Y) → All P (flat_map f ys) → All (λ y. All P (f y)) ys
-  All-flat_map f [] each = All-nil (λ y. All P (f y))
-  All-flat_map f (y ∷ ys) each =
-      All-cons (λ y. All P (f y)) y ys (All-left (f y) (flat_map f ys) each) (All-flat_map f ys (All-right (f y) (flat_map f ys) each))
-
-module _ (P : CapValue → Type 0) (of_null : P null) where
-  -- a memory that granules are put into, one after another
-  each_put : (granules : List (ℕ × CapValue)) (memory : List CapValue) → All P (map (λ entry. entry.1) granules) → All P memory →
-      All P (fold (λ memory entry. store_capability memory entry.0 entry.1) memory granules)
-  unfolding store_capability
-  each_put [] memory each before = before
-  each_put (entry ∷ granules) memory each before =
-      each_put granules (slice_set memory (granule_number entry.0) entry.1)
-      (All-tail P entry.1 (map (λ entry. entry.1) granules) each)
-      (All-set P memory (granule_number entry.0) entry.1 (All-head P entry.1 (map (λ entry. entry.1) granules) each) before)
-
-  -- what holds of null and of each value of an image holds of each value of its opening state
-  opening_each : (image : ImageParts) → All P (values_of_image image) → EachOfState P (opening_state image)
-  unfolding values_of_image opening_state opening_hart opening_memory
-  opening_each image each =
-      let granules = map (λ entry. entry.1) image.granules in
-      let harts = flat_map values_of_hart image.harts in
-      let of_harts = All-flat_map P values_of_hart image.harts (All-left P harts granules each) in
-      let of_granules = All-right P harts granules each in
-      record {
-        harts = All-map (EachOfHart P) opening_hart image.harts
-            (All-weaker (λ h. All P (values_of_hart h)) (λ h. EachOfHart P (opening_hart h)) (λ h values. record {
-              pcc = All-head P h.pcc h.regs values;
-              regs = All-cons P null h.regs of_null (All-tail P h.pcc h.regs values);
-            }) image.harts of_harts);
-        memory = each_put image.granules (replicate (image.ram / 16) null) of_granules (All-replicate P (image.ram / 16) null of_null);
-      }
-
--- what holds of each value of a state, as a list, holds of each where it is
-state_each : (P : CapValue → Type 0) (state : MachineState) → All P (values_of_state state) → EachOfState P state
-unfolding values_of_state
-state_each P state each =
-    let harts = flat_map values_in_hart state.harts in
-    record {
-      harts = All-weaker (λ h. All P (values_in_hart h)) (EachOfHart P)
-          (λ h values. record { pcc = All-head P h.pcc h.regs values; regs = All-tail P h.pcc h.regs values }) state.harts
-          (All-flat_map P values_in_hart state.harts (All-left P harts state.memory each));
-      memory = All-right P harts state.memory each;
-    }
-
--- a tagged value is granted by itself
-granted_itself : (sources : List CapValue) (v : CapValue) → Contains sources v → IsGrantedValue sources v
-granted_itself sources (valid c) held = record {
-  source = c;
-  held = held;
-  within = record { base = omega arith; top = omega arith; perms = and_self c.perms };
-  sealed = λ low. record { source = c; held = held; by = inl refl };
-}
-granted_itself sources (raw word) held = tt
-
--- the two halves of what is kept, together and apart
-both : (sources : List CapValue) (state : MachineState) → EachOfState IsLawfulValue state → EachOfState (IsGrantedValue sources) state → EachOfState (IsGood sources) state
-both sources state lawful granted = record {
-  harts = λ k d inside. record {
-    pcc = record { lawful = (lawful.harts k d inside).pcc; granted = (granted.harts k d inside).pcc };
-    regs = λ n v within. record { lawful = (lawful.harts k d inside).regs n v within; granted = (granted.harts k d inside).regs n v within };
-  };
-  memory = λ k v inside. record { lawful = lawful.memory k v inside; granted = granted.memory k v inside };
-}
-
-lawful_half : (sources : List CapValue) (state : MachineState) → EachOfState (IsGood sources) state → IsLawfulState state
-lawful_half sources state good = record {
-  harts = λ k d inside. record { pcc = (good.harts k d inside).pcc.lawful; regs = λ n v within. ((good.harts k d inside).regs n v within).lawful };
-  memory = λ k v inside. (good.memory k v inside).lawful;
-}
-
-granted_half : (sources : List CapValue) (state : MachineState) → EachOfState (IsGood sources) state → EachOfState (IsGrantedValue sources) state
-granted_half sources state good = record {
-  harts = λ k d inside. record { pcc = (good.harts k d inside).pcc.granted; regs = λ n v within. ((good.harts k d inside).regs n v within).granted };
-  memory = λ k v inside. (good.memory k v inside).granted;
-}
-
--- What holds after any order: every value is lawful, and every tagged one is granted by the initial capabilities.
-pub run_lawful : (image : ImageParts) (order : List Operation) → IsLawfulState (opening_state image) →
-    IsLawfulState (replayed_state image order) × IsConfined image (replayed_state image order)
-unfolding replayed_state
-run_lawful image order lawful =
-    let sources = values_of_image image in
-    let granted = opening_each (IsGrantedValue sources) tt image (λ k d inside. granted_itself sources _ (All-contains_itself sources k d inside)) in
-    let good = run_good sources image order (opening_state image) (both sources (opening_state image) lawful granted) in
-    (lawful_half sources _ good, granted_half sources _ good)
-
--- an order of two parts is run one part after the other
-state_after_both : (image : ImageParts) (state : MachineState) (before later : List Operation) →
-    state_after image state (before ++ later) ≡ state_after image (state_after image state before) later
-unfolding state_after
-state_after_both image state [] later = refl
-state_after_both image state (op ∷ before) later = state_after_both image (state_after_one image state op) before later
-
--- the same of the values that any beginning of the order left
-pub run_monotone : (image : ImageParts) (before later : List Operation) → IsLawfulState (opening_state image) →
-    IsConfinedTo (replayed_state image before) (replayed_state image (before ++ later))
-unfolding replayed_state
-run_monotone image before later lawful =
-    let middle = state_after image (opening_state image) before in
-    let sources = values_of_state middle in
-    let middle_lawful : IsLawfulState middle = (run_lawful image before lawful).0 in
-    let granted = state_each (IsGrantedValue sources) middle (λ k d inside. granted_itself sources _ (All-contains_itself sources k d inside)) in
-    let good = run_good sources image later middle (both sources middle middle_lawful granted) in
-    subst (EachOfState (IsGrantedValue sources)) (sym (state_after_both image (opening_state image) before later))
-    (granted_half sources _ good)
-
--- and of a replay, for every beginning of its trace
-pub replay_monotone : (image : ImageParts) (trace : List Entry) (state : MachineState) → IsReplay image trace state →
-    IsLawfulState (opening_state image) → IsMonotone image trace state
-unfolding operations_of
-replay_monotone image trace state replay lawful before later is =
-    let split : operations_of trace ≡ operations_of before ++ operations_of later =
-    ap operations_of is ∙ map-append operation_of before later in
-    subst (IsConfinedTo (replayed_state image (operations_of before)))
-    (sym (replay.state ∙ ap (replayed_state image) split))
-    (run_monotone image (operations_of before) (operations_of later) lawful)

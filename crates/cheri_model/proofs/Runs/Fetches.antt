@@ -1,12 +1,16 @@
 -- What a passed check of a fetch says: that no line of its table fails.
-use Rattle.std.proofs.Common.{◌≡◌, ◌-◌, ◌/◌, ◌%◌, ◌<◌, ◌≤◌, ◌==◌, ℕ, arith, Bool, true, false, List, ◌∷◌, refl, sym, cond}
-use Rattle.std.specs.Prelude.{Some, Ok, not, find}
+use Rattle.std.proofs.Common.{◌≡◌, ◌-◌, ◌/◌, ◌%◌, ◌<◌, ◌≤◌, ◌==◌, ℕ, arith, Bool, true, false, List, ◌∷◌, refl, sym, cond, [], length, ltb-true}
+use Rattle.std.specs.Prelude.{Some, Ok, not, find, nat_lt, All, slice_index_or}
+use Rattle.std.proofs.lemmas.List.Elements.{All-nil, All-cons}
 use Rattle.std.proofs.lemmas.Bool.{false≢true}
 use Rattle.std.proofs.lemmas.Bool.Decides.{nat_tests}
 use Rattle.cheri_model.specs.Capability.{unsealed_type}
 use Rattle.cheri_model.specs.CapValue.{CapValue, tag_of, parts_of}
 use Rattle.cheri_model.specs.Results.{address_of, has_permission, in_bounds}
 use Rattle.cheri_model.specs.Checks.{CheckLine, verdict_of, first_failing, fetch_table, is_in_code, code_base}
+
+abbrev no_line : CheckLine
+no_line = record { fails = false; trap = record { cause = 0; reg = 0 } }
 
 -- a table passes where its first line does not fail and the others pass
 pub passes_cons : (line : CheckLine) (table : List CheckLine) → first_failing (line ∷ table) ≡ Ok tt →
@@ -17,6 +21,18 @@ passes_cons line table = by_fails line.fails
     by_fails : (b : Bool) → verdict_of (cond b (Some line) (find (λ l. l.fails) table)) ≡ Ok tt → (b ≡ false) × (verdict_of (find (λ l. l.fails) table) ≡ Ok tt)
     by_fails true passed = cc
     by_fails false passed = (refl, passed)
+
+-- no line of a table that passes fails
+pub passes : (table : List CheckLine) → first_failing table ≡ Ok tt → All (λ line. line.fails ≡ false) table
+passes [] passed = All-nil (λ line. line.fails ≡ false)
+passes (line ∷ table) passed =
+    let parts = passes_cons line table passed in
+    All-cons (λ line. line.fails ≡ false) line table parts.0 (passes table parts.1)
+
+-- so what a line tests for is so, at its place in the table
+pub passes_at : (table : List CheckLine) → first_failing table ≡ Ok tt → (place : ℕ) → nat_lt place (length table) ≡ true →
+    (slice_index_or table place no_line).fails ≡ false
+passes_at table passed place inside = passes table passed place no_line (ltb-true _ _ inside)
 
 pub not_false : (b : Bool) → not b ≡ false → b ≡ true
 not_false true same = refl
@@ -34,19 +50,14 @@ pub record IsFetched (pcc : CapValue) (count : ℕ) : Type 0 where
 pub fetched_is : (pcc : CapValue) (count : ℕ) → first_failing (fetch_table pcc count) ≡ Ok tt → IsFetched pcc count
 unfolding fetch_table
 fetched_is pcc count passed =
-    let a = passes_cons _ _ passed in
-    let b = passes_cons _ _ a.1 in
-    let c = passes_cons _ _ b.1 in
-    let d = passes_cons _ _ c.1 in
-    let e = passes_cons _ _ d.1 in
-    let f = passes_cons _ _ e.1 in
+    let line = passes_at _ passed in
     record {
-      tagged = not_false _ a.0;
-      unsealed = not_false _ b.0;
-      executes = not_false _ c.0;
-      within = not_false _ d.0;
-      aligned = not_false _ e.0;
-      placed = not_false _ f.0;
+      tagged = not_false _ (line 0 refl);
+      unsealed = not_false _ (line 1 refl);
+      executes = not_false _ (line 2 refl);
+      within = not_false _ (line 3 refl);
+      aligned = not_false _ (line 4 refl);
+      placed = not_false _ (line 5 refl);
     }
 
 -- the place of an instruction, as numbers

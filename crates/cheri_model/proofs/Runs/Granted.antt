@@ -1,19 +1,19 @@
 -- Values that are lawful and granted by some sources: each operation of values keeps it.
-use Rattle.std.proofs.Common.{◌≡◌, ℕ, ◌+◌, ◌-◌, ◌*◌, ◌/◌, ◌%◌, ◌^◌, ◌<◌, ◌≤◌, ◌==◌, Bool, true, false, ◌&&◌, List, inl, inr, refl, sym, ap, subst, ◌∙◌, arith, le_trans, leb-true, eqb-true, lit<}
+use Rattle.std.proofs.Common.{◌≡◌, ℕ, ◌+◌, ◌-◌, ◌*◌, ◌/◌, ◌%◌, ◌^◌, ◌<◌, ◌≤◌, true, false, ◌&&◌, List, inl, inr, refl, sym, ap, subst, ◌∙◌, arith, le_trans, leb-true, eqb-true, lit<}
 use Rattle.std.specs.Prelude.{◌⊎◌, nat_le, bit_and, if◌then◌else◌}
 use Rattle.std.proofs.lemmas.Nat.{and_assoc, and_shr, and_mod, and_le_r, pow-add, pow_pos, shr_below, mod_below}
 use Rattle.std.proofs.Math.Nat.{mul-le-mul_right}
 use Rattle.std.proofs.lemmas.Bool.{and_parts, false≢true, le-leb}
-use Rattle.cheri_model.specs.Capability.{Capability, last_sealable_type}
-use Rattle.cheri_model.specs.CapValue.{CapValue, valid, raw, bits_of, tag_of, parts_of, tagged_where, IsLawfulValue}
+use Rattle.cheri_model.specs.Capability.{Capability}
+use Rattle.cheri_model.specs.CapValue.{CapValue, valid, raw, tag_of, parts_of, IsLawfulValue}
 use Rattle.cheri_model.specs.CapInstructions.{CapInstruction, CClearTag, CSealEntry, UnsealedByJump, capability_result}
 use Rattle.cheri_model.specs.Derivation.{IsDerived}
 use Rattle.cheri_model.specs.Memory.{with_bytes}
-use Rattle.cheri_model.specs.Results.{address_of, clear_tag, with_address, in_bounds, has_permission, is_open}
+use Rattle.cheri_model.specs.Results.{address_of, clear_tag, with_address, has_permission, is_open}
 use Rattle.cheri_model.specs.SealResults.{seal_permission, is_sealable, has_type_authority, seal_entry, unsealed}
 use Rattle.cheri_model.specs.Hart.{null}
 use Rattle.cheri_model.specs.HartStep.{permitted}
-use Rattle.cheri_model.specs.Authority.{IsWithin, CanSealWith, IsGrantedType, IsGranted, IsGrantedValue}
+use Rattle.cheri_model.specs.Authority.{IsWithin, IsGrantedType, IsGranted, IsGrantedValue}
 use Rattle.cheri_model.proofs.Words.AddressesMoved.{moved_lawful}
 use Rattle.cheri_model.proofs.Results.Derivations.{result_lawful, result_derived}
 use Rattle.cheri_model.proofs.Bounds.WindowsHold.{lawful_bounds_in_window}

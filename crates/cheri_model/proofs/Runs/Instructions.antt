@@ -1,5 +1,5 @@
 -- Each instruction's form gives the instruction back, and an integer that a register holds is read back.
-use Rattle.std.proofs.Common.{◌≡◌, refl, ℕ, ◌%◌, ◌/◌, ◌^◌, ◌<◌, ap, arith}
+use Rattle.std.proofs.Common.{◌≡◌, refl, ℕ, ◌%◌, ◌^◌, ◌<◌, ap, arith}
 use Rattle.cheri_model.specs.declared.instr.Instr.{Instr}
 use Rattle.cheri_model.specs.declared.instr.Instr.TheVariants.{CSetAddr}
 use Rattle.cheri_model.specs.Form.{form_of, instr_of, three_instr, two_instr, immediate_instr, shift_instr, word_shift_instr, upper_instr, load_instr, store_instr, branch_instr}

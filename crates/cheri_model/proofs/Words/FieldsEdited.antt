@@ -13,49 +13,27 @@ module _ (upper perms flag otype ie t b : ℕ) (h : HasFields upper perms flag o
   pub edited_perms : (n : ℕ) → with_perms upper n ≡ upper_of_fields n flag otype ie t b
   unfolding with_perms upper_of_fields
   edited_perms n =
-      let packed = h.packed in
-      let flag_below = h.flag_below in
-      let otype_below = h.otype_below in
-      let ie_below = h.ie_below in
-      let t_below = h.t_below in
-      let b_below = h.b_below in
-      let kept : with_null_fields upper % 2 ^ 48 ≡ flag * 2 ^ 45 + otype * 2 ^ 27 + ie * 2 ^ 26 + t * 2 ^ 14 + b = omega arith in
+      let kept : with_null_fields upper % 2 ^ 48 ≡ flag * 2 ^ 45 + otype * 2 ^ 27 + ie * 2 ^ 26 + t * 2 ^ 14 + b = omega (arith, h.packed, h.flag_below, h.otype_below, h.ie_below, h.t_below, h.b_below) in
       ap with_null_fields (omega arith)
 
   pub edited_flag : (n : ℕ) → with_flag upper n ≡ upper_of_fields perms n otype ie t b
   unfolding with_flag upper_of_fields
   edited_flag n =
-      let packed = h.packed in
-      let flag_below = h.flag_below in
-      let otype_below = h.otype_below in
-      let ie_below = h.ie_below in
-      let t_below = h.t_below in
-      let b_below = h.b_below in
-      let high : with_null_fields upper / 2 ^ 46 * 2 ^ 46 ≡ field_of_perms perms * 2 ^ 48 = omega arith in
-      let low : with_null_fields upper % 2 ^ 45 ≡ otype * 2 ^ 27 + ie * 2 ^ 26 + t * 2 ^ 14 + b = omega arith in
+      let high : with_null_fields upper / 2 ^ 46 * 2 ^ 46 ≡ field_of_perms perms * 2 ^ 48 = omega (arith, h.packed, h.flag_below, h.otype_below, h.ie_below, h.t_below, h.b_below) in
+      let low : with_null_fields upper % 2 ^ 45 ≡ otype * 2 ^ 27 + ie * 2 ^ 26 + t * 2 ^ 14 + b = omega (arith, h.packed, h.flag_below, h.otype_below, h.ie_below, h.t_below, h.b_below) in
       ap with_null_fields (omega arith)
 
   pub edited_otype : (n : ℕ) → with_otype upper n ≡ upper_of_fields perms flag n ie t b
   unfolding with_otype upper_of_fields
   edited_otype n =
-      let packed = h.packed in
-      let flag_below = h.flag_below in
-      let otype_below = h.otype_below in
-      let ie_below = h.ie_below in
-      let t_below = h.t_below in
-      let b_below = h.b_below in
-      let high : with_null_fields upper / 2 ^ 45 * 2 ^ 45 ≡ field_of_perms perms * 2 ^ 48 + flag * 2 ^ 45 = omega arith in
-      let low : with_null_fields upper % 2 ^ 27 ≡ ie * 2 ^ 26 + t * 2 ^ 14 + b = omega arith in
+      let high : with_null_fields upper / 2 ^ 45 * 2 ^ 45 ≡ field_of_perms perms * 2 ^ 48 + flag * 2 ^ 45 = omega (arith, h.packed, h.flag_below, h.otype_below, h.ie_below, h.t_below, h.b_below) in
+      let low : with_null_fields upper % 2 ^ 27 ≡ ie * 2 ^ 26 + t * 2 ^ 14 + b = omega (arith, h.packed, h.flag_below, h.otype_below, h.ie_below, h.t_below, h.b_below) in
       ap with_null_fields (omega arith)
 
   pub edited_bounds : (new_ie new_t new_b : ℕ) → with_bounds_fields upper new_ie new_t new_b ≡ upper_of_fields perms flag otype new_ie new_t new_b
   unfolding with_bounds_fields upper_of_fields
   edited_bounds new_ie new_t new_b =
-      let packed = h.packed in
-      let ie_below = h.ie_below in
-      let t_below = h.t_below in
-      let b_below = h.b_below in
-      let kept : with_null_fields upper / 2 ^ 27 * 2 ^ 27 ≡ field_of_perms perms * 2 ^ 48 + flag * 2 ^ 45 + otype * 2 ^ 27 = omega arith in
+      let kept : with_null_fields upper / 2 ^ 27 * 2 ^ 27 ≡ field_of_perms perms * 2 ^ 48 + flag * 2 ^ 45 + otype * 2 ^ 27 = omega (arith, h.packed, h.flag_below, h.otype_below, h.ie_below, h.t_below, h.b_below) in
       ap with_null_fields (omega arith)
 
 -- the same of a lawful capability's upper half

@@ -52,7 +52,8 @@ pub fn loads_give_what_was_stored()
 pub fn data_stores_clear_one_tag()
     ensures cleared { (granules : List CapValue) (addr number : ℕ) (width : Width) →
         IsTrue (fits granules addr (bytes_of width)) →
-        tag_of (granule_at (store_data granules addr (bytes_of width) number) (granule_number addr)) ≡ false }
+        tag_of (granule_at (store_data granules addr (bytes_of width) number) (granule_number addr))
+        ≡ false }
     ensures others { (granules : List CapValue) (addr number bytes k : ℕ) →
         k ≢ granule_number addr →
         granule_at (store_data granules addr bytes number) k ≡ granule_at granules k }

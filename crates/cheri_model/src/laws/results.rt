@@ -11,9 +11,11 @@ pub fn results_are_lawful()
         IsLawfulValue (capability_result i v w) }
 {}
 
-/// Monotonicity (CHERI ISA version 9, section 2.4): a tagged result lies within the instruction's first source, which
-/// is tagged, and a sealable type that it has is new only by the authority of the second.
+/// Monotonicity (CHERI ISA v9, "capability monotonicity"): a tagged result lies within the
+/// instruction's first source, which is tagged, and a sealable type that it has is new only by the
+/// authority of the second.
 pub fn results_are_derived()
-    ensures { (i : CapInstruction) (v w : CapValue) → IsLawfulValue v → tag_of (capability_result i v w) ≡ true →
+    ensures { (i : CapInstruction) (v w : CapValue) → IsLawfulValue v →
+        tag_of (capability_result i v w) ≡ true →
         IsDerived (capability_result i v w) v w }
 {}

@@ -111,7 +111,9 @@ pub fn aligned_ranges_are_exact()
 #[tactic(auto, using(crate::proofs::Rounding::RoundedFields::field_widths))]
 pub fn rounded_fields_have_their_widths()
     ensures b { (base len : ℕ) → len ≤ 2 ^ 64 →
-        b_field (internal_exponent len) (rounding_exponent base len) (rounded_base base len) < 2 ^ 14 }
+        b_field (internal_exponent len) (rounding_exponent base len) (rounded_base base len)
+        < 2 ^ 14 }
     ensures t { (base len : ℕ) → len ≤ 2 ^ 64 →
-        t_field (internal_exponent len) (rounding_exponent base len) (rounded_top base len) < 2 ^ 12 }
+        t_field (internal_exponent len) (rounding_exponent base len) (rounded_top base len)
+        < 2 ^ 12 }
 {}

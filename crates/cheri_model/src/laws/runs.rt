@@ -3,21 +3,29 @@
 ghost use Rattle.std.specs.Prelude.{◌≡◌, List, [], ◌∷◌, ◌++◌, true};
 ghost use Rattle.cheri_model.specs.declared.trace.Entry.{Entry};
 ghost use Rattle.cheri_model.specs.Image.{ImageParts};
-ghost use Rattle.cheri_model.specs.Machine.{MachineState, Operation, opening_state, may_take, entry_of, state_after_one};
+ghost use Rattle.cheri_model.specs.Machine.{
+  MachineState,
+  Operation,
+  opening_state,
+  may_take,
+  entry_of,
+  state_after_one,
+};
 ghost use Rattle.cheri_model.specs.Replay.{IsReplay, replayed_state};
 ghost use Rattle.cheri_model.specs.Authority.{IsLawfulState, IsConfined, IsConfinedTo};
 
-/// The empty trace with the image's opening state is a replay, and a legal operation makes a longer one.
+/// The empty trace with the image's opening state is a replay, and a legal operation makes a longer
+/// one.
 pub fn replay_grows()
     ensures opening { (image : ImageParts) → IsReplay image [] (opening_state image) }
-    ensures one_more { (image : ImageParts) (trace : List Entry) (state : MachineState) (op : Operation)
-        → IsReplay image trace state → may_take state op ≡ true
+    ensures one_more { (image : ImageParts) (trace : List Entry) (state : MachineState)
+        (op : Operation) → IsReplay image trace state → may_take state op ≡ true
         → IsReplay image (trace ++ entry_of image state op ∷ []) (state_after_one image state op) }
 {}
 
-/// Where the opening state's values are lawful, each state of a run has lawful values alone, and every tagged one
-/// is granted by an initial capability: authority is never made (CHERI ISA v9, "capability monotonicity"). The same
-/// holds of the values after any beginning of the run.
+/// Where the opening state's values are lawful, every value of each state of a run is lawful, and
+/// every tagged one is granted by an initial capability: authority is never made (CHERI ISA v9,
+/// "capability monotonicity"). The same holds of the values after any beginning of the run.
 pub fn runs_are_confined()
     ensures lawful { (image : ImageParts) (order : List Operation)
         → IsLawfulState (opening_state image) → IsLawfulState (replayed_state image order) }

@@ -1,4 +1,4 @@
-use Rattle.cheri_model.proofs.Runs.Confined.{run_lawful, run_monotone}
+use Rattle.cheri_model.proofs.Runs.RunsConfined.{run_lawful, run_monotone}
 use Rattle.cheri_model.proofs.laws.runs.runs_are_confined.Goals as goal
 
 pub returns-clause-lawful : goal.returns-clause-lawful
