@@ -2,3 +2,4 @@ pub mod Exactness
 pub mod Made
 pub mod Makings
 pub mod MadeAgain
+pub mod Unpacking

@@ -33,8 +33,12 @@ impl Cap {
     pub fn set_addr(self, addr: u64) -> Cap
         ensures { result ≡ set_address self addr }
     {
-        let kept = self.keeps_tag_at(addr);
-        Cap::from_halves(kept, self.high(), addr)
+        if self.keeps_tag_at(addr) {
+            // The bounds stay as well.
+            Cap::with_bounds(true, self.high(), addr, (self.base, self.top))
+        } else {
+            Cap::from_halves(false, self.high(), addr)
+        }
     }
 
     /// The address raised by an offset, modulo 2^64 (CIncOffset). The tag stays as in `set_addr`.
@@ -52,6 +56,10 @@ impl Cap {
     {
         if !self.is_open() {
             return false;
+        }
+        // The window holds the bounds and the top.
+        if self.base <= addr && u128::from(addr) <= self.top {
+            return true;
         }
         representable(self.high(), self.addr(), addr)
     }

@@ -1,5 +1,4 @@
-//! What instructions read off a value, tagged or not. Nothing here decodes the bounds more than
-//! once.
+//! What instructions read off a value, tagged or not. Nothing here decodes the bounds.
 
 ghost use Rattle.std.specs.Prelude.{◌≡◌, ◌+◌, ◌^◌, ◌<◌, ◌≤◌, ◌&&◌};
 ghost use Rattle.cheri_model.specs.CapValue.{tag_of, parts_of, IsLawfulValue};
@@ -18,7 +17,7 @@ ghost use Rattle.cheri_model.specs.Readings.{
 
 use crate::cap::Cap;
 use bitflags::Flags;
-use cap_bounds::{decode, fields};
+use cap_bounds::fields;
 use cheri_model::{LAST_SEALABLE_TYPE, OType, Perms, UNSEALED_TYPE};
 
 impl Cap {
@@ -31,16 +30,14 @@ impl Cap {
         ensures top_below { result.1 < 2 ^ 65 }
         ensures lawful { IsLawfulValue self }
     {
-        // The contract of `tag` says that the value is lawful.
-        let _tag = self.tag();
-        decode(self.high(), self.addr())
+        (self.base, self.top)
     }
 
     /// The base (CGetBase).
     pub fn base(self) -> u64
         ensures { result ≡ base_of self }
     {
-        self.bounds().0
+        self.base
     }
 
     /// The length (CGetLen): the top less the base modulo 2^65, and 2^64 - 1 where that is more.
@@ -58,7 +55,7 @@ impl Cap {
     pub fn offset(self) -> u64
         ensures { result ≡ offset_of self }
     {
-        self.addr().wrapping_sub(self.base())
+        self.addr().wrapping_sub(self.base)
     }
 
     /// The permissions (CGetPerm).

@@ -92,3 +92,23 @@ fn compares_values(rt: HostRuntime) {
     assert_eq!(rt; k, Cap::of_value(k.value()));
     assert_eq!(rt; Cap::of_value(Value::raw(k.bits())), k.clear_tag());
 }
+
+/// Addresses of the sixteen bytes from 0x8000_0000 on, and the bounds that the word then has: the
+/// same in the window, and others outside it.
+const MOVED: [(u64, u64, u128); 5] = [
+    (0x8000_0010, 0x8000_0000, 0x8000_0010),
+    (0x8000_37ff, 0x8000_0000, 0x8000_0010),
+    (0x7fff_f800, 0x8000_0000, 0x8000_0010),
+    (0x7fff_f7ff, 0x7fff_c000, 0x7fff_c010),
+    (0x8000_3800, 0x8000_4000, 0x8000_4010),
+];
+
+#[test]
+fn bounds_follow_the_word(rt: HostRuntime) {
+    let k = sixteen_bytes(&rt);
+    for (addr, base, top) in MOVED {
+        let moved = k.set_addr(addr);
+        assert_eq!(rt; moved.base(), base, "{addr:x}");
+        assert_eq!(rt; *moved.top_ref(), top, "{addr:x}");
+    }
+}
