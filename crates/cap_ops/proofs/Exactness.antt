@@ -7,7 +7,7 @@ use Rattle.cheri_model.specs.Results.{is_open, keeps_bounds}
 use Rattle.cheri_model.proofs.Words.WordsBack.{upper_of_word}
 use Rattle.cheri_model.proofs.Bounds.WindowsEnd.{same_bounds_in_window}
 use Rattle.cheri_model.proofs.Results.Values.{open_parts}
-use Rattle.cheri_model.proofs.Results.AddressResults.{window_test, test_of_window}
+use Rattle.cheri_model.proofs.Results.AddressResults.{internal_exponent_lt, window_test, test_of_window}
 
 -- two equations at once
 pub exact_test : (r : Bool) (a b c d : ℕ) → (IsTrue r ↔ ((a ≡ b) × (c ≡ d))) → r ≡ ((a == b) && (c == d))
@@ -25,3 +25,6 @@ keeps_tag_test v r a h unsealed same =
     (same_from_decides r (keeps_bounds v a)
     (λ t. window.0 (known.0 t), λ inside. known.1 (window.1 inside))
     (λ t. window_test _ _ a t, λ inside. test_of_window _ _ a inside))
+
+-- what rounded fields are: their widths, and when they are exact
+pub ruleset rounded = (exact_test, internal_exponent_lt)

@@ -3,3 +3,4 @@ pub mod Made
 pub mod Makings
 pub mod MadeAgain
 pub mod Unpacking
+pub mod Open

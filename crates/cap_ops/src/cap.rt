@@ -138,7 +138,7 @@ impl Cap {
     }
 
     /// The address (CGetAddr), which is also what the register is as an integer.
-    #[tactic(auto, unfolding(cheri_model::specs::Capability::capability_at, cheri_model::specs::Results::address_of))]
+    #[tactic(auto, unfolding(crate::proofs::Open::address))]
     pub fn addr(self) -> u64
         ensures value { result ≡ (parts_of self).addr }
         ensures integer { result ≡ address_of self }

@@ -42,7 +42,7 @@ impl Cap {
     }
 
     /// The address raised by an offset, modulo 2^64 (CIncOffset). The tag stays as in `set_addr`.
-    #[tactic(auto, unfolding(cheri_model::specs::Results::inc_offset, cheri_model::specs::Results::address_of))]
+    #[tactic(auto, unfolding(crate::proofs::Open::offset))]
     pub fn inc_offset(self, offset: u64) -> Cap
         ensures { result ≡ inc_offset self offset }
     {
@@ -125,7 +125,7 @@ impl Cap {
     }
 
     /// Another upper half, never with a tag (CSetHigh).
-    #[tactic(auto, unfolding(cheri_model::specs::FieldResults::set_high, cheri_model::specs::EditedWords::word_with_upper))]
+    #[tactic(auto, unfolding(crate::proofs::Open::high))]
     pub fn set_high(self, upper: u64) -> Cap
         ensures { result ≡ set_high self upper }
     {

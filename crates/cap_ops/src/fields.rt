@@ -66,7 +66,7 @@ pub(crate) fn with_bounds_fields(upper: u64, ie: u8, t: u16, b: u16) -> u64
 
 /// The upper half whose bounds fields are those of the rounding of base and length, and whether
 /// that is exact.
-#[tactic(auto, using(crate::proofs::Exactness::exact_test, cheri_model::proofs::Results::AddressResults::internal_exponent_lt), unfolding(cheri_model::specs::EditedWords::with_rounded_fields))]
+#[tactic(auto, using(crate::proofs::Exactness::rounded), unfolding(crate::proofs::Open::rounded))]
 pub(crate) fn with_rounded_fields(upper: u64, base: u64, len: u128) -> (u64, bool)
     requires { len ≤ 2 ^ 64 }
     ensures fields { result.0 ≡ with_rounded_fields upper base len }

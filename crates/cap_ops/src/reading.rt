@@ -23,7 +23,7 @@ use cheri_model::{LAST_SEALABLE_TYPE, OType, Perms, UNSEALED_TYPE};
 impl Cap {
     /// The bounds: the base, and the top, which is the first address above them. The top of a word
     /// that no instruction makes may lie below its base.
-    #[tactic(auto, using(cheri_model::proofs::Results::Values::top_lt), unfolding(cheri_model::specs::Capability::capability_at))]
+    #[tactic(auto, using(cheri_model::proofs::Results::Values::top_lt))]
     pub fn bounds(self) -> (u64, u128)
         ensures base { result.0 ≡ base_of self }
         ensures top { result.1 ≡ top_of self }
@@ -67,7 +67,7 @@ impl Cap {
     }
 
     /// The permissions as the bits that CGetPerm shows.
-    #[tactic(auto, using(cheri_model::proofs::Results::Values::perms_known), unfolding(cheri_model::specs::Capability::capability_at))]
+    #[tactic(auto, using(crate::proofs::Open::perms), unfolding(crate::proofs::Open::parts))]
     pub(crate) fn permission_bits(self) -> u32
         ensures value { result ≡ permissions_of self }
         ensures known { IsPermissionSet result }
@@ -78,7 +78,7 @@ impl Cap {
     }
 
     /// The object type, of 18 bits.
-    #[tactic(auto, unfolding(cheri_model::specs::Capability::capability_at, cheri_model::specs::Fields::word_otype))]
+    #[tactic(auto, unfolding(crate::proofs::Open::otype))]
     pub fn object_type(self) -> OType
         ensures { result ≡ object_type_of self }
     {

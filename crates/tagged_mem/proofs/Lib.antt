@@ -1,2 +1,3 @@
 pub mod ClearedMemory
 pub mod WordBytes
+pub mod Open

@@ -18,7 +18,7 @@ fn mask(width: Width) -> u64
 }
 
 /// The number that the bytes from `offset` on are.
-#[tactic(auto, using(crate::proofs::WordBytes::and_ones), unfolding(cheri_model::specs::Memory::bytes_at))]
+#[tactic(auto, using(crate::proofs::WordBytes::and_ones), unfolding(crate::proofs::Open::read))]
 pub fn bytes_at(word: u128, offset: u64, width: Width) -> u64
     requires { offset + bytes_of width ≤ 16 }
     ensures { result ≡ bytes_at word offset (bytes_of width) }
@@ -27,7 +27,7 @@ pub fn bytes_at(word: u128, offset: u64, width: Width) -> u64
 }
 
 /// The word with the bytes from `offset` on replaced by the low ones of `number`.
-#[tactic(auto, using(crate::proofs::WordBytes::and_ones), unfolding(cheri_model::specs::Memory::with_bytes))]
+#[tactic(auto, using(crate::proofs::WordBytes::and_ones), unfolding(crate::proofs::Open::written))]
 pub fn with_bytes(word: u128, offset: u64, width: Width, number: u64) -> u128
     requires { offset + bytes_of width ≤ 16 }
     ensures { result ≡ with_bytes word offset (bytes_of width) number }

@@ -109,7 +109,7 @@ impl Ram {
     }
 
     /// The number that the bytes from `addr` on are, the least significant first, whatever the tag.
-    #[tactic(auto, unfolding(cheri_model::specs::Memory::granule_at, cheri_model::specs::Memory::load_data))]
+    #[tactic(auto, unfolding(crate::proofs::Open::load))]
     pub fn load(&self, addr: u64, width: Width) -> u64
         requires { IsTrue (fits self.now addr (bytes_of width)) }
         ensures { result ≡ load_data self.now addr (bytes_of width) }
@@ -120,7 +120,7 @@ impl Ram {
 
     /// Stores the low bytes of `number` from `addr` on, the least significant first. The granule
     /// loses its tag.
-    #[tactic(auto, unfolding(cheri_model::specs::Memory::granule_at, cheri_model::specs::Memory::store_data))]
+    #[tactic(auto, unfolding(crate::proofs::Open::store))]
     pub fn store(&mut self, addr: u64, width: Width, number: u64)
         requires { IsTrue (fits self.old addr (bytes_of width)) }
         ensures { self.new ≡ store_data self.old addr (bytes_of width) number }
@@ -142,7 +142,7 @@ impl Ram {
     }
 
     /// Replaces the granule at `addr`, tag and all.
-    #[tactic(auto, unfolding(cheri_model::specs::Memory::granule_at, cheri_model::specs::Memory::store_capability))]
+    #[tactic(auto, unfolding(crate::proofs::Open::store_cap))]
     pub fn store_cap(&mut self, addr: u64, value: Cap)
         requires { IsTrue (fits self.old addr 16) }
         ensures { self.new ≡ store_capability self.old addr value }

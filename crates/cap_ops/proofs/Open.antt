@@ -1,0 +1,36 @@
+-- Short names for hints: each definition opens what its own line names.
+use Rattle.std.specs.Prelude.{ℕ, Bool}
+use Rattle.cheri_model.specs.Capability.{Capability, capability_at}
+use Rattle.cheri_model.specs.CapValue.{CapValue}
+use Rattle.cheri_model.specs.EditedWords.{word_with_upper, with_rounded_fields}
+use Rattle.cheri_model.specs.FieldResults.{set_high}
+use Rattle.cheri_model.specs.Fields.{word_otype}
+use Rattle.cheri_model.specs.Results.{address_of, inc_offset}
+use Rattle.cheri_model.proofs.Results.Values.{perms_known}
+
+unfoldable pub parts : ℕ → Capability
+unfolding capability_at
+parts word = capability_at word
+
+unfoldable pub otype : ℕ → ℕ
+unfolding capability_at word_otype
+otype word = (capability_at word).otype
+
+unfoldable pub address : CapValue → ℕ
+unfolding capability_at address_of
+address v = address_of v
+
+unfoldable pub offset : CapValue → ℕ → CapValue
+unfolding inc_offset address_of
+offset v distance = inc_offset v distance
+
+unfoldable pub high : CapValue → ℕ → CapValue
+unfolding set_high word_with_upper
+high v upper = set_high v upper
+
+unfoldable pub rounded : ℕ → ℕ → ℕ → ℕ
+unfolding with_rounded_fields
+rounded upper base len = with_rounded_fields upper base len
+
+-- the permissions of a lawful value
+pub ruleset perms = (perms_known)

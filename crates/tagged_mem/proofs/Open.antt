@@ -1,0 +1,24 @@
+-- Short names for hints: each definition opens what its own line names.
+use Rattle.std.specs.Prelude.{ℕ, List}
+use Rattle.cheri_model.specs.CapValue.{CapValue}
+use Rattle.cheri_model.specs.Memory.{granule_at, bytes_at, with_bytes, load_data, store_data, store_capability}
+
+unfoldable pub read : ℕ → ℕ → ℕ → ℕ
+unfolding bytes_at
+read word offset bytes = bytes_at word offset bytes
+
+unfoldable pub written : ℕ → ℕ → ℕ → ℕ → ℕ
+unfolding with_bytes
+written word offset bytes number = with_bytes word offset bytes number
+
+unfoldable pub load : List CapValue → ℕ → ℕ → ℕ
+unfolding granule_at load_data
+load granules addr bytes = load_data granules addr bytes
+
+unfoldable pub store : List CapValue → ℕ → ℕ → ℕ → List CapValue
+unfolding granule_at store_data
+store granules addr bytes number = store_data granules addr bytes number
+
+unfoldable pub store_cap : List CapValue → ℕ → CapValue → List CapValue
+unfolding granule_at store_capability
+store_cap granules addr v = store_capability granules addr v
