@@ -1,14 +1,12 @@
 //! The integer operations.
 
-use super::{done, hart, ram, run};
-use cap_ops::Cap;
-use cheri_model::{Instr, Reg};
+use super::*;
 
 /// Each instruction with the addresses of c5 and c6, and what it writes to c7.
 #[test]
 fn integers_are_computed(rt: HostRuntime) {
     let (cd, c1, c2) = (Reg::new(7), Reg::new(5), Reg::new(6));
-    let rows: [(Instr, u64, u64, u64); 41] = [
+    let rows: [(Instr, u64, u64, u64); 47] = [
         (
             Instr::Add { cd, c1, c2 },
             0xffff_ffff_8000_0005,
@@ -16,7 +14,9 @@ fn integers_are_computed(rt: HostRuntime) {
             0xffff_ffff_8000_0048,
         ),
         (Instr::Add { cd, c1, c2 }, 0xffff_ffff_ffff_ffff, 0x2, 0x1),
+        (Instr::Add { cd, c1, c2 }, 0x7fff_ffff, 0x1, 0x8000_0000),
         (Instr::Sub { cd, c1, c2 }, 0x5, 0x7, 0xffff_ffff_ffff_fffe),
+        (Instr::Sub { cd, c1, c2 }, 0x1_0000_0000, 0x1, 0xffff_ffff),
         (
             Instr::Sll { cd, c1, c2 },
             0xffff_ffff_8000_0005,
@@ -35,6 +35,12 @@ fn integers_are_computed(rt: HostRuntime) {
             0x43,
             0xffff_ffff_f000_0000,
         ),
+        (
+            Instr::Sra { cd, c1, c2 },
+            0x8000_0000_0000_0000,
+            0x24,
+            0xffff_ffff_f800_0000,
+        ),
         (Instr::Srl { cd, c1, c2 }, 0x1234, 0x40, 0x1234),
         (Instr::Slt { cd, c1, c2 }, 0xffff_ffff_8000_0005, 0x43, 0x1),
         (Instr::Slt { cd, c1, c2 }, 0x43, 0xffff_ffff_8000_0005, 0x0),
@@ -52,7 +58,7 @@ fn integers_are_computed(rt: HostRuntime) {
             0x43,
             0xffff_ffff_8000_0047,
         ),
-        (Instr::And { cd, c1, c2 }, 0xffff_ffff_8000_0005, 0x43, 0x1),
+        (Instr::And { cd, c1, c2 }, 0xc, 0xa, 0x8),
         (
             Instr::Addw { cd, c1, c2 },
             0x7fff_ffff,
@@ -103,6 +109,12 @@ fn integers_are_computed(rt: HostRuntime) {
             0xffff_ffff_ffff_ffff,
         ),
         (
+            Instr::Addi { cd, c1, imm: 1 },
+            0x7fff_ffff,
+            0x0,
+            0x8000_0000,
+        ),
+        (
             Instr::Slti { cd, c1, imm: -1 },
             0xffff_ffff_ffff_fffe,
             0x0,
@@ -128,6 +140,7 @@ fn integers_are_computed(rt: HostRuntime) {
             0x0,
             0xffff_ffff_ffff_f805,
         ),
+        (Instr::Ori { cd, c1, imm: 3 }, 0x5, 0x0, 0x7),
         (
             Instr::Andi { cd, c1, imm: -16 },
             0x1234_5678_9abc_deff,
@@ -190,15 +203,10 @@ fn integers_are_computed(rt: HostRuntime) {
             0xffff_ffff_8000_0000,
         ),
         (Instr::Lui { cd, imm: 1 }, 0x0, 0x0, 0x1000),
+        (Instr::Sraw { cd, c1, c2 }, 0x1_4000_0000, 0x4, 0x400_0000),
     ];
-    let mut memory = ram(&rt, rt.alloc());
     for (instr, first, second, expected) in rows {
-        let mut hart = hart(&rt);
-        hart.put(c1, Cap::of_int(first));
-        hart.put(c2, Cap::of_int(second));
-        let outcome = run(instr, &mut hart, &mut memory);
-        assert!(rt; done(outcome));
-        assert_eq!(rt; hart.register(cd).bits(), u128::from(expected));
-        assert_eq!(rt; hart.pcc().addr(), 0x1000_0004);
+        let hart = hart_with(&rt, Given::Int(first), Given::Int(second));
+        writes(&rt, rt.alloc(), instr, hart, (false, 0, expected));
     }
 }

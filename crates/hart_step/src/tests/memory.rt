@@ -1,10 +1,8 @@
 //! The checks of accesses, and what loads and stores leave.
 
-use super::{done, hart, made, ram, run};
+use super::*;
 use crate::{Access, access_check};
-use cap_ops::Cap;
-use cheri_model::{Instr, Reg, Trap, Width};
-use std::process::Abort;
+use cheri_model::Width;
 
 /// The cause of a trap of a check, or 0 where it passes.
 fn cause(checked: Result<(), Trap>) -> u8 {
@@ -68,7 +66,7 @@ const ACCESSES: [(u32, u64, Access, Stored, u8); 23] = [
 
 #[test]
 fn accesses_are_checked_in_order(rt: HostRuntime) {
-    let memory = ram(&rt, rt.alloc());
+    let memory = ram(&rt, rt.alloc(), 64);
     for (perms, addr, kind, stored, expected) in ACCESSES {
         let auth = made(&rt, 0x8000_0000, 128, perms);
         let value = stored_value(&rt, stored);
@@ -79,33 +77,44 @@ fn accesses_are_checked_in_order(rt: HostRuntime) {
 
 #[test]
 fn accesses_ask_for_open_capabilities(rt: HostRuntime) {
-    let memory = ram(&rt, rt.alloc());
+    let memory = ram(&rt, rt.alloc(), 64);
     let sentry = made(&rt, 0x8000_0000, 16, 0x2).seal_entry();
     let untagged = sentry.clear_tag();
     assert_eq!(rt; cause(access_check(untagged, 5, 0, WORD, None, &memory)), 1);
     assert_eq!(rt; cause(access_check(sentry, 5, 0, WORD, None, &memory)), 2);
 }
 
-/// A byte or more of 0x8182_8384_8586_8788, by each load.
+/// Each load of a part of a granule, by the value in c5 and the offset, and what it leaves in c7.
 #[test]
 fn loads_extend_signs(rt: HostRuntime) {
     let (cd, c1) = (Reg::new(7), Reg::new(5));
-    let rows: [(Instr, u64); 7] = [
-        (Instr::Lb { cd, c1, imm: 0 }, 0xffff_ffff_ffff_ff88),
-        (Instr::Lbu { cd, c1, imm: 1 }, 0x87),
-        (Instr::Lh { cd, c1, imm: 2 }, 0xffff_ffff_ffff_8586),
-        (Instr::Lhu { cd, c1, imm: 4 }, 0x8384),
-        (Instr::Lw { cd, c1, imm: 4 }, 0xffff_ffff_8182_8384),
-        (Instr::Lwu { cd, c1, imm: 0 }, 0x8586_8788),
-        (Instr::Ld { cd, c1, imm: 0 }, 0x8182_8384_8586_8788),
+    let rows: [(Instr, u64); 9] = [
+        (Instr::Lb { cd, c1, imm: 8 }, 0xffff_ffff_ffff_ff88),
+        (Instr::Lb { cd, c1, imm: 15 }, 0xffff_ffff_ffff_ff81),
+        (Instr::Lbu { cd, c1, imm: 9 }, 0x87),
+        (Instr::Lh { cd, c1, imm: 10 }, 0xffff_ffff_ffff_8586),
+        (Instr::Lhu { cd, c1, imm: 12 }, 0x8384),
+        (Instr::Lw { cd, c1, imm: 12 }, 0xffff_ffff_8182_8384),
+        (Instr::Lwu { cd, c1, imm: 8 }, 0x8586_8788),
+        (Instr::Ld { cd, c1, imm: 8 }, 0x8182_8384_8586_8788),
+        (Instr::Ld { cd, c1, imm: 0 }, 0x7172_7374_7576_7778),
     ];
+    let granule = value(
+        &rt,
+        Given::Word(0x8182_8384_8586_8788, 0x7172_7374_7576_7778),
+    );
+    let authority = Given::Open(0x8000_0000, 16, 0x8000_0000, 0x4);
     for (instr, expected) in rows {
-        let mut memory = ram(&rt, rt.alloc());
-        memory.store(0x8000_0008, Width::Double, 0x8182_8384_8586_8788);
-        let mut hart = hart(&rt);
-        hart.put(c1, made(&rt, 0x8000_0008, 8, 0x4));
-        assert!(rt; done(run(instr, &mut hart, &mut memory)));
-        assert_eq!(rt; hart.register(cd).bits(), u128::from(expected));
+        let hart = hart_with(&rt, authority, NULL);
+        let left = after(&rt, rt.alloc(), instr, hart, granule);
+        assert!(rt; matches!(&left.outcome, Outcome::Done), "{instr:?}");
+        assert_eq!(rt;
+            tagged_word(left.hart.register(cd)),
+            (false, 0, expected),
+            "{instr:?}"
+        );
+        assert_eq!(rt; left.hart.pcc().addr(), 0x1000_0004, "{instr:?}");
+        assert_eq!(rt; left.granule, granule, "{instr:?}");
     }
 }
 
@@ -113,54 +122,88 @@ fn loads_extend_signs(rt: HostRuntime) {
 #[test]
 fn stores_write_low_bytes(rt: HostRuntime) {
     let (c1, c2) = (Reg::new(5), Reg::new(6));
-    let rows: [(Instr, u64); 4] = [
-        (Instr::Sb { c2, c1, imm: 8 }, 0x0005_0000_0405_8018),
-        (Instr::Sh { c2, c1, imm: 8 }, 0x0005_0000_0405_1718),
-        (Instr::Sw { c2, c1, imm: 8 }, 0x0005_0000_1516_1718),
-        (Instr::Sd { c2, c1, imm: 8 }, 0x1112_1314_1516_1718),
+    let rows: [(Instr, u64, u64); 5] = [
+        (
+            Instr::Sb { c2, c1, imm: 8 },
+            0x0005_0000_0405_8018,
+            0x8000_0000,
+        ),
+        (
+            Instr::Sh { c2, c1, imm: 8 },
+            0x0005_0000_0405_1718,
+            0x8000_0000,
+        ),
+        (
+            Instr::Sw { c2, c1, imm: 8 },
+            0x0005_0000_1516_1718,
+            0x8000_0000,
+        ),
+        (
+            Instr::Sd { c2, c1, imm: 8 },
+            0x1112_1314_1516_1718,
+            0x8000_0000,
+        ),
+        (
+            Instr::Sb { c2, c1, imm: 3 },
+            0x0005_0000_0405_8004,
+            0x1800_0000,
+        ),
+    ];
+    let authority = Given::Open(0x8000_0000, 16, 0x8000_0000, 0x8);
+    for (instr, upper, lower) in rows {
+        let hart = hart_with(&rt, authority, Given::Int(0x1112_1314_1516_1718));
+        let granule = made(&rt, 0x8000_0000, 16, 0x5);
+        let left = after(&rt, rt.alloc(), instr, hart, granule);
+        assert!(rt; matches!(&left.outcome, Outcome::Done), "{instr:?}");
+        assert_eq!(rt;
+            tagged_word(left.granule),
+            (false, upper, lower),
+            "{instr:?}"
+        );
+        let mut wanted = hart;
+        wanted.set_pcc(hart.pcc().set_addr(0x1000_0004));
+        assert_eq!(rt; left.hart, wanted, "{instr:?}");
+    }
+}
+
+/// The byte at the end of a memory can be read, and a half-word there can not.
+#[test]
+fn accesses_trap_at_the_edges(rt: HostRuntime) {
+    let (cd, c1) = (Reg::new(6), Reg::new(5));
+    let hart = hart_with(&rt, Given::Open(0x8000_0000, 16, 0x8000_0000, 0x4), NULL);
+    let rows: [(Instr, Trapped); 3] = [
+        (Instr::Lh { cd, c1, imm: 15 }, (8, 5)),
+        (Instr::Lh { cd, c1, imm: 13 }, (9, 5)),
+        (Instr::Lb { cd, c1, imm: -1 }, (8, 5)),
     ];
     for (instr, expected) in rows {
-        let mut memory = ram(&rt, rt.alloc());
-        memory.store_cap(0x8000_0000, made(&rt, 0x8000_0000, 16, 0x5));
-        let mut hart = hart(&rt);
-        hart.put(c1, made(&rt, 0x8000_0000, 16, 0x8));
-        hart.put(c2, Cap::of_int(0x1112_1314_1516_1718));
-        assert!(rt; done(run(instr, &mut hart, &mut memory)));
-        let granule = memory.load_cap(0x8000_0000);
-        assert_eq!(rt; granule.high(), expected);
-        assert!(rt; !granule.tag());
+        traps(&rt, rt.alloc(), instr, hart, Cap::null(), expected);
     }
-}
-
-/// LC, or AMOSWAP.C.
-fn capability_load(swaps: bool, cd: Reg, c1: Reg, c2: Reg) -> Instr {
-    if swaps {
-        Instr::AmoSwapC { cd, c2, c1 }
-    } else {
-        Instr::Lc { cd, c1, imm: 0 }
-    }
-}
-
-/// A tag is loaded only under the permission Load_Capability, by LC and by AMOSWAP.C.
-#[test]
-fn tags_are_loaded_by_permission(rt: HostRuntime) {
-    let (cd, c1, c2) = (Reg::new(7), Reg::new(5), Reg::new(6));
-    let rows = [
-        (false, 0x14, true),
-        (false, 0x4, false),
-        (true, 0x1c, true),
-        (true, 0xc, false),
-    ];
-    for (swaps, perms, tagged) in rows {
-        let stored = made(&rt, 0x8000_0000, 16, 0x5);
-        let mut memory = ram(&rt, rt.alloc());
-        memory.store_cap(0x8000_0000, stored);
-        let mut hart = hart(&rt);
-        hart.put(c1, made(&rt, 0x8000_0000, 16, perms));
-        hart.put(c2, Cap::of_int(9));
-        let instr = capability_load(swaps, cd, c1, c2);
-        assert!(rt; done(run(instr, &mut hart, &mut memory)));
-        assert_eq!(rt; hart.register(cd).bits(), stored.bits());
-        assert_eq!(rt; hart.register(cd).tag(), tagged);
-    }
+    let done = after(
+        &rt,
+        rt.alloc(),
+        Instr::Lb { cd, c1, imm: 15 },
+        hart,
+        Cap::null(),
+    );
+    assert!(rt; matches!(&done.outcome, Outcome::Done));
+    let mut hart = hart;
+    hart.put(c1, Cap::root(Perms::LOAD).set_addr(0x8000_0010));
+    traps(
+        &rt,
+        rt.alloc(),
+        Instr::Lb { cd, c1, imm: 0 },
+        hart,
+        Cap::null(),
+        (10, 5),
+    );
+    hart.put(c1, Cap::root(Perms::LOAD).set_addr(0xffff_ffff_ffff_ffff));
+    traps(
+        &rt,
+        rt.alloc(),
+        Instr::Lb { cd, c1, imm: 1 },
+        hart,
+        Cap::null(),
+        (10, 5),
+    );
 }
