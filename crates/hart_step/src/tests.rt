@@ -101,19 +101,19 @@ fn ram(rt: &impl Abort, alloc: Global, bytes: u32) -> Ram {
 
 /// What a step leaves: the hart, the one granule of a memory of 16 bytes, and the outcome.
 #[derive(Clone, Copy)]
-struct After {
+struct Stepped {
     hart: Hart,
     granule: Cap,
     outcome: Outcome,
 }
 
 /// One step of a program of one instruction.
-fn after(rt: &impl Abort, alloc: Global, instr: Instr, hart: Hart, granule: Cap) -> After {
+fn after(rt: &impl Abort, alloc: Global, instr: Instr, hart: Hart, granule: Cap) -> Stepped {
     let mut memory = ram(rt, alloc, 16);
     memory.store_cap(0x8000_0000, granule);
     let mut hart = hart;
     let outcome = step(&[instr], &mut hart, &mut memory);
-    After {
+    Stepped {
         hart,
         granule: memory.load_cap(0x8000_0000),
         outcome,

@@ -1,7 +1,6 @@
 //! Loads, stores and swaps of capabilities.
 
 use super::*;
-use cheri_model::Width;
 
 /// The sixteen bytes from 0x8000_0000 on, with Global and Load.
 const GLOBAL: Given = Given::Open(0x8000_0000, 16, 0x8000_0000, 0x5);
@@ -147,35 +146,41 @@ fn memory_is_reached_before_the_write(rt: HostRuntime) {
     assert_eq!(rt; left.granule, value(&rt, K));
 }
 
-/// A capability is stored as its bytes with a tag, which a byte stored over it clears.
+/// A capability is stored with its tag, which a byte stored over it clears.
 #[test]
 fn a_stored_byte_clears_the_tag(rt: HostRuntime) {
-    let (c1, c2) = (Reg::new(5), Reg::new(6));
-    let mut memory = ram(&rt, rt.alloc(), 16);
-    let mut hart = hart_with(&rt, K, GLOBAL);
-    let program = [
+    let (cd, c1, c2) = (Reg::new(7), Reg::new(5), Reg::new(6));
+    let hart = hart_with(&rt, K, GLOBAL);
+    let stored = after(
+        &rt,
+        rt.alloc(),
         Instr::Sc { c2, c1, imm: 0 },
-        Instr::Sb {
-            c2: Reg::new(7),
-            c1,
-            imm: 9,
-        },
-    ];
-    hart.put(Reg::new(7), Cap::of_int(0xaa));
-    let outcome = step(&program, &mut hart, &mut memory);
-    assert!(rt; matches!(&outcome, Outcome::Done));
-    assert_eq!(rt;
-        tagged_word(memory.load_cap(0x8000_0000)),
-        (true, UPPER, 0x8000_0000)
+        hart,
+        Cap::null(),
     );
-    assert_eq!(rt; memory.load(0x8000_0000, Width::Double), 0x8000_0000);
-    assert_eq!(rt; memory.load(0x8000_0008, Width::Double), UPPER);
-    let outcome = step(&program, &mut hart, &mut memory);
-    assert!(rt; matches!(&outcome, Outcome::Done));
-    let left = memory.load_cap(0x8000_0000);
+    assert_eq!(rt; tagged_word(stored.granule), (true, UPPER, 0x8000_0000));
+    let hart = hart_with(&rt, K, Given::Int(0xaa));
+    let left = after(
+        &rt,
+        rt.alloc(),
+        Instr::Sb { c2, c1, imm: 9 },
+        hart,
+        stored.granule,
+    );
     assert_eq!(rt;
-        tagged_word(left),
+        tagged_word(left.granule),
         (false, 0x0005_0000_0405_aa04, 0x8000_0000)
+    );
+    let read = after(
+        &rt,
+        rt.alloc(),
+        Instr::Ld { cd, c1, imm: 8 },
+        hart,
+        left.granule,
+    );
+    assert_eq!(rt;
+        tagged_word(read.hart.register(cd)),
+        (false, 0, 0x0005_0000_0405_aa04)
     );
 }
 
