@@ -1,2 +1,3 @@
+pub mod Open
 pub mod OpenedHarts
 pub mod Verdicts

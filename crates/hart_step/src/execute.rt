@@ -53,7 +53,7 @@ fn permitted(auth: Cap, value: Cap) -> Cap
 }
 
 /// Loads a number.
-#[tactic(auto, unfolding(cheri_model::specs::HartStep::execute, cheri_model::specs::HartStep::trapped))]
+#[tactic(auto, unfolding(crate::proofs::Open::done))]
 fn load(
     hart: &mut Hart,
     ram: &Ram,
@@ -81,7 +81,7 @@ fn load(
 }
 
 /// Stores the low bytes of a number.
-#[tactic(auto, unfolding(cheri_model::specs::HartStep::execute, cheri_model::specs::HartStep::trapped))]
+#[tactic(auto, unfolding(crate::proofs::Open::done))]
 fn store(hart: &mut Hart, ram: &mut Ram, c1: Reg, addr: u64, width: Width, number: u64) -> Outcome
     requires open { is_open hart.old.pcc ≡ true }
     requires within { in_bounds hart.old.pcc (address_of hart.old.pcc) 4 ≡ true }
@@ -100,7 +100,7 @@ fn store(hart: &mut Hart, ram: &mut Ram, c1: Reg, addr: u64, width: Width, numbe
 }
 
 /// Loads a capability.
-#[tactic(auto, unfolding(cheri_model::specs::HartStep::execute, cheri_model::specs::HartStep::trapped))]
+#[tactic(auto, unfolding(crate::proofs::Open::done))]
 fn load_cap(hart: &mut Hart, ram: &Ram, cd: Reg, c1: Reg, addr: u64) -> Outcome
     requires open { is_open hart.old.pcc ≡ true }
     requires within { in_bounds hart.old.pcc (address_of hart.old.pcc) 4 ≡ true }
@@ -119,7 +119,7 @@ fn load_cap(hart: &mut Hart, ram: &Ram, cd: Reg, c1: Reg, addr: u64) -> Outcome
 }
 
 /// Stores a capability.
-#[tactic(auto, unfolding(cheri_model::specs::HartStep::execute, cheri_model::specs::HartStep::trapped))]
+#[tactic(auto, unfolding(crate::proofs::Open::done))]
 fn store_cap(hart: &mut Hart, ram: &mut Ram, c1: Reg, addr: u64, value: Cap) -> Outcome
     requires open { is_open hart.old.pcc ≡ true }
     requires within { in_bounds hart.old.pcc (address_of hart.old.pcc) 4 ≡ true }
@@ -138,7 +138,7 @@ fn store_cap(hart: &mut Hart, ram: &mut Ram, c1: Reg, addr: u64, value: Cap) -> 
 }
 
 /// Loads a capability and stores another in its place.
-#[tactic(auto, unfolding(cheri_model::specs::HartStep::execute, cheri_model::specs::HartStep::trapped))]
+#[tactic(auto, unfolding(crate::proofs::Open::done))]
 fn swap(hart: &mut Hart, ram: &mut Ram, cd: Reg, c1: Reg, addr: u64, value: Cap) -> Outcome
     requires open { is_open hart.old.pcc ≡ true }
     requires within { in_bounds hart.old.pcc (address_of hart.old.pcc) 4 ≡ true }
@@ -158,7 +158,7 @@ fn swap(hart: &mut Hart, ram: &mut Ram, cd: Reg, c1: Reg, addr: u64, value: Cap)
 }
 
 /// Goes to a target where a condition holds.
-#[tactic(auto, unfolding(cheri_model::specs::HartStep::execute, cheri_model::specs::HartStep::trapped))]
+#[tactic(auto, unfolding(crate::proofs::Open::done))]
 fn branch(hart: &mut Hart, ram: &Ram, taken: bool, target: u64) -> Outcome
     requires open { is_open hart.old.pcc ≡ true }
     requires within { in_bounds hart.old.pcc (address_of hart.old.pcc) 4 ≡ true }
@@ -180,7 +180,7 @@ fn branch(hart: &mut Hart, ram: &Ram, taken: bool, target: u64) -> Outcome
 }
 
 /// Goes to a target, and leaves a link.
-#[tactic(auto, unfolding(cheri_model::specs::HartStep::execute, cheri_model::specs::HartStep::trapped))]
+#[tactic(auto, unfolding(crate::proofs::Open::done))]
 fn jump(hart: &mut Hart, ram: &Ram, cd: Reg, target: u64) -> Outcome
     requires open { is_open hart.old.pcc ≡ true }
     requires within { in_bounds hart.old.pcc (address_of hart.old.pcc) 4 ≡ true }
@@ -199,7 +199,7 @@ fn jump(hart: &mut Hart, ram: &Ram, cd: Reg, target: u64) -> Outcome
 }
 
 /// Goes to a target through a capability, and leaves a link.
-#[tactic(auto, unfolding(cheri_model::specs::HartStep::execute, cheri_model::specs::HartStep::trapped))]
+#[tactic(auto, unfolding(crate::proofs::Open::done))]
 fn jump_through(
     hart: &mut Hart,
     ram: &Ram,
@@ -226,7 +226,7 @@ fn jump_through(
 }
 
 /// Goes to a target through a sealed pair, and leaves its data in c31.
-#[tactic(auto, unfolding(cheri_model::specs::HartStep::execute, cheri_model::specs::HartStep::trapped))]
+#[tactic(auto, unfolding(crate::proofs::Open::done))]
 fn invoke(hart: &mut Hart, ram: &Ram, c1: Reg, c2: Reg, target: u64) -> Outcome
     ensures { execute (Invoke c1 c2 target) hart.old ram.now
         ≡ record { hart = hart.new; memory = ram.now; outcome = result } }
@@ -242,7 +242,8 @@ fn invoke(hart: &mut Hart, ram: &Ram, c1: Reg, c2: Reg, target: u64) -> Outcome
     }
 }
 
-/// Does what an instruction asks for after a fetch, which found PCC open and the instruction in its bounds.
+/// Does what an instruction asks for after a fetch, which found PCC open and the instruction in its
+/// bounds.
 #[tactic(auto, unfolding(cheri_model::specs::HartStep::execute))]
 fn execute(action: Action, hart: &mut Hart, ram: &mut Ram) -> Outcome
     requires open { is_open hart.old.pcc ≡ true }
@@ -293,9 +294,9 @@ fn execute(action: Action, hart: &mut Hart, ram: &mut Ram) -> Outcome
     }
 }
 
-/// One step of a hart that runs: the first failing check of the fetch traps and changes nothing but the status, else
-/// the instruction at PCC acts. Takes no memory.
-#[tactic(auto, unfolding(cheri_model::specs::HartStep::hart_step, cheri_model::specs::HartStep::trapped))]
+/// One step of a hart that runs: the first failing check of the fetch traps and changes nothing but
+/// the status, else the instruction at PCC acts. Takes no memory.
+#[tactic(auto, unfolding(crate::proofs::Open::step))]
 pub fn step(program: &[Instr], hart: &mut Hart, ram: &mut Ram) -> Outcome
     ensures { hart_step program.now hart.old ram.old
         ≡ record { hart = hart.new; memory = ram.new; outcome = result } }

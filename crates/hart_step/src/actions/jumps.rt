@@ -22,7 +22,7 @@ pub fn address_of_target(target: Target) -> u64
 }
 
 /// What a branch asks for.
-#[tactic(auto, unfolding(cheri_model::specs::Form::branch_instr, cheri_model::specs::Actions::action))]
+#[tactic(auto, unfolding(crate::proofs::Open::branch))]
 pub fn branch_action(op: BranchOp, c1: Reg, c2: Reg, target: Target, hart: &Hart) -> Action
     ensures { asks result ≡ action (branch_instr op c1 c2 target) hart.now }
 {

@@ -20,7 +20,7 @@ pub fn even(addr: u64) -> u64
 }
 
 /// What a load, or CJALR, asks for.
-#[tactic(auto, unfolding(cheri_model::specs::Form::load_instr, cheri_model::specs::Actions::action, cheri_model::specs::Integers::sum))]
+#[tactic(auto, unfolding(crate::proofs::Open::load))]
 pub fn load_action(op: LoadOp, cd: Reg, c1: Reg, imm: i16, hart: &Hart) -> Action
     ensures { asks result ≡ action (load_instr op cd c1 imm) hart.now }
 {
@@ -52,7 +52,7 @@ pub fn load_action(op: LoadOp, cd: Reg, c1: Reg, imm: i16, hart: &Hart) -> Actio
 }
 
 /// What a store asks for.
-#[tactic(auto, unfolding(cheri_model::specs::Form::store_instr, cheri_model::specs::Actions::action, cheri_model::specs::Integers::sum))]
+#[tactic(auto, unfolding(crate::proofs::Open::store))]
 pub fn store_action(op: StoreOp, c2: Reg, c1: Reg, imm: i16, hart: &Hart) -> Action
     ensures { asks result ≡ action (store_instr op c2 c1 imm) hart.now }
 {

@@ -44,7 +44,7 @@ pub fn put_truth(cd: Reg, holds: bool) -> Action
 }
 
 /// What an instruction on three registers asks for.
-#[tactic(auto, unfolding(cheri_model::specs::Form::three_instr, cheri_model::specs::Actions::action, cheri_model::specs::CapInstructions::capability_result, cheri_model::specs::Integers::sum, cheri_model::specs::Integers::difference))]
+#[tactic(auto, unfolding(crate::proofs::Open::three))]
 pub fn three_action(op: ThreeOp, cd: Reg, c1: Reg, c2: Reg, hart: &Hart) -> Action
     ensures { asks result ≡ action (three_instr op cd c1 c2) hart.now }
 {
@@ -81,7 +81,7 @@ pub fn three_action(op: ThreeOp, cd: Reg, c1: Reg, c2: Reg, hart: &Hart) -> Acti
 }
 
 /// What an instruction on two registers asks for.
-#[tactic(auto, unfolding(cheri_model::specs::Form::two_instr, cheri_model::specs::Actions::action, cheri_model::specs::CapInstructions::capability_result))]
+#[tactic(auto, unfolding(crate::proofs::Open::two))]
 pub fn two_action(op: TwoOp, cd: Reg, c1: Reg, hart: &Hart) -> Action
     ensures { asks result ≡ action (two_instr op cd c1) hart.now }
 {

@@ -1,6 +1,22 @@
 //! The check of a fetch: whether the instruction at PCC may run.
 
-ghost use Rattle.std.specs.Prelude.{◌≡◌, ◌-◌, ◌*◌, ◌/◌, ◌^◌, ◌<◌, ◌≤◌, IfErr, IfOk, OnOk, length, slice_index_or, true, Ok, Err};
+ghost use Rattle.std.specs.Prelude.{
+  ◌≡◌,
+  ◌-◌,
+  ◌*◌,
+  ◌/◌,
+  ◌^◌,
+  ◌<◌,
+  ◌≤◌,
+  IfErr,
+  IfOk,
+  OnOk,
+  length,
+  slice_index_or,
+  true,
+  Ok,
+  Err,
+};
 ghost use Rattle.cheri_model.specs.CapValue.{parts_of};
 ghost use Rattle.cheri_model.specs.Checks.{first_failing, fetch_table, is_in_code};
 ghost use Rattle.cheri_model.specs.HartStep.{instruction_at};
@@ -50,7 +66,8 @@ pub fn fetch(program: &[Instr], pcc: Cap) -> Result<Instr, Trap>
     ensures open { OnOk result (is_open pcc ≡ true) }
     ensures within { OnOk result (in_bounds pcc (address_of pcc) 4 ≡ true) }
     ensures instruction { IfOk result (λ i. i ≡ instruction_at program.now (address_of pcc)) }
-    ensures trap { IfErr result (λ t. first_failing (fetch_table pcc (length program.now)) ≡ Err t) }
+    ensures trap { IfErr result (λ t.
+        first_failing (fetch_table pcc (length program.now)) ≡ Err t) }
 {
     fetch_check(pcc, program.len())?;
     let number = (pcc.addr() - CODE_BASE) / INSTRUCTION_BYTES;

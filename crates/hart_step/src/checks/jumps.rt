@@ -3,7 +3,14 @@
 ghost use Rattle.std.specs.Prelude.{◌≡◌, ◌&&◌, ◌||◌, not, OnOk, true};
 ghost use Rattle.cheri_model.specs.Capability.{unsealed_type, sentry_type};
 ghost use Rattle.cheri_model.specs.CapValue.{parts_of, tag_of};
-ghost use Rattle.cheri_model.specs.Checks.{check_line, first_failing, has_type, invoke_table, jump_table, target_table};
+ghost use Rattle.cheri_model.specs.Checks.{
+  check_line,
+  first_failing,
+  has_type,
+  invoke_table,
+  jump_table,
+  target_table,
+};
 ghost use Rattle.cheri_model.specs.Results.{has_permission, in_bounds};
 ghost use Rattle.cheri_model.specs.SealResults.{is_sealable};
 
