@@ -17,7 +17,7 @@ use Rattle.cheri_model.specs.CapValue.{CapValue}
 use Rattle.cheri_model.specs.Form.{three_instr, two_instr, immediate_instr, shift_instr, word_shift_instr, upper_instr, load_instr, store_instr, branch_instr}
 use Rattle.cheri_model.specs.Hart.{HartState}
 use Rattle.cheri_model.specs.HartStep.{Stepped, execute, trapped, hart_step}
-use Rattle.cheri_model.specs.Integers.{sum, difference}
+use Rattle.cheri_model.specs.Integers.{sum, difference, word_sum, word_difference, word_shifted_left, upper_immediate}
 use Rattle.cheri_model.proofs.Runs.Instructions.{integers_back, extended_low}
 
 pub ruleset back = (integers_back)
@@ -31,6 +31,10 @@ done action hart memory = execute action hart memory
 unfoldable pub step : List Instr → HartState → List CapValue → Stepped
 unfolding hart_step trapped
 step program hart memory = hart_step program hart memory
+
+unfoldable pub words : ℕ → ℕ → ℕ
+unfolding word_sum word_difference word_shifted_left upper_immediate
+words a b = word_sum a b
 
 unfoldable pub three : ThreeOp → ℕ → ℕ → ℕ → HartState → Action
 unfolding three_instr action capability_result sum difference

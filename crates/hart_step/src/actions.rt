@@ -19,7 +19,8 @@ use cap_ops::Cap;
 use cheri_model::form::Form;
 use cheri_model::{Instr, Reg, Width};
 
-/// What an instruction asks for, with the values that it read. An access or a jump goes through the register `c1`.
+/// What an instruction asks for, with the values that it read. An access or a jump goes through the
+/// register `c1`.
 #[derive(Clone, Copy)]
 pub(crate) enum Action {
     /// Writes `cd`.

@@ -82,7 +82,7 @@ fn extended_word(number: u32) -> u64
 }
 
 /// The sum of the low 32 bits.
-#[tactic(auto, using(crate::proofs::Open::low), unfolding(cheri_model::specs::Integers::word_sum))]
+#[tactic(auto, using(crate::proofs::Open::low), unfolding(crate::proofs::Open::words))]
 pub fn word_sum(a: u64, b: u64) -> u64
     ensures { result ≡ word_sum a b }
 {
@@ -90,7 +90,7 @@ pub fn word_sum(a: u64, b: u64) -> u64
 }
 
 /// The difference of the low 32 bits.
-#[tactic(auto, using(crate::proofs::Open::low), unfolding(cheri_model::specs::Integers::word_difference))]
+#[tactic(auto, using(crate::proofs::Open::low), unfolding(crate::proofs::Open::words))]
 pub fn word_difference(a: u64, b: u64) -> u64
     ensures { result ≡ word_difference a b }
 {
@@ -98,7 +98,7 @@ pub fn word_difference(a: u64, b: u64) -> u64
 }
 
 /// The low 32 bits shifted to the left, by the amount modulo 32.
-#[tactic(auto, using(crate::proofs::Open::low), unfolding(cheri_model::specs::Integers::word_shifted_left))]
+#[tactic(auto, using(crate::proofs::Open::low), unfolding(crate::proofs::Open::words))]
 pub fn word_shifted_left(a: u64, amount: u64) -> u64
     ensures { result ≡ word_shifted_left a amount }
 {
@@ -122,7 +122,7 @@ pub fn word_shifted_arithmetic(a: u64, amount: u64) -> u64
 }
 
 /// What LUI writes and AUIPC adds: the immediate times 2^12, of 32 bits, sign-extended.
-#[tactic(auto, using(crate::proofs::Open::low), unfolding(cheri_model::specs::Integers::upper_immediate))]
+#[tactic(auto, using(crate::proofs::Open::low), unfolding(crate::proofs::Open::words))]
 pub fn upper_immediate(imm: u32) -> u64
     ensures { result ≡ upper_immediate imm }
 {

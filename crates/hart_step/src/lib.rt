@@ -1,5 +1,5 @@
-//! One hart of a CHERI-RISC-V machine, and one step of it: the checks of a fetch, then what the instruction at PCC
-//! asks for.
+//! One hart of a CHERI-RISC-V machine, and one step of it: the checks of a fetch, then what the
+//! instruction at PCC asks for.
 #![tactic(auto)]
 
 mod actions;

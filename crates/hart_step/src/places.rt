@@ -1,5 +1,5 @@
-//! Where PCC goes: to the next instruction, or to the target of a jump. Each keeps its tag, since the checks before it
-//! say that it is in bounds.
+//! Where PCC goes: to the next instruction, or to the target of a jump. Each keeps its tag, since
+//! the checks before it say that it is in bounds.
 
 ghost use Rattle.std.specs.Prelude.{◌≡◌, true};
 ghost use Rattle.cheri_model.specs.CapValue.{IsLawfulValue, tag_of};
@@ -43,7 +43,8 @@ pub fn at_target(pcc: Cap, target: u64) -> Cap
     pcc.set_addr(target)
 }
 
-/// What becomes of PCC where a jump goes through a tagged capability, with the target in its bounds.
+/// What becomes of PCC where a jump goes through a tagged capability, with the target in its
+/// bounds.
 pub fn entered(through: Cap, target: u64) -> Cap
     requires tag { tag_of through ≡ true }
     requires within { in_bounds through target 4 ≡ true }

@@ -1,5 +1,5 @@
-//! Rows of one step: an instruction, the registers and the memory before it, and what it leaves. The expected values
-//! were computed by a model that follows the definitions over whole numbers.
+//! Rows of one step: an instruction, the registers and the memory before it, and what it leaves.
+//! The expected values were computed by a model that follows the definitions over whole numbers.
 
 use crate::{Hart, step};
 use bitflags::Flags;
@@ -78,7 +78,8 @@ fn tagged_word(cap: Cap) -> Tagged {
     (cap.tag(), cap.high(), cap.addr())
 }
 
-/// A hart whose PCC covers the first four instructions of a program, with these values in c5 and c6.
+/// A hart whose PCC covers the first four instructions of a program, with these values in c5 and
+/// c6.
 fn hart_with(rt: &impl Abort, first: Given, second: Given) -> Hart {
     let mut hart = hart_at(made(rt, 0x1000_0000, 16, 0x6));
     hart.put(Reg::new(5), value(rt, first));

@@ -8,8 +8,9 @@ use cap_ops::Cap;
 use cheri_model::{Entry, Image};
 use tagged_mem::Ram;
 
-/// What is shown of a machine at one moment: the image that it started from, the entries of its trace, its harts,
-/// and its memory, of which granule k has the 16 bytes from 0x8000_0000 + 16 * k on.
+/// What is shown of a machine at one moment: the image that it started from, the entries of its
+/// trace, its harts, and its memory, of which granule k has the 16 bytes from 0x8000_0000 + 16 * k
+/// on.
 #[derive(Clone, Copy)]
 pub struct View<'a> {
     pub image: &'a Image,

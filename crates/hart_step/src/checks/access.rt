@@ -94,8 +94,9 @@ fn table_verdict(
     ])
 }
 
-/// The first check that fails of an access at `addr` through the register with the number `reg`, which holds `auth`.
-/// `stored` is the capability to be stored, which a data store has none of. An access that passes fits the memory.
+/// The first check that fails of an access at `addr` through the register with the number `reg`,
+/// which holds `auth`. `stored` is the capability to be stored, which a data store has none of. An
+/// access that passes fits the memory.
 pub fn access_check(
     auth: Cap,
     reg: u8,

@@ -58,8 +58,8 @@ fn instruction(program: &[Instr], number: usize) -> Instr
     program[number]
 }
 
-/// The instruction at PCC, or the trap of the first check of its fetch that fails. After a fetch PCC is open and has
-/// the instruction in its bounds.
+/// The instruction at PCC, or the trap of the first check of its fetch that fails. After a fetch
+/// PCC is open and has the instruction in its bounds.
 #[tactic(auto, unfolding(cheri_model::specs::HartStep::instruction_at))]
 pub fn fetch(program: &[Instr], pcc: Cap) -> Result<Instr, Trap>
     ensures fetched { OnOk result (first_failing (fetch_table pcc (length program.now)) ≡ Ok tt) }

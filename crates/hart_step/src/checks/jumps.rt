@@ -1,4 +1,5 @@
-//! The checks of jumps. A jump that passes its check has four bytes at its target in the bounds of what becomes PCC.
+//! The checks of jumps. A jump that passes its check has four bytes at its target in the bounds of
+//! what becomes PCC.
 
 ghost use Rattle.std.specs.Prelude.{◌≡◌, ◌&&◌, ◌||◌, not, OnOk, true};
 ghost use Rattle.cheri_model.specs.Capability.{unsealed_type, sentry_type};
@@ -34,7 +35,8 @@ pub fn target_check(pcc: Cap, target: u64) -> Result<(), Trap>
     target_verdict(pcc, target)
 }
 
-/// Whether a jump may go through a capability with this type: unsealed, or a sentry where it points alone.
+/// Whether a jump may go through a capability with this type: unsealed, or a sentry where it points
+/// alone.
 fn may_enter(through: Cap, is_entry: bool) -> bool
     ensures { result
         ≡ (has_type through unsealed_type || (has_type through sentry_type && is_entry)) }

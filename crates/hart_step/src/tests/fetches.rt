@@ -2,8 +2,8 @@
 
 use super::*;
 
-/// PCC of a hart, and the cause of its trap. The program is one instruction at 0x1000_0000. Where two checks fail the
-/// one that is earlier in the table is answered.
+/// PCC of a hart, and the cause of its trap. The program is one instruction at 0x1000_0000. Where
+/// two checks fail the one that is earlier in the table is answered.
 const FETCHES: [(Given, u8); 12] = [
     // A sealed word without a tag.
     (Given::Word(0x0004_1fff_d405_8004, 0x1000_0000), 1),
@@ -45,12 +45,12 @@ fn fetches_are_checked_in_order(rt: HostRuntime) {
 /// PCC of no more than one instruction passes, at its base and at its end.
 #[test]
 fn fetches_pass_in_bounds(rt: HostRuntime) {
-    let instr = Instr::Lui {
-        cd: Reg::new(7),
-        imm: 1,
-    };
     let rows = [(0x1000_0000, 4), (0x0fff_fff0, 20), (0x1000_0000, 0x1000)];
     for (base, len) in rows {
+        let instr = Instr::Lui {
+            cd: Reg::new(7),
+            imm: 1,
+        };
         let hart = hart_at(made_at(&rt, base, len, 0x1000_0000, 0x2));
         writes(&rt, rt.alloc(), instr, hart, (false, 0, 0x1000));
     }

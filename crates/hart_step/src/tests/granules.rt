@@ -14,7 +14,8 @@ const LOCAL: Given = Given::Open(0x8000_0000, 16, 0x8000_0000, 0x4);
 /// The word of `GLOBAL` without its tag.
 const WORD: Given = Given::Word(UPPER, 0x8000_0000);
 
-/// The permission bits of c5, the granule, and what is loaded from it: a tag is loaded only under Load_Capability.
+/// The permission bits of c5, the granule, and what is loaded from it: a tag is loaded only under
+/// Load_Capability.
 #[test]
 fn tags_are_loaded_by_permission(rt: HostRuntime) {
     let (cd, c1) = (Reg::new(7), Reg::new(5));
@@ -62,8 +63,8 @@ fn capabilities_are_stored(rt: HostRuntime) {
     }
 }
 
-/// The permission bits of c5, the value of c6, and the cause. Where two checks fail the one that is earlier in the
-/// table is answered.
+/// The permission bits of c5, the value of c6, and the cause. Where two checks fail the one that is
+/// earlier in the table is answered.
 #[test]
 fn stores_of_capabilities_ask_for_permissions(rt: HostRuntime) {
     let (c1, c2) = (Reg::new(5), Reg::new(6));
@@ -184,7 +185,8 @@ fn a_stored_byte_clears_the_tag(rt: HostRuntime) {
     );
 }
 
-/// What two harts leave that swap c6 with one granule, one after the other: c7 of both, and the granule.
+/// What two harts leave that swap c6 with one granule, one after the other: c7 of both, and the
+/// granule.
 fn swapped(rt: &impl Abort, alloc: Global, first: Given, second: Given) -> (Cap, Cap, Cap) {
     let (cd, c1, c2) = (Reg::new(7), Reg::new(5), Reg::new(6));
     let program = [Instr::AmoSwapC { cd, c2, c1 }, Instr::Ecall];

@@ -34,8 +34,8 @@ const CODE_AT_14: Given = Given::Sealed(0x1000_0000, 16, 0x1000_000e, 0x102, 5);
 
 const CODE_AT_6: Given = Given::Sealed(0x1000_0000, 16, 0x1000_0006, 0x102, 5);
 
-/// The code in c5, the data in c6, and the trap. Where two checks fail the one that is earlier in the table is
-/// answered.
+/// The code in c5, the data in c6, and the trap. Where two checks fail the one that is earlier in
+/// the table is answered.
 const INVOKES: [(Given, Given, Trapped); 16] = [
     (CODE_WORD, DATA_WORD, (1, 5)),
     (UNSEALED_CODE, DATA_WORD, (1, 6)),
@@ -65,11 +65,11 @@ const INVOKES: [(Given, Given, Trapped); 16] = [
 
 #[test]
 fn invokes_are_checked_in_order(rt: HostRuntime) {
-    let instr = Instr::CInvoke {
-        c1: Reg::new(5),
-        c2: Reg::new(6),
-    };
     for (code, data, expected) in INVOKES {
+        let instr = Instr::CInvoke {
+            c1: Reg::new(5),
+            c2: Reg::new(6),
+        };
         let hart = hart_with(&rt, code, data);
         traps(&rt, rt.alloc(), instr, hart, Cap::null(), expected);
     }

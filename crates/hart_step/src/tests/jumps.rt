@@ -124,7 +124,8 @@ fn jumps_through_registers_link(rt: HostRuntime) {
     }
 }
 
-/// What c5 has, the offset, and the cause. Where two checks fail the one that is earlier in the table is answered.
+/// What c5 has, the offset, and the cause. Where two checks fail the one that is earlier in the
+/// table is answered.
 #[test]
 fn jumps_through_registers_are_checked_in_order(rt: HostRuntime) {
     let (cd, c1) = (Reg::new(7), Reg::new(5));

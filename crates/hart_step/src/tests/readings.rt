@@ -67,7 +67,8 @@ const K_WORD: Given = Given::Word(0xffff_0000_0405_8004, 0x8000_0000);
 /// All addresses, with all permissions.
 const ROOT: Given = Given::Open(0, 0x1_0000_0000_0000_0000, 0, ALL);
 
-/// The values of c5 and c6, whether the second is a subset of the first, and whether they are equal.
+/// The values of c5 and c6, whether the second is a subset of the first, and whether they are
+/// equal.
 #[test]
 fn values_are_compared(rt: HostRuntime) {
     let (cd, c1, c2) = (Reg::new(7), Reg::new(5), Reg::new(6));
