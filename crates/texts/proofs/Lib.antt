@@ -11,3 +11,4 @@ pub mod PermissionTexts
 pub mod ReaderLemmas
 pub mod TokenLemmas
 pub mod WriterLemmas
+pub mod round_trip

@@ -3,6 +3,7 @@
 
 mod listing;
 mod orders;
+pub mod laws;
 
 pub use listing::{ListingFault, ListingFaultKind, number_of, read_listing, write_listing};
 pub use orders::{OrderFault, OrderFaultKind, read_order};

@@ -1,0 +1,7 @@
+-- What the writer wrote reads back: words and lines, then operands, then lines of each kind, then the whole listing.
+pub mod Words
+pub mod Lines
+pub mod Numbers
+pub mod Operands
+pub mod Names
+pub mod Forms

@@ -1,0 +1,170 @@
+-- An instruction's text reads back to its form, one lemma for each form of operands.
+use Rattle.std.proofs.Common.{◌≡◌, ℕ, ◌+◌, ◌-◌, ◌^◌, ◌<◌, ◌≤◌, Bool, false, List, [], ◌∷◌, ◌++◌, Some, Result, Ok, ⊤, refl, arith}
+use Rattle.std.specs.Prelude.{codes, decimal, ℤ}
+use Rattle.std.specs.Fmt.{signed_decimal}
+use Rattle.cheri_model.specs.declared.form.Form.{Form}
+use Rattle.cheri_model.specs.declared.form.Form.TheVariants.{Three, Two, Immediate, Shift, WordShift, SetBoundsImm, Upper, Load, Store, Swap, Branch, Jump, Invoke, Alone}
+use Rattle.cheri_model.specs.declared.form.ThreeOp.{ThreeOp}
+use Rattle.cheri_model.specs.declared.form.TwoOp.{TwoOp}
+use Rattle.cheri_model.specs.declared.form.ImmediateOp.{ImmediateOp}
+use Rattle.cheri_model.specs.declared.form.ShiftOp.{ShiftOp}
+use Rattle.cheri_model.specs.declared.form.WordShiftOp.{WordShiftOp}
+use Rattle.cheri_model.specs.declared.form.UpperOp.{UpperOp}
+use Rattle.cheri_model.specs.declared.form.LoadOp.{LoadOp}
+use Rattle.cheri_model.specs.declared.form.StoreOp.{StoreOp}
+use Rattle.cheri_model.specs.declared.form.BranchOp.{BranchOp}
+use Rattle.texts.specs.declared.listing.fault.ListingFaultKind.{ListingFaultKind}
+use Rattle.texts.specs.declared.listing.mnemonics.Mnemonic.{Mnemonic}
+use Rattle.texts.specs.declared.listing.mnemonics.Mnemonic.TheVariants as mnemonic
+use Rattle.texts.specs.ListingTokens.{token_at}
+use Rattle.texts.specs.ListingLabels.{PlaceParts}
+use Rattle.texts.specs.ListingForms.{counted, three_form, two_form, immediate_form, shift_form, word_shift_form, set_bounds_form, upper_form, load_form, store_form, swap_form, branch_form, jump_form, invoke_form, alone_form, form_from}
+use Rattle.texts.specs.ListingInstructions.{form_text, three_name, two_name, immediate_name, shift_name, word_shift_name, upper_name, load_name, store_name, branch_name}
+use Rattle.texts.proofs.round_trip.Words.{IsWord}
+use Rattle.texts.proofs.round_trip.Lines.{IsLine, last_word, then_space, then_comma}
+use Rattle.texts.proofs.round_trip.Numbers.{decimal_word}
+use Rattle.texts.proofs.round_trip.Operands.{reg_text, register_reads, register_word, Is12Bits, operand_of, signed_reads, signed_in_range, signed_word, plain_reads, up_to_reads, memory_text, memory_reads, memory_word, target_text, target_reads, target_in_range, target_word}
+use Rattle.texts.proofs.round_trip.Names.{IsName, three_named, two_named, immediate_named, shift_named, word_shift_named, upper_named, load_named, store_named, branch_named, set_bounds_named, swap_named, jump_named, invoke_named, alone_named}
+
+-- operands in the ranges of a listing with this many instruction lines
+abbrev pub IsReadable : ℕ → Form → Type 0
+IsReadable count (Three op cd c1 c2) = (cd < 32) × (c1 < 32) × (c2 < 32)
+IsReadable count (Two op cd c1) = (cd < 32) × (c1 < 32)
+IsReadable count (Immediate op cd c1 imm) = (cd < 32) × (c1 < 32) × Is12Bits imm
+IsReadable count (Shift op cd c1 amount) = (cd < 32) × (c1 < 32) × (amount ≤ 63)
+IsReadable count (WordShift op cd c1 amount) = (cd < 32) × (c1 < 32) × (amount ≤ 31)
+IsReadable count (SetBoundsImm cd c1 len) = (cd < 32) × (c1 < 32) × (len ≤ 4095)
+IsReadable count (Upper op cd imm) = (cd < 32) × (imm ≤ 2 ^ 20 - 1)
+IsReadable count (Load op cd c1 imm) = (cd < 32) × (c1 < 32) × Is12Bits imm
+IsReadable count (Store op c2 c1 imm) = (c2 < 32) × (c1 < 32) × Is12Bits imm
+IsReadable count (Swap cd c2 c1) = (cd < 32) × (c2 < 32) × (c1 < 32)
+IsReadable count (Branch op c1 c2 target) = (c1 < 32) × (c2 < 32) × (target ≤ count)
+IsReadable count (Jump cd target) = (cd < 32) × (target ≤ count)
+IsReadable count (Invoke c1 c2) = (c1 < 32) × (c2 < 32)
+IsReadable count Alone = ⊤
+
+-- a text is a line of an instruction's name and operands, which read as a form
+pub record ReadsAs (places : PlaceParts) (text : List ℕ) (whole : Form) : Type 0 where
+  pub name : List ℕ
+  pub mnemonic : Mnemonic
+  pub operands : List (List ℕ)
+  pub named : IsName name mnemonic
+  pub line : IsLine text (name ∷ operands)
+  pub read : form_from places mnemonic (name ∷ operands) ≡ Ok whole
+
+-- the operands of each form read back after any name
+module _ (name : List ℕ) where
+  three_back : (op : ThreeOp) (cd c1 c2 : ℕ) → cd < 32 → c1 < 32 → c2 < 32 → three_form op (name ∷ reg_text cd ∷ reg_text c1 ∷ reg_text c2 ∷ []) ≡ Ok (Three op cd c1 c2)
+  unfolding three_form counted token_at
+  three_back op cd c1 c2 p q r = rw (register_reads cd p, register_reads c1 q, register_reads c2 r) refl
+
+  two_back : (op : TwoOp) (cd c1 : ℕ) → cd < 32 → c1 < 32 → two_form op (name ∷ reg_text cd ∷ reg_text c1 ∷ []) ≡ Ok (Two op cd c1)
+  unfolding two_form counted token_at
+  two_back op cd c1 p q = rw (register_reads cd p, register_reads c1 q) refl
+
+  immediate_back : (op : ImmediateOp) (cd c1 : ℕ) (imm : ℤ) → cd < 32 → c1 < 32 → Is12Bits imm → immediate_form op (name ∷ reg_text cd ∷ reg_text c1 ∷ signed_decimal imm ∷ []) ≡ Ok (Immediate op cd c1 imm)
+  unfolding immediate_form counted token_at
+  immediate_back op cd c1 imm p q r = rw (register_reads cd p, register_reads c1 q, signed_reads imm r, signed_in_range imm r) refl
+
+  shift_back : (op : ShiftOp) (cd c1 amount : ℕ) → cd < 32 → c1 < 32 → amount ≤ 63 → shift_form op (name ∷ reg_text cd ∷ reg_text c1 ∷ decimal amount ∷ []) ≡ Ok (Shift op cd c1 amount)
+  unfolding shift_form counted token_at
+  shift_back op cd c1 amount p q r = rw (register_reads cd p, register_reads c1 q, plain_reads amount (omega arith), up_to_reads amount 63 r) refl
+
+  word_shift_back : (op : WordShiftOp) (cd c1 amount : ℕ) → cd < 32 → c1 < 32 → amount ≤ 31 → word_shift_form op (name ∷ reg_text cd ∷ reg_text c1 ∷ decimal amount ∷ []) ≡ Ok (WordShift op cd c1 amount)
+  unfolding word_shift_form counted token_at
+  word_shift_back op cd c1 amount p q r = rw (register_reads cd p, register_reads c1 q, plain_reads amount (omega arith), up_to_reads amount 31 r) refl
+
+  set_bounds_back : (cd c1 len : ℕ) → cd < 32 → c1 < 32 → len ≤ 4095 → set_bounds_form (name ∷ reg_text cd ∷ reg_text c1 ∷ decimal len ∷ []) ≡ Ok (SetBoundsImm cd c1 len)
+  unfolding set_bounds_form counted token_at
+  set_bounds_back cd c1 len p q r = rw (register_reads cd p, register_reads c1 q, plain_reads len (omega arith), up_to_reads len 4095 r) refl
+
+  upper_back : (op : UpperOp) (cd imm : ℕ) → cd < 32 → imm ≤ 2 ^ 20 - 1 → upper_form op (name ∷ reg_text cd ∷ decimal imm ∷ []) ≡ Ok (Upper op cd imm)
+  unfolding upper_form counted token_at
+  upper_back op cd imm p q = rw (register_reads cd p, plain_reads imm (omega arith), up_to_reads imm (2 ^ 20 - 1) q) refl
+
+  load_back : (op : LoadOp) (cd c1 : ℕ) (imm : ℤ) → cd < 32 → c1 < 32 → Is12Bits imm → load_form op (name ∷ reg_text cd ∷ memory_text imm c1 ∷ []) ≡ Ok (Load op cd c1 imm)
+  unfolding load_form counted token_at
+  load_back op cd c1 imm p q r = rw (register_reads cd p, memory_reads imm c1 r q, signed_in_range imm r) refl
+
+  store_back : (op : StoreOp) (c2 c1 : ℕ) (imm : ℤ) → c2 < 32 → c1 < 32 → Is12Bits imm → store_form op (name ∷ reg_text c2 ∷ memory_text imm c1 ∷ []) ≡ Ok (Store op c2 c1 imm)
+  unfolding store_form counted token_at
+  store_back op c2 c1 imm p q r = rw (register_reads c2 p, memory_reads imm c1 r q, signed_in_range imm r) refl
+
+  swap_back : (cd c2 c1 : ℕ) → cd < 32 → c2 < 32 → c1 < 32 → swap_form (name ∷ reg_text cd ∷ reg_text c2 ∷ reg_text c1 ∷ []) ≡ Ok (Swap cd c2 c1)
+  unfolding swap_form counted token_at
+  swap_back cd c2 c1 p q r = rw (register_reads cd p, register_reads c2 q, register_reads c1 r) refl
+
+  branch_back : (places : PlaceParts) (op : BranchOp) (c1 c2 target : ℕ) → c1 < 32 → c2 < 32 → target < 2 ^ 128 → target ≤ places.instructions
+      → branch_form places op (name ∷ reg_text c1 ∷ reg_text c2 ∷ target_text target ∷ []) ≡ Ok (Branch op c1 c2 target)
+  unfolding branch_form counted token_at
+  branch_back places op c1 c2 target p q low r = rw (register_reads c1 p, register_reads c2 q, target_reads places target low, target_in_range places target r) refl
+
+  jump_back : (places : PlaceParts) (cd target : ℕ) → cd < 32 → target < 2 ^ 128 → target ≤ places.instructions → jump_form places (name ∷ reg_text cd ∷ target_text target ∷ []) ≡ Ok (Jump cd target)
+  unfolding jump_form counted token_at
+  jump_back places cd target p low q = rw (register_reads cd p, target_reads places target low, target_in_range places target q) refl
+
+  invoke_back : (c1 c2 : ℕ) → c1 < 32 → c2 < 32 → invoke_form (name ∷ reg_text c1 ∷ reg_text c2 ∷ []) ≡ Ok (Invoke c1 c2)
+  unfolding invoke_form counted token_at
+  invoke_back c1 c2 p q = rw (register_reads c1 p, register_reads c2 q) refl
+
+  alone_back : alone_form (name ∷ []) ≡ Ok Alone
+  unfolding alone_form counted
+  alone_back = refl
+
+-- the canonical text of each form reads back, where the count of instruction lines is small
+pub form_reads : (places : PlaceParts) (whole : Form) → places.instructions < 2 ^ 128 → IsReadable places.instructions whole → ReadsAs places (form_text whole) whole
+unfolding form_text form_from
+form_reads places (Three op cd c1 c2) few h =
+    record { name = three_name op; mnemonic = mnemonic.Three op; operands = reg_text cd ∷ reg_text c1 ∷ reg_text c2 ∷ []; named = three_named op;
+    line = then_space (three_name op) _ _ (three_named op).word (then_comma (reg_text cd) _ _ (register_word cd h.0) (then_comma (reg_text c1) _ _ (register_word c1 h.1) (last_word (reg_text c2) (register_word c2 h.2))));
+    read = three_back (three_name op) op cd c1 c2 h.0 h.1 h.2 }
+form_reads places (Two op cd c1) few h =
+    record { name = two_name op; mnemonic = mnemonic.Two op; operands = reg_text cd ∷ reg_text c1 ∷ []; named = two_named op;
+    line = then_space (two_name op) _ _ (two_named op).word (then_comma (reg_text cd) _ _ (register_word cd h.0) (last_word (reg_text c1) (register_word c1 h.1)));
+    read = two_back (two_name op) op cd c1 h.0 h.1 }
+form_reads places (Immediate op cd c1 imm) few h =
+    record { name = immediate_name op; mnemonic = mnemonic.Immediate op; operands = reg_text cd ∷ reg_text c1 ∷ signed_decimal imm ∷ []; named = immediate_named op;
+    line = then_space (immediate_name op) _ _ (immediate_named op).word (then_comma (reg_text cd) _ _ (register_word cd h.0) (then_comma (reg_text c1) _ _ (register_word c1 h.1) (last_word (signed_decimal imm) (signed_word imm h.2))));
+    read = immediate_back (immediate_name op) op cd c1 imm h.0 h.1 h.2 }
+form_reads places (Shift op cd c1 amount) few h =
+    record { name = shift_name op; mnemonic = mnemonic.Shift op; operands = reg_text cd ∷ reg_text c1 ∷ decimal amount ∷ []; named = shift_named op;
+    line = then_space (shift_name op) _ _ (shift_named op).word (then_comma (reg_text cd) _ _ (register_word cd h.0) (then_comma (reg_text c1) _ _ (register_word c1 h.1) (last_word (decimal amount) (decimal_word amount (omega (arith, h.2))))));
+    read = shift_back (shift_name op) op cd c1 amount h.0 h.1 h.2 }
+form_reads places (WordShift op cd c1 amount) few h =
+    record { name = word_shift_name op; mnemonic = mnemonic.WordShift op; operands = reg_text cd ∷ reg_text c1 ∷ decimal amount ∷ []; named = word_shift_named op;
+    line = then_space (word_shift_name op) _ _ (word_shift_named op).word (then_comma (reg_text cd) _ _ (register_word cd h.0) (then_comma (reg_text c1) _ _ (register_word c1 h.1) (last_word (decimal amount) (decimal_word amount (omega (arith, h.2))))));
+    read = word_shift_back (word_shift_name op) op cd c1 amount h.0 h.1 h.2 }
+form_reads places (SetBoundsImm cd c1 len) few h =
+    record { name = codes "csetboundsimm"; mnemonic = mnemonic.SetBoundsImm; operands = reg_text cd ∷ reg_text c1 ∷ decimal len ∷ []; named = set_bounds_named;
+    line = then_space (codes "csetboundsimm") _ _ set_bounds_named.word (then_comma (reg_text cd) _ _ (register_word cd h.0) (then_comma (reg_text c1) _ _ (register_word c1 h.1) (last_word (decimal len) (decimal_word len (omega (arith, h.2))))));
+    read = set_bounds_back (codes "csetboundsimm") cd c1 len h.0 h.1 h.2 }
+form_reads places (Upper op cd imm) few h =
+    record { name = upper_name op; mnemonic = mnemonic.Upper op; operands = reg_text cd ∷ decimal imm ∷ []; named = upper_named op;
+    line = then_space (upper_name op) _ _ (upper_named op).word (then_comma (reg_text cd) _ _ (register_word cd h.0) (last_word (decimal imm) (decimal_word imm (omega (arith, h.1)))));
+    read = upper_back (upper_name op) op cd imm h.0 h.1 }
+form_reads places (Load op cd c1 imm) few h =
+    record { name = load_name op; mnemonic = mnemonic.Load op; operands = reg_text cd ∷ memory_text imm c1 ∷ []; named = load_named op;
+    line = then_space (load_name op) _ _ (load_named op).word (then_comma (reg_text cd) _ _ (register_word cd h.0) (last_word (memory_text imm c1) (memory_word imm c1 h.2 h.1)));
+    read = load_back (load_name op) op cd c1 imm h.0 h.1 h.2 }
+form_reads places (Store op c2 c1 imm) few h =
+    record { name = store_name op; mnemonic = mnemonic.Store op; operands = reg_text c2 ∷ memory_text imm c1 ∷ []; named = store_named op;
+    line = then_space (store_name op) _ _ (store_named op).word (then_comma (reg_text c2) _ _ (register_word c2 h.0) (last_word (memory_text imm c1) (memory_word imm c1 h.2 h.1)));
+    read = store_back (store_name op) op c2 c1 imm h.0 h.1 h.2 }
+form_reads places (Swap cd c2 c1) few h =
+    record { name = codes "amoswap.c"; mnemonic = mnemonic.Swap; operands = reg_text cd ∷ reg_text c2 ∷ reg_text c1 ∷ []; named = swap_named;
+    line = then_space (codes "amoswap.c") _ _ swap_named.word (then_comma (reg_text cd) _ _ (register_word cd h.0) (then_comma (reg_text c2) _ _ (register_word c2 h.1) (last_word (reg_text c1) (register_word c1 h.2))));
+    read = swap_back (codes "amoswap.c") cd c2 c1 h.0 h.1 h.2 }
+form_reads places (Branch op c1 c2 target) few h =
+    record { name = branch_name op; mnemonic = mnemonic.Branch op; operands = reg_text c1 ∷ reg_text c2 ∷ target_text target ∷ []; named = branch_named op;
+    line = then_space (branch_name op) _ _ (branch_named op).word (then_comma (reg_text c1) _ _ (register_word c1 h.0) (then_comma (reg_text c2) _ _ (register_word c2 h.1) (last_word (target_text target) (target_word target (omega (arith, h.2))))));
+    read = branch_back (branch_name op) places op c1 c2 target h.0 h.1 (omega (arith, h.2)) h.2 }
+form_reads places (Jump cd target) few h =
+    record { name = codes "cjal"; mnemonic = mnemonic.Jump; operands = reg_text cd ∷ target_text target ∷ []; named = jump_named;
+    line = then_space (codes "cjal") _ _ jump_named.word (then_comma (reg_text cd) _ _ (register_word cd h.0) (last_word (target_text target) (target_word target (omega (arith, h.1)))));
+    read = jump_back (codes "cjal") places cd target h.0 (omega (arith, h.1)) h.1 }
+form_reads places (Invoke c1 c2) few h =
+    record { name = codes "cinvoke"; mnemonic = mnemonic.Invoke; operands = reg_text c1 ∷ reg_text c2 ∷ []; named = invoke_named;
+    line = then_space (codes "cinvoke") _ _ invoke_named.word (then_comma (reg_text c1) _ _ (register_word c1 h.0) (last_word (reg_text c2) (register_word c2 h.1)));
+    read = invoke_back (codes "cinvoke") c1 c2 h.0 h.1 }
+form_reads places Alone few h =
+    record { name = codes "ecall"; mnemonic = mnemonic.Alone; operands = []; named = alone_named; line = last_word (codes "ecall") alone_named.word; read = alone_back (codes "ecall") }
