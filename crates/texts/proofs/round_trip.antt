@@ -5,3 +5,5 @@ pub mod Numbers
 pub mod Operands
 pub mod Names
 pub mod Forms
+pub mod Permissions
+pub mod Capabilities

@@ -1,6 +1,6 @@
 -- An instruction's text reads back to its form, one lemma for each form of operands.
-use Rattle.std.proofs.Common.{◌≡◌, ℕ, ◌+◌, ◌-◌, ◌^◌, ◌<◌, ◌≤◌, Bool, false, List, [], ◌∷◌, ◌++◌, Some, Result, Ok, ⊤, refl, arith}
-use Rattle.std.specs.Prelude.{codes, decimal, ℤ}
+use Rattle.std.proofs.Common.{◌≡◌, ℕ, ◌+◌, ◌-◌, ◌^◌, ◌<◌, ◌≤◌, Bool, false, List, [], ◌∷◌, ◌++◌, Some, Result, Ok, refl, arith}
+use Rattle.std.specs.Prelude.{codes, decimal, ℤ, ⊤}
 use Rattle.std.specs.Fmt.{signed_decimal}
 use Rattle.cheri_model.specs.declared.form.Form.{Form}
 use Rattle.cheri_model.specs.declared.form.Form.TheVariants.{Three, Two, Immediate, Shift, WordShift, SetBoundsImm, Upper, Load, Store, Swap, Branch, Jump, Invoke, Alone}
