@@ -111,60 +111,60 @@ module _ (name : List ℕ) where
   unfolding alone_form counted
   alone_back = refl
 
--- the canonical text of each form reads back, where the count of instruction lines is small
-pub form_reads : (places : PlaceParts) (whole : Form) → places.instructions < 2 ^ 128 → IsReadable places.instructions whole → ReadsAs places (form_text whole) whole
+-- the canonical text of each form reads back where there are enough instruction lines
+pub form_reads : (places : PlaceParts) (count : ℕ) (whole : Form) → count < 2 ^ 128 → count ≤ places.instructions → IsReadable count whole → ReadsAs places (form_text whole) whole
 unfolding form_text form_from
-form_reads places (Three op cd c1 c2) few h =
+form_reads places count (Three op cd c1 c2) few enough h =
     record { name = three_name op; mnemonic = mnemonic.Three op; operands = reg_text cd ∷ reg_text c1 ∷ reg_text c2 ∷ []; named = three_named op;
     line = then_space (three_name op) _ _ (three_named op).word (then_comma (reg_text cd) _ _ (register_word cd h.0) (then_comma (reg_text c1) _ _ (register_word c1 h.1) (last_word (reg_text c2) (register_word c2 h.2))));
     read = three_back (three_name op) op cd c1 c2 h.0 h.1 h.2 }
-form_reads places (Two op cd c1) few h =
+form_reads places count (Two op cd c1) few enough h =
     record { name = two_name op; mnemonic = mnemonic.Two op; operands = reg_text cd ∷ reg_text c1 ∷ []; named = two_named op;
     line = then_space (two_name op) _ _ (two_named op).word (then_comma (reg_text cd) _ _ (register_word cd h.0) (last_word (reg_text c1) (register_word c1 h.1)));
     read = two_back (two_name op) op cd c1 h.0 h.1 }
-form_reads places (Immediate op cd c1 imm) few h =
+form_reads places count (Immediate op cd c1 imm) few enough h =
     record { name = immediate_name op; mnemonic = mnemonic.Immediate op; operands = reg_text cd ∷ reg_text c1 ∷ signed_decimal imm ∷ []; named = immediate_named op;
     line = then_space (immediate_name op) _ _ (immediate_named op).word (then_comma (reg_text cd) _ _ (register_word cd h.0) (then_comma (reg_text c1) _ _ (register_word c1 h.1) (last_word (signed_decimal imm) (signed_word imm h.2))));
     read = immediate_back (immediate_name op) op cd c1 imm h.0 h.1 h.2 }
-form_reads places (Shift op cd c1 amount) few h =
+form_reads places count (Shift op cd c1 amount) few enough h =
     record { name = shift_name op; mnemonic = mnemonic.Shift op; operands = reg_text cd ∷ reg_text c1 ∷ decimal amount ∷ []; named = shift_named op;
     line = then_space (shift_name op) _ _ (shift_named op).word (then_comma (reg_text cd) _ _ (register_word cd h.0) (then_comma (reg_text c1) _ _ (register_word c1 h.1) (last_word (decimal amount) (decimal_word amount (omega (arith, h.2))))));
     read = shift_back (shift_name op) op cd c1 amount h.0 h.1 h.2 }
-form_reads places (WordShift op cd c1 amount) few h =
+form_reads places count (WordShift op cd c1 amount) few enough h =
     record { name = word_shift_name op; mnemonic = mnemonic.WordShift op; operands = reg_text cd ∷ reg_text c1 ∷ decimal amount ∷ []; named = word_shift_named op;
     line = then_space (word_shift_name op) _ _ (word_shift_named op).word (then_comma (reg_text cd) _ _ (register_word cd h.0) (then_comma (reg_text c1) _ _ (register_word c1 h.1) (last_word (decimal amount) (decimal_word amount (omega (arith, h.2))))));
     read = word_shift_back (word_shift_name op) op cd c1 amount h.0 h.1 h.2 }
-form_reads places (SetBoundsImm cd c1 len) few h =
+form_reads places count (SetBoundsImm cd c1 len) few enough h =
     record { name = codes "csetboundsimm"; mnemonic = mnemonic.SetBoundsImm; operands = reg_text cd ∷ reg_text c1 ∷ decimal len ∷ []; named = set_bounds_named;
     line = then_space (codes "csetboundsimm") _ _ set_bounds_named.word (then_comma (reg_text cd) _ _ (register_word cd h.0) (then_comma (reg_text c1) _ _ (register_word c1 h.1) (last_word (decimal len) (decimal_word len (omega (arith, h.2))))));
     read = set_bounds_back (codes "csetboundsimm") cd c1 len h.0 h.1 h.2 }
-form_reads places (Upper op cd imm) few h =
+form_reads places count (Upper op cd imm) few enough h =
     record { name = upper_name op; mnemonic = mnemonic.Upper op; operands = reg_text cd ∷ decimal imm ∷ []; named = upper_named op;
     line = then_space (upper_name op) _ _ (upper_named op).word (then_comma (reg_text cd) _ _ (register_word cd h.0) (last_word (decimal imm) (decimal_word imm (omega (arith, h.1)))));
     read = upper_back (upper_name op) op cd imm h.0 h.1 }
-form_reads places (Load op cd c1 imm) few h =
+form_reads places count (Load op cd c1 imm) few enough h =
     record { name = load_name op; mnemonic = mnemonic.Load op; operands = reg_text cd ∷ memory_text imm c1 ∷ []; named = load_named op;
     line = then_space (load_name op) _ _ (load_named op).word (then_comma (reg_text cd) _ _ (register_word cd h.0) (last_word (memory_text imm c1) (memory_word imm c1 h.2 h.1)));
     read = load_back (load_name op) op cd c1 imm h.0 h.1 h.2 }
-form_reads places (Store op c2 c1 imm) few h =
+form_reads places count (Store op c2 c1 imm) few enough h =
     record { name = store_name op; mnemonic = mnemonic.Store op; operands = reg_text c2 ∷ memory_text imm c1 ∷ []; named = store_named op;
     line = then_space (store_name op) _ _ (store_named op).word (then_comma (reg_text c2) _ _ (register_word c2 h.0) (last_word (memory_text imm c1) (memory_word imm c1 h.2 h.1)));
     read = store_back (store_name op) op c2 c1 imm h.0 h.1 h.2 }
-form_reads places (Swap cd c2 c1) few h =
+form_reads places count (Swap cd c2 c1) few enough h =
     record { name = codes "amoswap.c"; mnemonic = mnemonic.Swap; operands = reg_text cd ∷ reg_text c2 ∷ reg_text c1 ∷ []; named = swap_named;
     line = then_space (codes "amoswap.c") _ _ swap_named.word (then_comma (reg_text cd) _ _ (register_word cd h.0) (then_comma (reg_text c2) _ _ (register_word c2 h.1) (last_word (reg_text c1) (register_word c1 h.2))));
     read = swap_back (codes "amoswap.c") cd c2 c1 h.0 h.1 h.2 }
-form_reads places (Branch op c1 c2 target) few h =
+form_reads places count (Branch op c1 c2 target) few enough h =
     record { name = branch_name op; mnemonic = mnemonic.Branch op; operands = reg_text c1 ∷ reg_text c2 ∷ target_text target ∷ []; named = branch_named op;
     line = then_space (branch_name op) _ _ (branch_named op).word (then_comma (reg_text c1) _ _ (register_word c1 h.0) (then_comma (reg_text c2) _ _ (register_word c2 h.1) (last_word (target_text target) (target_word target (omega (arith, h.2))))));
-    read = branch_back (branch_name op) places op c1 c2 target h.0 h.1 (omega (arith, h.2)) h.2 }
-form_reads places (Jump cd target) few h =
+    read = branch_back (branch_name op) places op c1 c2 target h.0 h.1 (omega (arith, h.2)) (omega (arith, h.2)) }
+form_reads places count (Jump cd target) few enough h =
     record { name = codes "cjal"; mnemonic = mnemonic.Jump; operands = reg_text cd ∷ target_text target ∷ []; named = jump_named;
     line = then_space (codes "cjal") _ _ jump_named.word (then_comma (reg_text cd) _ _ (register_word cd h.0) (last_word (target_text target) (target_word target (omega (arith, h.1)))));
-    read = jump_back (codes "cjal") places cd target h.0 (omega (arith, h.1)) h.1 }
-form_reads places (Invoke c1 c2) few h =
+    read = jump_back (codes "cjal") places cd target h.0 (omega (arith, h.1)) (omega (arith, h.1)) }
+form_reads places count (Invoke c1 c2) few enough h =
     record { name = codes "cinvoke"; mnemonic = mnemonic.Invoke; operands = reg_text c1 ∷ reg_text c2 ∷ []; named = invoke_named;
     line = then_space (codes "cinvoke") _ _ invoke_named.word (then_comma (reg_text c1) _ _ (register_word c1 h.0) (last_word (reg_text c2) (register_word c2 h.1)));
     read = invoke_back (codes "cinvoke") c1 c2 h.0 h.1 }
-form_reads places Alone few h =
+form_reads places count Alone few enough h =
     record { name = codes "ecall"; mnemonic = mnemonic.Alone; operands = []; named = alone_named; line = last_word (codes "ecall") alone_named.word; read = alone_back (codes "ecall") }

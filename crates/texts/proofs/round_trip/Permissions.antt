@@ -102,12 +102,16 @@ module _ (perms : ℕ) where
       whole_step _ row rows name names refl (first _ _ e) (second (has_name row) _ e) (whole_parts rows name names (second (has_name row) _ e)) h
 
   -- reading the names one after another gives their bits
+  with_one : (acc : ℕ) (row : Row) → has_name row ≡ true → with_named (Some (set_of acc)) row.0 ≡ Some (set_of (bit_or acc row.1))
+  unfolding with_named
+  with_one acc row e = rw (named row e) refl
+
   fold_step : (test : Bool) (acc : ℕ) (row : Row) (rows : List Row) → (bit_and perms row.1 == row.1) ≡ test → has_name row ≡ true
       → fold with_named (Some (set_of (bit_or acc row.1))) (names_in rows) ≡ Some (set_of (bits_in (bit_or acc row.1) rows))
       → fold with_named (Some (set_of acc)) (names_in rows) ≡ Some (set_of (bits_in acc rows))
       → fold with_named (Some (set_of acc)) (names_in (row ∷ rows)) ≡ Some (set_of (bits_in acc (row ∷ rows)))
-  unfolding names_in bits_in with_named
-  fold_step true acc row rows t e taken skipped = rw (t, named row e) taken
+  unfolding names_in bits_in
+  fold_step true acc row rows t e taken skipped = rw t (ap (λ set. fold with_named set (names_in rows)) (with_one acc row e) ∙ taken)
   fold_step false acc row rows t e taken skipped = rw t skipped
 
   fold_names : (acc : ℕ) (rows : List Row) → list_all has_name rows ≡ true → fold with_named (Some (set_of acc)) (names_in rows) ≡ Some (set_of (bits_in acc rows))
@@ -253,7 +257,7 @@ filled_names (b ∷ word) perms e = filled_cons b word
 
 -- a permission set's text
 set_step : (all none : Bool) (perms : ℕ) → IsPermissionSet perms → (perms == all_permissions) ≡ all → (perms == 0) ≡ none → permissions_of (perms_text perms) ≡ Ok (set_of perms)
-unfolding perms_text
+unfolding perms_text permissions_of
 set_step true none perms h a n = let same : perms ≡ all_permissions = grind (arith, nat_tests) in rw a (ap (λ p. Ok (set_of p)) (sym same))
 set_step false true perms h a n = let same : perms ≡ 0 = grind (arith, nat_tests) in rw (a, n) (ap (λ p. Ok (set_of p)) (sym same))
 set_step false false perms h a n =
