@@ -7,3 +7,7 @@ pub mod Names
 pub mod Forms
 pub mod Permissions
 pub mod Capabilities
+pub mod Bytes
+pub mod Reading
+pub mod Granules
+pub mod Statements

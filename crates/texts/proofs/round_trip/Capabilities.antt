@@ -43,7 +43,7 @@ other_word word n true t e =
     let same : word ≡ codes "sentry" = (bytes_eq-Decides word (codes "sentry")).0 t in
     absurd (let clash : Ok n ≡ Err Operand = sym e ∙ ap number_of same ∙ no_sentry in cc)
 
-number_read : (n : ℕ) → n < 2 ^ 128 → type_operand_of (decimal n) ≡ Ok (Number (Some n))
+pub number_read : (n : ℕ) → n < 2 ^ 128 → type_operand_of (decimal n) ≡ Ok (Number (Some n))
 unfolding type_operand_of
 number_read n low = rw (other_word (decimal n) (Some n) _ refl (decimal_reads n low), decimal_reads n low) refl
 

@@ -67,7 +67,7 @@ hex_begins ds = both _ true (both (nat_le 2 (suc (suc (length ds)))) true (long 
     long : (n : ℕ) → nat_le 2 (suc (suc n)) ≡ true
     long n = grind (arith, nat_tests)
 
-after_0x : (ds : List ℕ) → number_of (0x30 ∷ 0x78 ∷ ds) ≡ number_of_digits 16 ds
+pub after_0x : (ds : List ℕ) → number_of (0x30 ∷ 0x78 ∷ ds) ≡ number_of_digits 16 ds
 unfolding number_of
 after_0x ds = rw (hex_begins ds) refl
 
@@ -76,7 +76,7 @@ hex_reads n low =
     let shape = digits_is_IsNumeral 16 false (omega arith) (omega arith) n (omega arith) in
     after_0x (digits 16 false n) ∙ number_where 16 (digits 16 false n) n shape.0 shape.1 low
 
-hex_word_of : (ds : List ℕ) → list_all is_word_byte ds ≡ true → IsWord (0x30 ∷ 0x78 ∷ ds)
+pub hex_word_of : (ds : List ℕ) → list_all is_word_byte ds ≡ true → IsWord (0x30 ∷ 0x78 ∷ ds)
 unfolding is_word_byte is_open is_blank
 hex_word_of ds e = record { filled = filled_cons 0x30 (0x78 ∷ ds); bytes = e }
 

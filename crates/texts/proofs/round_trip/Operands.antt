@@ -22,7 +22,7 @@ use Rattle.texts.proofs.round_trip.Lines.{before_at, dropped_start}
 use Rattle.texts.proofs.round_trip.Numbers.{decimal_reads, decimal_word, digit_bytes, number_where}
 
 -- what all numbers below a limit pass
-pub all_below : (ℕ → Bool) → ℕ → Bool
+unfoldable pub all_below : (ℕ → Bool) → ℕ → Bool
 all_below p zero = true
 all_below p (suc n) = p n && all_below p n
 
