@@ -11,3 +11,5 @@ pub mod Bytes
 pub mod Reading
 pub mod Granules
 pub mod Statements
+pub mod Memories
+pub mod Registers

@@ -18,3 +18,4 @@ pub mod ListingStatement
 pub mod ListingMeaning
 pub mod ListingInstructions
 pub mod ListingCanon
+pub mod Listable

@@ -1,6 +1,6 @@
 -- An instruction's text reads back to its form, one lemma for each form of operands.
 use Rattle.std.proofs.Common.{◌≡◌, ℕ, ◌+◌, ◌-◌, ◌^◌, ◌<◌, ◌≤◌, Bool, false, List, [], ◌∷◌, ◌++◌, Some, Result, Ok, refl, arith}
-use Rattle.std.specs.Prelude.{codes, decimal, ℤ, ⊤}
+use Rattle.std.specs.Prelude.{codes, decimal, ℤ}
 use Rattle.std.specs.Fmt.{signed_decimal}
 use Rattle.cheri_model.specs.declared.form.Form.{Form}
 use Rattle.cheri_model.specs.declared.form.Form.TheVariants.{Three, Two, Immediate, Shift, WordShift, SetBoundsImm, Upper, Load, Store, Swap, Branch, Jump, Invoke, Alone}
@@ -16,6 +16,7 @@ use Rattle.cheri_model.specs.declared.form.BranchOp.{BranchOp}
 use Rattle.texts.specs.declared.listing.fault.ListingFaultKind.{ListingFaultKind}
 use Rattle.texts.specs.declared.listing.mnemonics.Mnemonic.{Mnemonic}
 use Rattle.texts.specs.declared.listing.mnemonics.Mnemonic.TheVariants as mnemonic
+use Rattle.texts.specs.Listable.{Is12Bits, IsReadable}
 use Rattle.texts.specs.ListingTokens.{token_at}
 use Rattle.texts.specs.ListingLabels.{PlaceParts}
 use Rattle.texts.specs.ListingForms.{counted, three_form, two_form, immediate_form, shift_form, word_shift_form, set_bounds_form, upper_form, load_form, store_form, swap_form, branch_form, jump_form, invoke_form, alone_form, form_from}
@@ -23,25 +24,8 @@ use Rattle.texts.specs.ListingInstructions.{form_text, three_name, two_name, imm
 use Rattle.texts.proofs.round_trip.Words.{IsWord}
 use Rattle.texts.proofs.round_trip.Lines.{IsLine, last_word, then_space, then_comma}
 use Rattle.texts.proofs.round_trip.Numbers.{decimal_word}
-use Rattle.texts.proofs.round_trip.Operands.{reg_text, register_reads, register_word, Is12Bits, operand_of, signed_reads, signed_in_range, signed_word, plain_reads, up_to_reads, memory_text, memory_reads, memory_word, target_text, target_reads, target_in_range, target_word}
+use Rattle.texts.proofs.round_trip.Operands.{reg_text, register_reads, register_word, operand_of, signed_reads, signed_in_range, signed_word, plain_reads, up_to_reads, memory_text, memory_reads, memory_word, target_text, target_reads, target_in_range, target_word}
 use Rattle.texts.proofs.round_trip.Names.{IsName, three_named, two_named, immediate_named, shift_named, word_shift_named, upper_named, load_named, store_named, branch_named, set_bounds_named, swap_named, jump_named, invoke_named, alone_named}
-
--- operands in the ranges of a listing with this many instruction lines
-abbrev pub IsReadable : ℕ → Form → Type 0
-IsReadable count (Three op cd c1 c2) = (cd < 32) × (c1 < 32) × (c2 < 32)
-IsReadable count (Two op cd c1) = (cd < 32) × (c1 < 32)
-IsReadable count (Immediate op cd c1 imm) = (cd < 32) × (c1 < 32) × Is12Bits imm
-IsReadable count (Shift op cd c1 amount) = (cd < 32) × (c1 < 32) × (amount ≤ 63)
-IsReadable count (WordShift op cd c1 amount) = (cd < 32) × (c1 < 32) × (amount ≤ 31)
-IsReadable count (SetBoundsImm cd c1 len) = (cd < 32) × (c1 < 32) × (len ≤ 4095)
-IsReadable count (Upper op cd imm) = (cd < 32) × (imm ≤ 2 ^ 20 - 1)
-IsReadable count (Load op cd c1 imm) = (cd < 32) × (c1 < 32) × Is12Bits imm
-IsReadable count (Store op c2 c1 imm) = (c2 < 32) × (c1 < 32) × Is12Bits imm
-IsReadable count (Swap cd c2 c1) = (cd < 32) × (c2 < 32) × (c1 < 32)
-IsReadable count (Branch op c1 c2 target) = (c1 < 32) × (c2 < 32) × (target ≤ count)
-IsReadable count (Jump cd target) = (cd < 32) × (target ≤ count)
-IsReadable count (Invoke c1 c2) = (c1 < 32) × (c2 < 32)
-IsReadable count Alone = ⊤
 
 -- a text is a line of an instruction's name and operands, which read as a form
 pub record ReadsAs (places : PlaceParts) (text : List ℕ) (whole : Form) : Type 0 where

@@ -12,6 +12,7 @@ use Rattle.texts.specs.declared.listing.fault.ListingFaultKind.{ListingFaultKind
 use Rattle.texts.specs.declared.listing.operands.Immediate.{Immediate}
 use Rattle.texts.specs.declared.listing.operands.MemoryOperand.{MemoryOperand}
 use Rattle.texts.specs.declared.listing.labels.TargetOperand.TheVariants.{Number}
+use Rattle.texts.specs.Listable.{Is12Bits}
 use Rattle.texts.specs.ListingTokens.{is_blank}
 use Rattle.texts.specs.ListingNumerals.{number_of, at_most}
 use Rattle.texts.specs.ListingOperands.{register_of, immediate_of, immediate_of_12_bits, immediate_up_to, begins_minus, is_bracketed, between_brackets, before_bracket, from_bracket, memory_operand_from, memory_operand_of}
@@ -115,11 +116,6 @@ in_range n limit h = rw (test_le n limit h) refl
 pub up_to_reads : (n limit : ℕ) → n ≤ limit → immediate_up_to limit (record { negative = false; size = Some n }) ≡ Ok n
 unfolding immediate_up_to
 up_to_reads n limit h = in_range n limit h
-
--- an immediate of 12 bits
-abbrev pub Is12Bits : ℤ → Type 0
-Is12Bits (pos n) = n ≤ 2047
-Is12Bits (negsuc n) = n ≤ 2047
 
 abbrev pub operand_of : ℤ → Immediate
 operand_of (pos n) = record { negative = false; size = Some n }

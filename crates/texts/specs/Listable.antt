@@ -1,0 +1,66 @@
+-- The images that have a listing: what listings can write (this project's own format).
+use Rattle.std.specs.Prelude.{◌≡◌, ⊤, ℕ, ℤ, pos, negsuc, ◌*◌, ◌-◌, ◌^◌, ◌<◌, ◌≤◌, true, List, length}
+use Rattle.std.specs.List.{AllByRecursion}
+use Rattle.cheri_model.specs.declared.instr.Instr.{Instr}
+use Rattle.cheri_model.specs.declared.image.HartImage.{HartImage}
+use Rattle.cheri_model.specs.declared.image.TheConstants.{MAX_HARTS, MAX_INSTRUCTIONS}
+use Rattle.cheri_model.specs.declared.form.Form.{Form}
+use Rattle.cheri_model.specs.declared.form.Form.TheVariants.{Three, Two, Immediate, Shift, WordShift, SetBoundsImm, Upper, Load, Store, Swap, Branch, Jump, Invoke, Alone}
+use Rattle.cheri_model.specs.Form.{form_of}
+use Rattle.cheri_model.specs.Capability.{IsLawful, unsealed_type}
+use Rattle.cheri_model.specs.CapValue.{CapValue, valid, raw}
+use Rattle.cheri_model.specs.Memory.{ram_base, is_ram_size}
+use Rattle.cheri_model.specs.Image.{ImageParts}
+use Rattle.texts.specs.ListingMeaning.{listed_from}
+
+-- any untagged word, and each lawful capability whose flag is 0
+abbrev pub IsWritable : CapValue → Type 0
+IsWritable (valid c) = IsLawful c × (c.flag ≡ 0)
+IsWritable (raw word) = word < 2 ^ 128
+
+-- a PCC is tagged and unsealed
+abbrev pub IsWritablePcc : CapValue → Type 0
+IsWritablePcc (valid c) = IsLawful c × (c.flag ≡ 0) × (c.otype ≡ unsealed_type)
+IsWritablePcc (raw word) = ⊥
+
+pub record IsWritableHart (hart : HartImage) : Type 0 where
+  pub program_counter : IsWritablePcc hart.pcc
+  pub count : length hart.regs ≡ 31
+  pub values : AllByRecursion IsWritable hart.regs
+
+-- an immediate from -2,048 to 2,047
+abbrev pub Is12Bits : ℤ → Type 0
+Is12Bits (pos n) = n ≤ 2047
+Is12Bits (negsuc n) = n ≤ 2047
+
+-- operands in their ranges, in a listing with this many instruction lines
+abbrev pub IsReadable : ℕ → Form → Type 0
+IsReadable count (Three op cd c1 c2) = (cd < 32) × (c1 < 32) × (c2 < 32)
+IsReadable count (Two op cd c1) = (cd < 32) × (c1 < 32)
+IsReadable count (Immediate op cd c1 imm) = (cd < 32) × (c1 < 32) × Is12Bits imm
+IsReadable count (Shift op cd c1 amount) = (cd < 32) × (c1 < 32) × (amount ≤ 63)
+IsReadable count (WordShift op cd c1 amount) = (cd < 32) × (c1 < 32) × (amount ≤ 31)
+IsReadable count (SetBoundsImm cd c1 len) = (cd < 32) × (c1 < 32) × (len ≤ 4095)
+IsReadable count (Upper op cd imm) = (cd < 32) × (imm ≤ 2 ^ 20 - 1)
+IsReadable count (Load op cd c1 imm) = (cd < 32) × (c1 < 32) × Is12Bits imm
+IsReadable count (Store op c2 c1 imm) = (c2 < 32) × (c1 < 32) × Is12Bits imm
+IsReadable count (Swap cd c2 c1) = (cd < 32) × (c2 < 32) × (c1 < 32)
+IsReadable count (Branch op c1 c2 target) = (c1 < 32) × (c2 < 32) × (target ≤ count)
+IsReadable count (Jump cd target) = (cd < 32) × (target ≤ count)
+IsReadable count (Invoke c1 c2) = (c1 < 32) × (c2 < 32)
+IsReadable count Alone = ⊤
+
+-- Memory is of writable values, of which the image lists those worth it; so are the harts; the instructions are in
+-- their ranges; and there are as many of each as an image may have.
+pub record IsListable (image : ImageParts) : Type 0 where
+  pub memory : List CapValue
+  pub size : is_ram_size image.ram ≡ true
+  pub whole : image.ram ≡ 16 * length memory
+  pub listed : image.granules ≡ listed_from ram_base memory
+  pub values : AllByRecursion IsWritable memory
+  pub writable_harts : AllByRecursion IsWritableHart image.harts
+  pub some_harts : 0 < length image.harts
+  pub most_harts : length image.harts ≤ MAX_HARTS
+  pub readable : AllByRecursion (λ i. IsReadable (length image.program) (form_of i)) image.program
+  pub some_instructions : 0 < length image.program
+  pub most_instructions : length image.program ≤ MAX_INSTRUCTIONS
