@@ -13,3 +13,5 @@ pub mod Granules
 pub mod Statements
 pub mod Memories
 pub mod Registers
+pub mod Programs
+pub mod Whole
