@@ -15,3 +15,5 @@ pub mod Memories
 pub mod Registers
 pub mod Programs
 pub mod Whole
+pub mod Ranges
+pub mod FormRanges

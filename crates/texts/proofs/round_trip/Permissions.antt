@@ -12,7 +12,7 @@ use Rattle.bitflags.specs.Sets.{find_row}
 use Rattle.cheri_model.specs.declared.perms.Perms.{Perms}
 use Rattle.cheri_model.specs.PermissionNames.{permission_table, all_permissions}
 use Rattle.cheri_model.specs.Capability.{IsPermissionSet}
-use Rattle.cheri_model.proofs.PermissionSets.{set_drops_nothing}
+use Rattle.cheri_model.proofs.Results.PermissionSets.{set_drops_nothing}
 use Rattle.texts.specs.declared.listing.fault.ListingFaultKind.{ListingFaultKind}
 use Rattle.texts.specs.declared.listing.fault.ListingFaultKind.TheVariants.{Operand}
 use Rattle.texts.specs.ListingTokens.{is_blank, is_filled}

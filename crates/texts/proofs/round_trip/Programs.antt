@@ -10,7 +10,7 @@ use Rattle.std.proofs.Common.{inl, inr}
 use Rattle.cheri_model.specs.declared.instr.Instr.{Instr}
 use Rattle.cheri_model.specs.declared.image.HartImage.{HartImage}
 use Rattle.cheri_model.specs.Form.{form_of, instr_of}
-use Rattle.cheri_model.proofs.Forms.{instr_of-form_of}
+use Rattle.cheri_model.proofs.Runs.Instructions.{instr_of-form_of}
 use Rattle.cheri_model.specs.Capability as capability
 use Rattle.cheri_model.specs.Capability.{IsLawful, unsealed_type}
 use Rattle.cheri_model.specs.CapValue.{CapValue, valid, raw, parts_of}
