@@ -1,9 +1,9 @@
 -- What is before the bracket of a memory operand.
-use Rattle.std.proofs.Common.{◌≡◌, ℕ, ◌≤◌, ◌==◌, Bool, true, false, cond, nat_lt, List, [], length, take, drop, Some, None, refl, ap, ◌∙◌, position, arith}
+use Rattle.std.proofs.Common.{◌≡◌, ℕ, ◌≤◌, ◌==◌, false, nat_lt, List, length, take, Some, None, ap, position, arith}
 use Rattle.std.specs.List.{position_or_len}
 use Rattle.std.proofs.lemmas.Bool.Decides.{nat_tests}
 use Rattle.std.proofs.lemmas.List.{take_all}
-use Rattle.texts.specs.ListingOperands.{before_bracket, from_bracket}
+use Rattle.texts.specs.ListingOperands.{before_bracket}
 use Rattle.texts.proofs.LineLemmas.{found_at, not_found}
 
 module _ (token : List ℕ) where

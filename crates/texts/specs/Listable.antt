@@ -1,7 +1,6 @@
 -- The images that have a listing: what listings can write (this project's own format).
 use Rattle.std.specs.Prelude.{◌≡◌, ⊤, ℕ, ℤ, pos, negsuc, ◌*◌, ◌-◌, ◌^◌, ◌<◌, ◌≤◌, true, List, length}
 use Rattle.std.specs.List.{AllByRecursion}
-use Rattle.cheri_model.specs.declared.instr.Instr.{Instr}
 use Rattle.cheri_model.specs.declared.image.HartImage.{HartImage}
 use Rattle.cheri_model.specs.declared.image.TheConstants.{MAX_HARTS, MAX_INSTRUCTIONS}
 use Rattle.cheri_model.specs.declared.form.Form.{Form}

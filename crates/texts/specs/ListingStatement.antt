@@ -1,6 +1,6 @@
 -- What one line of a listing makes of what the lines before it made (this project's own format). First come the
 -- shapes of all its operands, then their ranges, and so on in the order of the kinds of faults.
-use Rattle.std.specs.Prelude.{ℕ, ◌-◌, ◌^◌, ◌==◌, if◌then◌else◌, List, [], length, Option, Some, None, Result, Ok, Err, codes, bytes_eq}
+use Rattle.std.specs.Prelude.{ℕ, ◌-◌, ◌^◌, ◌==◌, if◌then◌else◌, List, length, Option, Some, None, Result, Ok, Err, codes, bytes_eq}
 use Rattle.hex.specs.Hex.{decode_of}
 use Rattle.hex.specs.declared.error.FromHexError.{FromHexError}
 use Rattle.cheri_model.specs.Form.{instr_of}

@@ -9,6 +9,6 @@ ghost use Rattle.texts.specs.ListingMeaning.{listing_limit, listing_meaning};
 /// The canonical listing of an image that listings can write means that image, where it is not
 /// longer than a listing may be.
 pub fn canonical_listing_reads_back()
-    ensures { (image : ImageParts) → IsListable image → length (canon image) ≤ listing_limit →
-        listing_meaning (canon image) ≡ Ok image }
+    ensures { (image : ImageParts) → IsListable image →
+        length (canon image) ≤ listing_limit → listing_meaning (canon image) ≡ Ok image }
 {}

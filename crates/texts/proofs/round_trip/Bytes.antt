@@ -1,5 +1,5 @@
 -- Words as bytes: the bytes of a granule and the hexadecimal digits of a register's word read back.
-use Rattle.std.proofs.Common.{◌≡◌, ℕ, zero, suc, ◌+◌, ◌-◌, ◌*◌, ◌/◌, ◌%◌, ◌^◌, ◌<◌, ◌≤◌, ◌==◌, ◌&&◌, nat_lt, Bool, true, false, not, List, [], ◌∷◌, ◌++◌, length, get_or, Some, Ok, refl, sym, ap, ◌∙◌, arith}
+use Rattle.std.proofs.Common.{◌≡◌, ℕ, zero, suc, ◌+◌, ◌*◌, ◌/◌, ◌%◌, ◌^◌, ◌<◌, ◌==◌, ◌&&◌, Bool, true, false, List, [], ◌∷◌, ◌++◌, length, Some, Ok, refl, sym, ap, ◌∙◌, arith}
 use Rattle.std.specs.Prelude.{slice_index}
 use Rattle.std.specs.Int.{to_le_bytes, to_be_bytes, bytes_low_first, bytes_high_first, byte_at, w64}
 use Rattle.std.specs.Char.{digit_value}
@@ -12,8 +12,8 @@ use Rattle.std.proofs.Math.Nat.{pow-suc, div-div-eq-div-mul}
 use Rattle.hex.specs.Hex.{encode_with, lower_digits, encode_lower, decode_of, IsBytes}
 use Rattle.hex.proofs.HexLemmas.{decode_of-encode_lower}
 use Rattle.texts.specs.ListingTokens.{is_blank, is_filled}
-use Rattle.texts.specs.ListingNumerals.{number_of, number_of_digits}
-use Rattle.texts.specs.ListingCanon.{memory_text, word_text, hex_number}
+use Rattle.texts.specs.ListingNumerals.{number_of}
+use Rattle.texts.specs.ListingCanon.{memory_text, word_text}
 use Rattle.texts.proofs.PermissionTexts.{first, second}
 use Rattle.texts.proofs.round_trip.Words.{is_open, is_word_byte, IsWord, both, all_joined, filled_cons}
 use Rattle.texts.proofs.round_trip.Numbers.{digit_bytes, number_where, after_0x, hex_word_of}

@@ -1,14 +1,12 @@
 -- A lawful capability with flag 0 reads back from its parts.
-use Rattle.std.proofs.Common.{◌≡◌, ℕ, ◌+◌, ◌-◌, ◌^◌, ◌<◌, ◌≤◌, ◌==◌, Bool, true, false, cond, List, [], ◌∷◌, ◌++◌, length, Option, Some, Result, Ok, Err, refl, sym, ap, ◌∙◌, arith}
+use Rattle.std.proofs.Common.{◌≡◌, ℕ, ◌+◌, ◌-◌, ◌^◌, ◌<◌, ◌≤◌, ◌==◌, Bool, true, false, List, [], ◌∷◌, ◌++◌, Option, Some, Ok, Err, refl, sym, ap, ◌∙◌, arith}
 use Rattle.std.specs.Prelude.{codes, decimal, bytes_eq, if◌then◌else◌}
 use Rattle.std.proofs.lemmas.Bool.Decides.{nat_tests}
 use Rattle.std.proofs.lemmas.List.{append-nil}
 use Rattle.std.proofs.lemmas.Slice.Eq.{bytes_eq-Decides}
 use Rattle.cheri_model.specs.Capability.{Capability, IsLawful, IsLawfulType, unsealed_type, sentry_type, last_sealable_type}
-use Rattle.cheri_model.specs.CapValue.{CapValue, valid}
-use Rattle.cap_ops.specs.Making.{made}
+use Rattle.cheri_model.specs.CapValue.{valid}
 use Rattle.cap_ops.proofs.MadeAgain.{made_again}
-use Rattle.texts.specs.declared.listing.fault.ListingFaultKind.{ListingFaultKind}
 use Rattle.texts.specs.declared.listing.fault.ListingFaultKind.TheVariants.{Operand}
 use Rattle.texts.specs.declared.listing.operands.TypeOperand.{TypeOperand}
 use Rattle.texts.specs.declared.listing.operands.TypeOperand.TheVariants.{Unsealed, Sentry, Number}
@@ -18,7 +16,7 @@ use Rattle.texts.specs.ListingTokens.{token_at, is_blank}
 use Rattle.texts.specs.ListingNumerals.{number_of}
 use Rattle.texts.specs.ListingOperands.{type_operand_of, type_in_range}
 use Rattle.texts.specs.ListingPermissions.{set_of}
-use Rattle.texts.specs.ListingCapability.{cap_operands_of, optional_type, cap_tokens, cap_parts_of, capability_of}
+use Rattle.texts.specs.ListingCapability.{cap_operands_of, cap_parts_of, capability_of}
 use Rattle.texts.specs.ListingCanon.{hex_number, perms_text, type_text, cap_text}
 use Rattle.texts.proofs.round_trip.Words.{is_open, is_word_byte, IsWord}
 use Rattle.texts.proofs.round_trip.Lines.{IsLine, last_word, then_space}

@@ -1,6 +1,5 @@
 -- The operands of an instruction that reads without a fault are in their ranges.
-use Rattle.std.proofs.Common.{◌≡◌, ℕ, ◌-◌, ◌^◌, ◌<◌, ◌≤◌, Bool, true, false, List, length, Result, Ok, Err, refl, sym, ap, ◌∙◌, subst, arith}
-use Rattle.std.specs.Prelude.{ℤ}
+use Rattle.std.proofs.Common.{◌≡◌, ℕ, ◌-◌, ◌^◌, ◌≤◌, List, Result, Ok, Err, subst, arith}
 use Rattle.cheri_model.specs.declared.form.Form.{Form}
 use Rattle.cheri_model.specs.declared.form.Form.TheVariants as form
 use Rattle.cheri_model.specs.declared.form.ThreeOp.{ThreeOp}
@@ -20,7 +19,7 @@ use Rattle.texts.specs.ListingTokens.{token_at}
 use Rattle.texts.specs.ListingOperands.{register_of, immediate_of, immediate_of_12_bits, immediate_up_to, memory_operand_of}
 use Rattle.texts.specs.ListingLabels.{PlaceParts, target_operand_of, target_of}
 use Rattle.texts.specs.ListingForms.{counted, three_form, two_form, immediate_form, shift_form, word_shift_form, set_bounds_form, upper_form, load_form, store_form, swap_form, branch_form, jump_form, invoke_form, alone_form, form_from}
-use Rattle.texts.specs.Listable.{Is12Bits, IsReadable}
+use Rattle.texts.specs.Listable.{IsReadable}
 use Rattle.texts.proofs.round_trip.Ranges.{then_ok, register_ok, twelve_ok, up_to_ok, memory_ok, IsBounded, target_ok}
 
 -- what an answer says of its value

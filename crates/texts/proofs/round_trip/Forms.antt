@@ -1,5 +1,5 @@
 -- An instruction's text reads back to its form, one lemma for each form of operands.
-use Rattle.std.proofs.Common.{◌≡◌, ℕ, ◌+◌, ◌-◌, ◌^◌, ◌<◌, ◌≤◌, Bool, false, List, [], ◌∷◌, ◌++◌, Some, Result, Ok, refl, arith}
+use Rattle.std.proofs.Common.{◌≡◌, ℕ, ◌-◌, ◌^◌, ◌<◌, ◌≤◌, List, [], ◌∷◌, Ok, refl, arith}
 use Rattle.std.specs.Prelude.{codes, decimal, ℤ}
 use Rattle.std.specs.Fmt.{signed_decimal}
 use Rattle.cheri_model.specs.declared.form.Form.{Form}
@@ -13,7 +13,6 @@ use Rattle.cheri_model.specs.declared.form.UpperOp.{UpperOp}
 use Rattle.cheri_model.specs.declared.form.LoadOp.{LoadOp}
 use Rattle.cheri_model.specs.declared.form.StoreOp.{StoreOp}
 use Rattle.cheri_model.specs.declared.form.BranchOp.{BranchOp}
-use Rattle.texts.specs.declared.listing.fault.ListingFaultKind.{ListingFaultKind}
 use Rattle.texts.specs.declared.listing.mnemonics.Mnemonic.{Mnemonic}
 use Rattle.texts.specs.declared.listing.mnemonics.Mnemonic.TheVariants as mnemonic
 use Rattle.texts.specs.Listable.{Is12Bits, IsReadable}
@@ -21,10 +20,9 @@ use Rattle.texts.specs.ListingTokens.{token_at}
 use Rattle.texts.specs.ListingLabels.{PlaceParts}
 use Rattle.texts.specs.ListingForms.{counted, three_form, two_form, immediate_form, shift_form, word_shift_form, set_bounds_form, upper_form, load_form, store_form, swap_form, branch_form, jump_form, invoke_form, alone_form, form_from}
 use Rattle.texts.specs.ListingInstructions.{form_text, three_name, two_name, immediate_name, shift_name, word_shift_name, upper_name, load_name, store_name, branch_name}
-use Rattle.texts.proofs.round_trip.Words.{IsWord}
 use Rattle.texts.proofs.round_trip.Lines.{IsLine, last_word, then_space, then_comma}
 use Rattle.texts.proofs.round_trip.Numbers.{decimal_word}
-use Rattle.texts.proofs.round_trip.Operands.{reg_text, register_reads, register_word, operand_of, signed_reads, signed_in_range, signed_word, plain_reads, up_to_reads, memory_text, memory_reads, memory_word, target_text, target_reads, target_in_range, target_word}
+use Rattle.texts.proofs.round_trip.Operands.{reg_text, register_reads, register_word, signed_reads, signed_in_range, signed_word, plain_reads, up_to_reads, memory_text, memory_reads, memory_word, target_text, target_reads, target_in_range, target_word}
 use Rattle.texts.proofs.round_trip.Names.{IsName, three_named, two_named, immediate_named, shift_named, word_shift_named, upper_named, load_named, store_named, branch_named, set_bounds_named, swap_named, jump_named, invoke_named, alone_named}
 
 -- a text is a line of an instruction's name and operands, which read as a form where there are enough instruction lines
@@ -99,56 +97,121 @@ module _ (name : List ℕ) where
 pub form_reads : (count : ℕ) (whole : Form) → count < 2 ^ 128 → IsReadable count whole → ReadsAs count (form_text whole) whole
 unfolding form_text form_from
 form_reads count (Three op cd c1 c2) few h =
-    record { name = three_name op; mnemonic = mnemonic.Three op; operands = reg_text cd ∷ reg_text c1 ∷ reg_text c2 ∷ []; named = three_named op;
-    line = then_space (three_name op) _ _ (three_named op).word (then_comma (reg_text cd) _ _ (register_word cd h.0) (then_comma (reg_text c1) _ _ (register_word c1 h.1) (last_word (reg_text c2) (register_word c2 h.2))));
-    read = λ places enough. three_back (three_name op) op cd c1 c2 h.0 h.1 h.2 }
+    record {
+      name = three_name op;
+      mnemonic = mnemonic.Three op;
+      operands = reg_text cd ∷ reg_text c1 ∷ reg_text c2 ∷ [];
+      named = three_named op;
+      line = then_space (three_name op) _ _ (three_named op).word (then_comma (reg_text cd) _ _ (register_word cd h.0) (then_comma (reg_text c1) _ _ (register_word c1 h.1) (last_word (reg_text c2) (register_word c2 h.2))));
+      read = λ places enough. three_back (three_name op) op cd c1 c2 h.0 h.1 h.2;
+    }
 form_reads count (Two op cd c1) few h =
-    record { name = two_name op; mnemonic = mnemonic.Two op; operands = reg_text cd ∷ reg_text c1 ∷ []; named = two_named op;
-    line = then_space (two_name op) _ _ (two_named op).word (then_comma (reg_text cd) _ _ (register_word cd h.0) (last_word (reg_text c1) (register_word c1 h.1)));
-    read = λ places enough. two_back (two_name op) op cd c1 h.0 h.1 }
+    record {
+      name = two_name op;
+      mnemonic = mnemonic.Two op;
+      operands = reg_text cd ∷ reg_text c1 ∷ [];
+      named = two_named op;
+      line = then_space (two_name op) _ _ (two_named op).word (then_comma (reg_text cd) _ _ (register_word cd h.0) (last_word (reg_text c1) (register_word c1 h.1)));
+      read = λ places enough. two_back (two_name op) op cd c1 h.0 h.1;
+    }
 form_reads count (Immediate op cd c1 imm) few h =
-    record { name = immediate_name op; mnemonic = mnemonic.Immediate op; operands = reg_text cd ∷ reg_text c1 ∷ signed_decimal imm ∷ []; named = immediate_named op;
-    line = then_space (immediate_name op) _ _ (immediate_named op).word (then_comma (reg_text cd) _ _ (register_word cd h.0) (then_comma (reg_text c1) _ _ (register_word c1 h.1) (last_word (signed_decimal imm) (signed_word imm h.2))));
-    read = λ places enough. immediate_back (immediate_name op) op cd c1 imm h.0 h.1 h.2 }
+    record {
+      name = immediate_name op;
+      mnemonic = mnemonic.Immediate op;
+      operands = reg_text cd ∷ reg_text c1 ∷ signed_decimal imm ∷ [];
+      named = immediate_named op;
+      line = then_space (immediate_name op) _ _ (immediate_named op).word (then_comma (reg_text cd) _ _ (register_word cd h.0) (then_comma (reg_text c1) _ _ (register_word c1 h.1) (last_word (signed_decimal imm) (signed_word imm h.2))));
+      read = λ places enough. immediate_back (immediate_name op) op cd c1 imm h.0 h.1 h.2;
+    }
 form_reads count (Shift op cd c1 amount) few h =
-    record { name = shift_name op; mnemonic = mnemonic.Shift op; operands = reg_text cd ∷ reg_text c1 ∷ decimal amount ∷ []; named = shift_named op;
-    line = then_space (shift_name op) _ _ (shift_named op).word (then_comma (reg_text cd) _ _ (register_word cd h.0) (then_comma (reg_text c1) _ _ (register_word c1 h.1) (last_word (decimal amount) (decimal_word amount (omega (arith, h.2))))));
-    read = λ places enough. shift_back (shift_name op) op cd c1 amount h.0 h.1 h.2 }
+    record {
+      name = shift_name op;
+      mnemonic = mnemonic.Shift op;
+      operands = reg_text cd ∷ reg_text c1 ∷ decimal amount ∷ [];
+      named = shift_named op;
+      line = then_space (shift_name op) _ _ (shift_named op).word (then_comma (reg_text cd) _ _ (register_word cd h.0) (then_comma (reg_text c1) _ _ (register_word c1 h.1) (last_word (decimal amount) (decimal_word amount (omega (arith, h.2))))));
+      read = λ places enough. shift_back (shift_name op) op cd c1 amount h.0 h.1 h.2;
+    }
 form_reads count (WordShift op cd c1 amount) few h =
-    record { name = word_shift_name op; mnemonic = mnemonic.WordShift op; operands = reg_text cd ∷ reg_text c1 ∷ decimal amount ∷ []; named = word_shift_named op;
-    line = then_space (word_shift_name op) _ _ (word_shift_named op).word (then_comma (reg_text cd) _ _ (register_word cd h.0) (then_comma (reg_text c1) _ _ (register_word c1 h.1) (last_word (decimal amount) (decimal_word amount (omega (arith, h.2))))));
-    read = λ places enough. word_shift_back (word_shift_name op) op cd c1 amount h.0 h.1 h.2 }
+    record {
+      name = word_shift_name op;
+      mnemonic = mnemonic.WordShift op;
+      operands = reg_text cd ∷ reg_text c1 ∷ decimal amount ∷ [];
+      named = word_shift_named op;
+      line = then_space (word_shift_name op) _ _ (word_shift_named op).word (then_comma (reg_text cd) _ _ (register_word cd h.0) (then_comma (reg_text c1) _ _ (register_word c1 h.1) (last_word (decimal amount) (decimal_word amount (omega (arith, h.2))))));
+      read = λ places enough. word_shift_back (word_shift_name op) op cd c1 amount h.0 h.1 h.2;
+    }
 form_reads count (SetBoundsImm cd c1 len) few h =
-    record { name = codes "csetboundsimm"; mnemonic = mnemonic.SetBoundsImm; operands = reg_text cd ∷ reg_text c1 ∷ decimal len ∷ []; named = set_bounds_named;
-    line = then_space (codes "csetboundsimm") _ _ set_bounds_named.word (then_comma (reg_text cd) _ _ (register_word cd h.0) (then_comma (reg_text c1) _ _ (register_word c1 h.1) (last_word (decimal len) (decimal_word len (omega (arith, h.2))))));
-    read = λ places enough. set_bounds_back (codes "csetboundsimm") cd c1 len h.0 h.1 h.2 }
+    record {
+      name = codes "csetboundsimm";
+      mnemonic = mnemonic.SetBoundsImm;
+      operands = reg_text cd ∷ reg_text c1 ∷ decimal len ∷ [];
+      named = set_bounds_named;
+      line = then_space (codes "csetboundsimm") _ _ set_bounds_named.word (then_comma (reg_text cd) _ _ (register_word cd h.0) (then_comma (reg_text c1) _ _ (register_word c1 h.1) (last_word (decimal len) (decimal_word len (omega (arith, h.2))))));
+      read = λ places enough. set_bounds_back (codes "csetboundsimm") cd c1 len h.0 h.1 h.2;
+    }
 form_reads count (Upper op cd imm) few h =
-    record { name = upper_name op; mnemonic = mnemonic.Upper op; operands = reg_text cd ∷ decimal imm ∷ []; named = upper_named op;
-    line = then_space (upper_name op) _ _ (upper_named op).word (then_comma (reg_text cd) _ _ (register_word cd h.0) (last_word (decimal imm) (decimal_word imm (omega (arith, h.1)))));
-    read = λ places enough. upper_back (upper_name op) op cd imm h.0 h.1 }
+    record {
+      name = upper_name op;
+      mnemonic = mnemonic.Upper op;
+      operands = reg_text cd ∷ decimal imm ∷ [];
+      named = upper_named op;
+      line = then_space (upper_name op) _ _ (upper_named op).word (then_comma (reg_text cd) _ _ (register_word cd h.0) (last_word (decimal imm) (decimal_word imm (omega (arith, h.1)))));
+      read = λ places enough. upper_back (upper_name op) op cd imm h.0 h.1;
+    }
 form_reads count (Load op cd c1 imm) few h =
-    record { name = load_name op; mnemonic = mnemonic.Load op; operands = reg_text cd ∷ memory_text imm c1 ∷ []; named = load_named op;
-    line = then_space (load_name op) _ _ (load_named op).word (then_comma (reg_text cd) _ _ (register_word cd h.0) (last_word (memory_text imm c1) (memory_word imm c1 h.2 h.1)));
-    read = λ places enough. load_back (load_name op) op cd c1 imm h.0 h.1 h.2 }
+    record {
+      name = load_name op;
+      mnemonic = mnemonic.Load op;
+      operands = reg_text cd ∷ memory_text imm c1 ∷ [];
+      named = load_named op;
+      line = then_space (load_name op) _ _ (load_named op).word (then_comma (reg_text cd) _ _ (register_word cd h.0) (last_word (memory_text imm c1) (memory_word imm c1 h.2 h.1)));
+      read = λ places enough. load_back (load_name op) op cd c1 imm h.0 h.1 h.2;
+    }
 form_reads count (Store op c2 c1 imm) few h =
-    record { name = store_name op; mnemonic = mnemonic.Store op; operands = reg_text c2 ∷ memory_text imm c1 ∷ []; named = store_named op;
-    line = then_space (store_name op) _ _ (store_named op).word (then_comma (reg_text c2) _ _ (register_word c2 h.0) (last_word (memory_text imm c1) (memory_word imm c1 h.2 h.1)));
-    read = λ places enough. store_back (store_name op) op c2 c1 imm h.0 h.1 h.2 }
+    record {
+      name = store_name op;
+      mnemonic = mnemonic.Store op;
+      operands = reg_text c2 ∷ memory_text imm c1 ∷ [];
+      named = store_named op;
+      line = then_space (store_name op) _ _ (store_named op).word (then_comma (reg_text c2) _ _ (register_word c2 h.0) (last_word (memory_text imm c1) (memory_word imm c1 h.2 h.1)));
+      read = λ places enough. store_back (store_name op) op c2 c1 imm h.0 h.1 h.2;
+    }
 form_reads count (Swap cd c2 c1) few h =
-    record { name = codes "amoswap.c"; mnemonic = mnemonic.Swap; operands = reg_text cd ∷ reg_text c2 ∷ reg_text c1 ∷ []; named = swap_named;
-    line = then_space (codes "amoswap.c") _ _ swap_named.word (then_comma (reg_text cd) _ _ (register_word cd h.0) (then_comma (reg_text c2) _ _ (register_word c2 h.1) (last_word (reg_text c1) (register_word c1 h.2))));
-    read = λ places enough. swap_back (codes "amoswap.c") cd c2 c1 h.0 h.1 h.2 }
+    record {
+      name = codes "amoswap.c";
+      mnemonic = mnemonic.Swap;
+      operands = reg_text cd ∷ reg_text c2 ∷ reg_text c1 ∷ [];
+      named = swap_named;
+      line = then_space (codes "amoswap.c") _ _ swap_named.word (then_comma (reg_text cd) _ _ (register_word cd h.0) (then_comma (reg_text c2) _ _ (register_word c2 h.1) (last_word (reg_text c1) (register_word c1 h.2))));
+      read = λ places enough. swap_back (codes "amoswap.c") cd c2 c1 h.0 h.1 h.2;
+    }
 form_reads count (Branch op c1 c2 target) few h =
-    record { name = branch_name op; mnemonic = mnemonic.Branch op; operands = reg_text c1 ∷ reg_text c2 ∷ target_text target ∷ []; named = branch_named op;
-    line = then_space (branch_name op) _ _ (branch_named op).word (then_comma (reg_text c1) _ _ (register_word c1 h.0) (then_comma (reg_text c2) _ _ (register_word c2 h.1) (last_word (target_text target) (target_word target (omega (arith, h.2))))));
-    read = λ places enough. branch_back (branch_name op) places op c1 c2 target h.0 h.1 (omega (arith, h.2)) (omega (arith, h.2)) }
+    record {
+      name = branch_name op;
+      mnemonic = mnemonic.Branch op;
+      operands = reg_text c1 ∷ reg_text c2 ∷ target_text target ∷ [];
+      named = branch_named op;
+      line = then_space (branch_name op) _ _ (branch_named op).word (then_comma (reg_text c1) _ _ (register_word c1 h.0) (then_comma (reg_text c2) _ _ (register_word c2 h.1) (last_word (target_text target) (target_word target (omega (arith, h.2))))));
+      read = λ places enough. branch_back (branch_name op) places op c1 c2 target h.0 h.1 (omega (arith, h.2)) (omega (arith, h.2));
+    }
 form_reads count (Jump cd target) few h =
-    record { name = codes "cjal"; mnemonic = mnemonic.Jump; operands = reg_text cd ∷ target_text target ∷ []; named = jump_named;
-    line = then_space (codes "cjal") _ _ jump_named.word (then_comma (reg_text cd) _ _ (register_word cd h.0) (last_word (target_text target) (target_word target (omega (arith, h.1)))));
-    read = λ places enough. jump_back (codes "cjal") places cd target h.0 (omega (arith, h.1)) (omega (arith, h.1)) }
+    record {
+      name = codes "cjal";
+      mnemonic = mnemonic.Jump;
+      operands = reg_text cd ∷ target_text target ∷ [];
+      named = jump_named;
+      line = then_space (codes "cjal") _ _ jump_named.word (then_comma (reg_text cd) _ _ (register_word cd h.0) (last_word (target_text target) (target_word target (omega (arith, h.1)))));
+      read = λ places enough. jump_back (codes "cjal") places cd target h.0 (omega (arith, h.1)) (omega (arith, h.1));
+    }
 form_reads count (Invoke c1 c2) few h =
-    record { name = codes "cinvoke"; mnemonic = mnemonic.Invoke; operands = reg_text c1 ∷ reg_text c2 ∷ []; named = invoke_named;
-    line = then_space (codes "cinvoke") _ _ invoke_named.word (then_comma (reg_text c1) _ _ (register_word c1 h.0) (last_word (reg_text c2) (register_word c2 h.1)));
-    read = λ places enough. invoke_back (codes "cinvoke") c1 c2 h.0 h.1 }
+    record {
+      name = codes "cinvoke";
+      mnemonic = mnemonic.Invoke;
+      operands = reg_text c1 ∷ reg_text c2 ∷ [];
+      named = invoke_named;
+      line = then_space (codes "cinvoke") _ _ invoke_named.word (then_comma (reg_text c1) _ _ (register_word c1 h.0) (last_word (reg_text c2) (register_word c2 h.1)));
+      read = λ places enough. invoke_back (codes "cinvoke") c1 c2 h.0 h.1;
+    }
 form_reads count Alone few h =
     record { name = codes "ecall"; mnemonic = mnemonic.Alone; operands = []; named = alone_named; line = last_word (codes "ecall") alone_named.word; read = λ places enough. alone_back (codes "ecall") }

@@ -1,13 +1,13 @@
 -- Lines made of words: what their tokens are, and where a line ends.
-use Rattle.std.proofs.Common.{◌≡◌, ℕ, ◌==◌, Bool, true, false, not, cond, List, [], ◌∷◌, ◌++◌, length, drop, filter, refl, sym, ap, ◌∙◌}
-use Rattle.std.specs.List.{list_all, slice_split, before_first, All, AllPass, position_or_len}
+use Rattle.std.proofs.Common.{◌≡◌, ℕ, ◌==◌, Bool, true, false, not, List, [], ◌∷◌, ◌++◌, length, drop, filter, refl, ap, ◌∙◌}
+use Rattle.std.specs.List.{list_all, slice_split, before_first, All}
 use Rattle.std.proofs.Math.Numerals.{one-add}
 use Rattle.std.proofs.lemmas.List.Elements.{All-nil, All-cons}
 use Rattle.std.proofs.lemmas.List.Splits.{slice_split_at, slice_split_none}
-use Rattle.texts.specs.ListingLines.{is_plain, lines_of, before_comment}
+use Rattle.texts.specs.ListingLines.{is_plain, lines_of}
 use Rattle.texts.specs.ListingTokens.{is_blank, is_filled, tokens_of}
 use Rattle.texts.proofs.PermissionTexts.{first, second}
-use Rattle.texts.proofs.round_trip.Words.{is_open, is_word_byte, IsWord, both, all_from, all_joined, open_byte, solid_byte, plain_byte, no_comment, no_newline}
+use Rattle.texts.proofs.round_trip.Words.{is_open, is_word_byte, IsWord, all_from, all_joined, open_byte, solid_byte, plain_byte, no_comment, no_newline}
 
 -- a line without a comment, which has these tokens
 pub record IsLine (line : List ℕ) (words : List (List ℕ)) : Type 0 where

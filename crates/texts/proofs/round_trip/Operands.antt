@@ -1,26 +1,25 @@
 -- Registers, immediates, memory operands and targets read back, and are one word each.
-use Rattle.std.proofs.Common.{◌≡◌, ℕ, zero, suc, subst, inl, inr, ◌+◌, ◌^◌, ◌<◌, ◌≤◌, ◌==◌, ◌&&◌, nat_lt, nat_le, Bool, true, false, not, cond, List, [], ◌∷◌, ◌++◌, length, drop, Option, Some, Result, Ok, Err, refl, sym, ap, ◌∙◌, arith}
-use Rattle.std.specs.Prelude.{ℤ, pos, negsuc, neg_ℤ, codes, decimal, slice_index}
+use Rattle.std.proofs.Common.{◌≡◌, ℕ, zero, suc, subst, inl, inr, ◌^◌, ◌<◌, ◌≤◌, ◌==◌, ◌&&◌, nat_le, Bool, true, false, not, cond, List, [], ◌∷◌, ◌++◌, length, drop, Option, Some, Result, Ok, Err, refl, ap, arith}
+use Rattle.std.specs.Prelude.{ℤ, pos, negsuc, decimal}
 use Rattle.std.specs.Char.{digit_value}
 use Rattle.std.specs.Fmt.{digits, signed_decimal}
-use Rattle.std.specs.List.{list_all, before_first}
+use Rattle.std.specs.List.{list_all}
 use Rattle.std.specs.Str.Parse.{AllDigits}
 use Rattle.std.proofs.lemmas.Bool.Decides.{nat_tests}
 use Rattle.std.proofs.lemmas.Bool.{cases_lt}
 use Rattle.std.proofs.lemmas.Fmt.{decimal_is_IsNumeral_wide}
 use Rattle.texts.specs.declared.listing.fault.ListingFaultKind.{ListingFaultKind}
 use Rattle.texts.specs.declared.listing.operands.Immediate.{Immediate}
-use Rattle.texts.specs.declared.listing.operands.MemoryOperand.{MemoryOperand}
 use Rattle.texts.specs.declared.listing.labels.TargetOperand.TheVariants.{Number}
 use Rattle.texts.specs.Listable.{Is12Bits}
 use Rattle.texts.specs.ListingTokens.{is_blank}
 use Rattle.texts.specs.ListingNumerals.{number_of, at_most}
-use Rattle.texts.specs.ListingOperands.{register_of, immediate_of, immediate_of_12_bits, immediate_up_to, begins_minus, is_bracketed, between_brackets, before_bracket, from_bracket, memory_operand_from, memory_operand_of}
+use Rattle.texts.specs.ListingOperands.{register_of, immediate_of, immediate_of_12_bits, immediate_up_to, begins_minus, is_bracketed, between_brackets, before_bracket, memory_operand_from, memory_operand_of}
 use Rattle.texts.specs.ListingLabels.{PlaceParts, begins_at_sign, target_operand_of, target_of}
 use Rattle.texts.proofs.PermissionTexts.{first, second}
-use Rattle.texts.proofs.round_trip.Words.{is_open, is_word_byte, IsWord, both, filled_cons, all_from, all_joined, word_cons, longer}
+use Rattle.texts.proofs.round_trip.Words.{is_open, is_word_byte, IsWord, both, filled_cons, all_joined, word_cons, longer}
 use Rattle.texts.proofs.round_trip.Lines.{before_at, dropped_start}
-use Rattle.texts.proofs.round_trip.Numbers.{decimal_reads, decimal_word, digit_bytes, number_where}
+use Rattle.texts.proofs.round_trip.Numbers.{decimal_reads, decimal_word, number_where}
 
 -- what all numbers below a limit pass
 unfoldable pub all_below : (ℕ → Bool) → ℕ → Bool

@@ -1,6 +1,6 @@
 -- A permission set reads back from its names.
-use Rattle.std.proofs.Common.{◌≡◌, ℕ, zero, suc, ◌+◌, ◌*◌, ◌^◌, ◌<◌, ◌≤◌, ◌==◌, ◌&&◌, Bool, true, false, not, cond, List, [], ◌∷◌, ◌++◌, length, Option, Some, None, Result, Ok, Err, fold, min, max, refl, sym, ap, ◌∙◌, subst, arith}
-use Rattle.std.specs.Prelude.{codes, bit_and, bit_or, bytes_eq, ok_or, option_map}
+use Rattle.std.proofs.Common.{◌≡◌, ℕ, zero, suc, ◌*◌, ◌^◌, ◌<◌, ◌==◌, ◌&&◌, Bool, true, false, not, cond, List, [], ◌∷◌, ◌++◌, Option, Some, None, Ok, fold, min, max, refl, sym, ap, ◌∙◌, subst, arith}
+use Rattle.std.specs.Prelude.{codes, bit_and, bit_or, bytes_eq}
 use Rattle.std.specs.Int.{bit_at}
 use Rattle.std.specs.List.{list_all, slice_split}
 use Rattle.std.proofs.lemmas.Bool.Decides.{nat_tests}
@@ -13,13 +13,11 @@ use Rattle.cheri_model.specs.declared.perms.Perms.{Perms}
 use Rattle.cheri_model.specs.PermissionNames.{permission_table, all_permissions}
 use Rattle.cheri_model.specs.Capability.{IsPermissionSet}
 use Rattle.cheri_model.proofs.Results.PermissionSets.{set_drops_nothing}
-use Rattle.texts.specs.declared.listing.fault.ListingFaultKind.{ListingFaultKind}
-use Rattle.texts.specs.declared.listing.fault.ListingFaultKind.TheVariants.{Operand}
 use Rattle.texts.specs.ListingTokens.{is_blank, is_filled}
 use Rattle.texts.specs.ListingPermissions.{permission_named, set_of, with_named, joined_names, permissions_of}
 use Rattle.texts.specs.ListingCanon.{joined_text, perms_text}
 use Rattle.texts.proofs.PermissionTexts.{first, second}
-use Rattle.texts.proofs.round_trip.Words.{is_open, is_word_byte, IsWord, both, negated, all_joined, filled_cons}
+use Rattle.texts.proofs.round_trip.Words.{is_open, is_word_byte, IsWord, negated, all_joined, filled_cons}
 use Rattle.texts.proofs.round_trip.Lines.{all_fail}
 
 abbrev Row : Type 0

@@ -1,10 +1,10 @@
 -- The lines of the harts and of the instructions read back.
-use Rattle.std.proofs.Common.{◌≡◌, ℕ, suc, ◌+◌, ◌*◌, ◌^◌, ◌<◌, ◌≤◌, ◌==◌, nat_lt, Bool, true, false, List, [], ◌∷◌, ◌++◌, length, Some, Ok, refl, sym, ap, ◌∙◌, subst, zero-add, append_assoc, length-append, arith}
-use Rattle.std.specs.Prelude.{codes, replicate, slice_index_or, is_some}
+use Rattle.std.proofs.Common.{◌≡◌, ℕ, ◌+◌, ◌^◌, ◌<◌, ◌≤◌, nat_lt, Bool, true, false, List, [], ◌∷◌, ◌++◌, length, Ok, refl, sym, ap, ◌∙◌, subst, zero-add, append_assoc, length-append, arith}
+use Rattle.std.specs.Prelude.{codes, replicate}
 use Rattle.std.specs.List.{AllByRecursion}
 use Rattle.std.proofs.Math.Numerals.{one-add}
 use Rattle.std.proofs.lemmas.Bool.Decides.{nat_tests}
-use Rattle.std.proofs.lemmas.List.{length-replicate, get_or-replicate, get_or_past, append-nil}
+use Rattle.std.proofs.lemmas.List.{get_or-replicate, get_or_past, append-nil}
 use Rattle.std.proofs.lemmas.Bool.{cases_lt}
 use Rattle.std.proofs.Common.{inl, inr}
 use Rattle.cheri_model.specs.declared.instr.Instr.{Instr}
@@ -13,19 +13,19 @@ use Rattle.cheri_model.specs.Form.{form_of, instr_of}
 use Rattle.cheri_model.proofs.Runs.Instructions.{instr_of-form_of}
 use Rattle.cheri_model.specs.Capability as capability
 use Rattle.cheri_model.specs.Capability.{IsLawful, unsealed_type}
-use Rattle.cheri_model.specs.CapValue.{CapValue, valid, raw, parts_of}
+use Rattle.cheri_model.specs.CapValue.{CapValue, valid, raw}
 use Rattle.texts.specs.declared.listing.mnemonics.Mnemonic.{Mnemonic}
 use Rattle.texts.specs.ListingTokens.{is_blank, token_at}
 use Rattle.texts.specs.ListingMnemonics.{is_instruction}
-use Rattle.texts.specs.ListingLabels.{PlaceParts, count_of}
+use Rattle.texts.specs.ListingLabels.{count_of}
 use Rattle.texts.specs.ListingDraft.{DraftParts, no_registers, hart_from}
 use Rattle.texts.specs.ListingInstructions.{form_text}
 use Rattle.texts.specs.ListingCanon.{each, cap_text, register_lines, hart_lines, program_line}
 use Rattle.texts.specs.Listable.{IsWritable, IsWritablePcc, IsWritableHart, IsReadable}
 use Rattle.texts.proofs.round_trip.Words.{is_open, is_word_byte, IsWord}
-use Rattle.texts.proofs.round_trip.Lines.{IsLine, then_space}
+use Rattle.texts.proofs.round_trip.Lines.{then_space}
 use Rattle.texts.proofs.round_trip.Names.{IsName}
-use Rattle.texts.proofs.round_trip.Forms.{ReadsAs, form_reads}
+use Rattle.texts.proofs.round_trip.Forms.{form_reads}
 use Rattle.texts.proofs.round_trip.Capabilities.{cap_words, cap_line}
 use Rattle.texts.proofs.round_trip.Reading.{Reads, reads_none, reads_both, reads_line}
 use Rattle.texts.proofs.round_trip.Statements.{hart_means, instruction_means}
@@ -64,9 +64,11 @@ module _ (enough : ℕ) (memory : List CapValue) where
       let lines : Reads enough (register_lines 1 regs) (hart_draft memory (before ++ record { pcc = valid c; regs = replicate 31 (raw 0) } ∷ []) no_registers) (hart_draft memory (before ++ record { pcc = valid c; regs = regs } ∷ []) fields.0) 0
       = subst (λ nulls. Reads enough (register_lines 1 regs) (hart_draft memory (before ++ record { pcc = valid c; regs = nulls } ∷ []) no_registers) (hart_draft memory (before ++ record { pcc = valid c; regs = regs } ∷ []) fields.0) 0) null_regs fields.1 in
       let whole : Reads enough (((codes ".hart " ++ cap_text c) ++ 0x0A ∷ []) ++ register_lines 1 regs) (hart_draft memory before set) (hart_draft memory (before ++ record { pcc = valid c; regs = regs } ∷ []) fields.0) 0
-      = reads_both enough ((codes ".hart " ++ cap_text c) ++ 0x0A ∷ []) (register_lines 1 regs) _ _ _ 0 0 (pcc_line before set c h plain unsealed room) lines in
-      (fields.0, subst (λ text. Reads enough text (hart_draft memory before set) (hart_draft memory (before ++ record { pcc = valid c; regs = regs } ∷ []) fields.0) 0)
-      (append_assoc (codes ".hart " ++ cap_text c) (0x0A ∷ []) (register_lines 1 regs)) whole)
+      = reads_both enough ((codes ".hart " ++ cap_text c) ++ 0x0A ∷ []) (register_lines 1 regs) _ _ _ 0 0 (pcc_line before set c h plain unsealed room) lines in (
+        fields.0,
+        subst (λ text. Reads enough text (hart_draft memory before set) (hart_draft memory (before ++ record { pcc = valid c; regs = regs } ∷ []) fields.0) 0)
+            (append_assoc (codes ".hart " ++ cap_text c) (0x0A ∷ []) (register_lines 1 regs)) whole,
+      )
 
   one_hart : (before : List HartImage) (set : List Bool) (pcc : CapValue) (regs : List CapValue) → IsWritablePcc pcc → length before < 8 → length regs ≡ 31 → AllByRecursion IsWritable regs
       → Leads (hart_lines (record { pcc = pcc; regs = regs })) before (before ++ record { pcc = pcc; regs = regs } ∷ []) set

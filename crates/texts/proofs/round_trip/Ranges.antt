@@ -1,9 +1,8 @@
 -- What a line that reads without a fault says of its operands.
-use Rattle.std.proofs.Common.{◌≡◌, ℕ, zero, suc, ◌+◌, ◌-◌, ◌^◌, ◌<◌, ◌≤◌, ◌==◌, nat_lt, nat_le, Bool, true, false, not, cond, List, [], ◌∷◌, ◌++◌, length, drop, Option, Some, None, Result, Ok, Err, refl, sym, ap, ◌∙◌, subst, arith}
-use Rattle.std.specs.Prelude.{ℤ, pos, negsuc, neg_ℤ, slice_index, option_map}
+use Rattle.std.proofs.Common.{◌≡◌, ℕ, zero, suc, ◌-◌, ◌<◌, ◌≤◌, nat_lt, nat_le, Bool, true, false, cond, List, drop, Option, Some, None, Result, Ok, Err, refl, ap, ◌∙◌, subst, arith}
+use Rattle.std.specs.Prelude.{ℤ, pos, neg_ℤ, slice_index, option_map}
 use Rattle.std.proofs.lemmas.Bool.Decides.{nat_tests}
-use Rattle.cheri_model.specs.Capability.{unsealed_type, sentry_type, last_sealable_type, IsLawful, IsLawfulType}
-use Rattle.cheri_model.specs.CapValue.{CapValue, valid}
+use Rattle.cheri_model.specs.Capability.{unsealed_type, sentry_type, last_sealable_type, IsLawfulType}
 use Rattle.texts.specs.declared.listing.fault.ListingFaultKind.{ListingFaultKind}
 use Rattle.texts.specs.declared.listing.fault.ListingFaultKind.TheVariants as kind
 use Rattle.texts.specs.declared.listing.operands.Immediate.{Immediate}
@@ -14,9 +13,8 @@ use Rattle.texts.specs.declared.listing.labels.Place.{Place}
 use Rattle.texts.specs.declared.listing.labels.TargetOperand.{TargetOperand}
 use Rattle.texts.specs.declared.listing.labels.TargetOperand.TheVariants as target
 use Rattle.texts.specs.ListingFaults.{◌>>=◌}
-use Rattle.texts.specs.ListingTokens.{token_at}
-use Rattle.texts.specs.ListingNumerals.{number_of, number_of_digits, at_most}
-use Rattle.texts.specs.ListingOperands.{register_numbered, register_of, is_short_register, is_long_register, is_bracketed, immediate_of, immediate_of_12_bits, immediate_up_to, before_bracket, from_bracket, between_brackets, memory_operand_from, memory_operand_of, type_in_range}
+use Rattle.texts.specs.ListingNumerals.{number_of_digits, at_most}
+use Rattle.texts.specs.ListingOperands.{register_of, is_short_register, is_long_register, is_bracketed, immediate_of, immediate_of_12_bits, immediate_up_to, before_bracket, from_bracket, between_brackets, memory_operand_from, memory_operand_of, type_in_range}
 use Rattle.texts.specs.ListingLabels.{PlaceParts, begins_at_sign, is_label_name, target_operand_of, target_of}
 use Rattle.texts.specs.Listable.{Is12Bits}
 

@@ -1,21 +1,20 @@
 -- The lines of a hart's registers read back to their values.
-use Rattle.std.proofs.Common.{◌≡◌, ℕ, suc, ◌+◌, ◌-◌, ◌*◌, ◌/◌, ◌%◌, ◌^◌, ◌<◌, ◌≤◌, ◌==◌, ◌||◌, nat_lt, nat_le, Bool, true, false, not, List, [], ◌∷◌, ◌++◌, length, get_or, Result, Ok, refl, sym, ap, ◌∙◌, subst, append_assoc, length-append, arith}
+use Rattle.std.proofs.Common.{◌≡◌, ℕ, suc, ◌+◌, ◌-◌, ◌/◌, ◌%◌, ◌^◌, ◌<◌, ◌≤◌, ◌==◌, Bool, true, false, List, [], ◌∷◌, ◌++◌, length, Ok, refl, ap, ◌∙◌, subst, append_assoc, length-append, arith}
 use Rattle.std.specs.Prelude.{codes, decimal, replicate, slice_index_or, slice_set}
 use Rattle.std.specs.List.{AllByRecursion}
 use Rattle.std.proofs.lemmas.Bool.Decides.{nat_tests}
-use Rattle.std.proofs.lemmas.List.{length-replicate, get_or_at, set_at, get_or-set_other}
+use Rattle.std.proofs.lemmas.List.{get_or_at, set_at, get_or-set_other}
 use Rattle.cheri_model.specs.declared.image.HartImage.{HartImage}
 use Rattle.cheri_model.specs.Capability as capability
 use Rattle.cheri_model.specs.Capability.{IsLawful}
 use Rattle.cheri_model.specs.CapValue.{CapValue, valid, raw}
 use Rattle.cheri_model.specs.ImageForm.{is_listed}
-use Rattle.texts.specs.declared.listing.fault.ListingFaultKind.{ListingFaultKind}
 use Rattle.texts.specs.declared.listing.draft.Setting.{Setting}
-use Rattle.texts.specs.declared.listing.draft.Setting.TheVariants.{Word, Capability}
+use Rattle.texts.specs.declared.listing.draft.Setting.TheVariants.{Word}
 use Rattle.texts.specs.ListingTokens.{is_blank}
 use Rattle.texts.specs.ListingStatement.{setting_of}
 use Rattle.texts.specs.ListingDraft.{DraftParts, value_of, latest, with_latest, with_register, hart_from}
-use Rattle.texts.specs.ListingCanon.{cap_text, word_text, setting_text, register_line, register_lines}
+use Rattle.texts.specs.ListingCanon.{word_text, setting_text, register_line, register_lines}
 use Rattle.texts.specs.Listable.{IsWritable}
 use Rattle.texts.proofs.round_trip.Words.{is_open, is_word_byte, IsWord}
 use Rattle.texts.proofs.round_trip.Lines.{IsLine, last_word, then_space}

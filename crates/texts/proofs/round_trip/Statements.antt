@@ -1,31 +1,28 @@
 -- What the words of each canonical line make of a draft.
-use Rattle.std.proofs.Common.{◌≡◌, ℕ, suc, ◌+◌, ◌-◌, ◌*◌, ◌^◌, ◌<◌, ◌≤◌, ◌==◌, nat_lt, nat_le, Bool, true, false, not, cond, List, [], ◌∷◌, ◌++◌, length, Option, Some, None, Result, Ok, Err, refl, sym, ap, ◌∙◌, arith}
+use Rattle.std.proofs.Common.{◌≡◌, ℕ, ◌-◌, ◌^◌, ◌<◌, ◌==◌, nat_lt, Bool, true, false, List, [], ◌∷◌, ◌++◌, length, Some, None, Ok, refl, sym, ap, ◌∙◌, arith}
 use Rattle.std.specs.Prelude.{codes, decimal, slice_index_or, slice_set}
 use Rattle.std.proofs.lemmas.Bool.Decides.{nat_tests}
-use Rattle.hex.specs.Hex.{decode_of}
-use Rattle.cheri_model.specs.declared.instr.Instr.{Instr}
 use Rattle.cheri_model.specs.declared.form.Form.{Form}
 use Rattle.cheri_model.specs.Form.{instr_of}
 use Rattle.cheri_model.specs.Capability.{IsLawful, unsealed_type, sentry_type}
 use Rattle.cheri_model.specs.Capability as capability
-use Rattle.cheri_model.specs.CapValue.{CapValue, valid, raw}
+use Rattle.cheri_model.specs.CapValue.{CapValue, valid}
 use Rattle.cheri_model.specs.Memory.{cleared_memory, is_ram_size, is_in_ram, fits, store_capability}
-use Rattle.texts.specs.declared.listing.fault.ListingFaultKind.{ListingFaultKind}
 use Rattle.texts.specs.declared.listing.directives.Directive.TheVariants as directive
 use Rattle.texts.specs.declared.listing.operands.TypeOperand.TheVariants.{Unsealed}
 use Rattle.texts.specs.declared.listing.draft.Setting.{Setting}
 use Rattle.texts.specs.declared.listing.draft.Setting.TheVariants.{Word, Capability}
 use Rattle.texts.specs.declared.listing.mnemonics.Mnemonic.{Mnemonic}
-use Rattle.texts.specs.ListingTokens.{token_at, is_filled}
+use Rattle.texts.specs.ListingTokens.{token_at}
 use Rattle.texts.specs.ListingDirectives.{found_at, directive_of}
 use Rattle.texts.specs.ListingLabels.{PlaceParts}
 use Rattle.texts.specs.ListingOperands.{type_operand_of, type_in_range}
-use Rattle.texts.specs.ListingCapability.{cap_operands_of, optional_type, cap_tokens, cap_parts_of, capability_of}
+use Rattle.texts.specs.ListingCapability.{cap_operands_of, optional_type, cap_tokens, cap_parts_of}
 use Rattle.texts.specs.ListingForms.{counted, form_from}
 use Rattle.texts.specs.ListingStatement.{tokens_meaning, line_from, directive_line, other_line, instruction_line, ram_line, hart_line, set_line, settable_register_of, setting_of, word_setting, capability_setting, bytes_line, hex_bytes, cap_line}
 use Rattle.texts.specs.ListingDraft.{DraftParts, no_registers, hart_from, with_register, latest, with_latest, with_ram, add_hart, with_hart, value_of, with_set, set_register, with_bytes, stored_bytes, with_capability, with_instruction}
 use Rattle.texts.specs.ListingCanon.{hex_number, perms_text, memory_text, word_text}
-use Rattle.texts.proofs.round_trip.Words.{IsWord, negated}
+use Rattle.texts.proofs.round_trip.Words.{negated}
 use Rattle.texts.proofs.round_trip.Numbers.{decimal_reads, hex_reads}
 use Rattle.texts.proofs.round_trip.Operands.{reg_text, register_reads, in_range}
 use Rattle.texts.proofs.round_trip.Names.{IsName}

@@ -1,16 +1,14 @@
 -- The canonical listing of a listable image means that image.
-use Rattle.std.proofs.Common.{◌≡◌, ℕ, suc, ◌+◌, ◌*◌, ◌/◌, ◌%◌, ◌^◌, ◌<◌, ◌≤◌, ◌==◌, ◌&&◌, nat_lt, nat_le, Bool, true, false, List, [], ◌∷◌, ◌++◌, length, Ok, refl, sym, ap, ◌∙◌, subst, append_assoc, arith}
+use Rattle.std.proofs.Common.{◌≡◌, ℕ, ◌+◌, ◌*◌, ◌/◌, ◌^◌, ◌<◌, ◌≤◌, ◌==◌, nat_lt, nat_le, Bool, true, false, List, [], ◌∷◌, ◌++◌, length, Ok, refl, sym, ap, ◌∙◌, subst, append_assoc, arith}
 use Rattle.std.specs.Prelude.{codes, decimal, replicate}
 use Rattle.std.proofs.lemmas.Bool.Decides.{nat_tests}
 use Rattle.std.proofs.lemmas.List.{append-nil}
-use Rattle.cheri_model.specs.declared.instr.Instr.{Instr}
-use Rattle.cheri_model.specs.declared.image.HartImage.{HartImage}
-use Rattle.cheri_model.specs.CapValue.{CapValue, raw}
+use Rattle.cheri_model.specs.CapValue.{raw}
 use Rattle.cheri_model.specs.Memory.{ram_base, cleared_memory, is_ram_size}
 use Rattle.cheri_model.specs.Image.{ImageParts}
 use Rattle.texts.specs.ListingTokens.{is_blank, tokens_of}
 use Rattle.texts.specs.ListingLines.{lines_of}
-use Rattle.texts.specs.ListingLabels.{PlaceParts, places_of, instruction_lines, count_of}
+use Rattle.texts.specs.ListingLabels.{PlaceParts, places_of, instruction_lines}
 use Rattle.texts.specs.ListingStatement.{tokens_meaning}
 use Rattle.texts.specs.ListingDraft.{DraftParts, empty_draft, no_registers}
 use Rattle.texts.specs.ListingMeaning.{line_meaning, lines_meaning, listed_from, finished, listing_limit, listing_meaning}
@@ -18,7 +16,7 @@ use Rattle.texts.specs.ListingCanon.{each, granule_line, hart_lines, program_lin
 use Rattle.texts.specs.Listable.{IsListable}
 use Rattle.texts.proofs.PermissionTexts.{first, second}
 use Rattle.texts.proofs.round_trip.Words.{is_open, is_word_byte, IsWord}
-use Rattle.texts.proofs.round_trip.Lines.{IsLine, last_word, then_space}
+use Rattle.texts.proofs.round_trip.Lines.{last_word, then_space}
 use Rattle.texts.proofs.round_trip.Numbers.{decimal_word}
 use Rattle.texts.proofs.round_trip.Reading.{Reads, reads_both, reads_line}
 use Rattle.texts.proofs.round_trip.Statements.{ram_means}
@@ -78,9 +76,11 @@ module _ (image : ImageParts) (h : IsListable image) where
       let set = harts.0 in
       let rest = reads_both enough (each granule_line image.granules) (each hart_lines image.harts ++ each program_line image.program) _ _ _ 0 (0 + enough) granules
       (reads_both enough (each hart_lines image.harts) (each program_line image.program) _ _ _ 0 enough harts.1 (program set)) in
-      let whole = reads_both enough ((codes ".ram " ++ decimal image.ram) ++ 0x0A ∷ []) (each granule_line image.granules ++ (each hart_lines image.harts ++ each program_line image.program)) _ _ _ 0 (0 + (0 + enough)) ram_reads rest in
-      (set, subst (λ text. Reads enough text empty_draft (program_draft h.memory image.harts set image.program) (0 + (0 + (0 + enough))))
-      (append_assoc (codes ".ram " ++ decimal image.ram) (0x0A ∷ []) (each granule_line image.granules ++ (each hart_lines image.harts ++ each program_line image.program))) whole)
+      let whole = reads_both enough ((codes ".ram " ++ decimal image.ram) ++ 0x0A ∷ []) (each granule_line image.granules ++ (each hart_lines image.harts ++ each program_line image.program)) _ _ _ 0 (0 + (0 + enough)) ram_reads rest in (
+        set,
+        subst (λ text. Reads enough text empty_draft (program_draft h.memory image.harts set image.program) (0 + (0 + (0 + enough))))
+            (append_assoc (codes ".ram " ++ decimal image.ram) (0x0A ∷ []) (each granule_line image.granules ++ (each hart_lines image.harts ++ each program_line image.program))) whole,
+      )
 
   enough_lines : enough ≤ (places_of (canon image)).instructions
   unfolding places_of

@@ -1,5 +1,4 @@
-use Rattle.std.proofs.Common.{◌≡◌, ◌*◌, ◌+◌, ◌≤◌, ◌∙◌, ap, length, arith}
-use Rattle.cheri_model.specs.Memory.{ram_base}
+use Rattle.std.proofs.Common.{◌≡◌, ◌+◌, ◌∙◌, ap, length, arith}
 use Rattle.texts.proofs.GranuleLemmas.{in_ram_from, in_ram_to, byte_fits, length_stored, stored_step, stored_end}
 use Rattle.texts.proofs.listing.granules.store_bytes.Goals as goal
 

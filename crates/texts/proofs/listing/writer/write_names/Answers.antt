@@ -1,4 +1,3 @@
-use Rattle.std.proofs.Common.{refl}
 use Rattle.cheri_model.specs.PermissionNames.{permission_table}
 use Rattle.texts.proofs.WriterLemmas.{name_step, name_end}
 use Rattle.texts.proofs.listing.writer.write_names.Goals as goal
