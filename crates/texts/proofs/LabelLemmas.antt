@@ -62,7 +62,7 @@ found_in_either true place rest more = refl
 found_in_either false place rest more = refl
 
 -- a look-up in one table after another
-found-append : (xs ys : List (List ℕ × Place)) (q : List ℕ) → found_at (xs ++ ys) q ≡ first_place (found_at xs q) (found_at ys q)
+pub found-append : (xs ys : List (List ℕ × Place)) (q : List ℕ) → found_at (xs ++ ys) q ≡ first_place (found_at xs q) (found_at ys q)
 unfolding found_at
 found-append [] ys q = refl
 found-append (x ∷ xs) ys q =

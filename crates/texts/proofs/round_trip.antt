@@ -17,3 +17,5 @@ pub mod Programs
 pub mod Whole
 pub mod Ranges
 pub mod FormRanges
+pub mod Drafts
+pub mod Listed

@@ -1,14 +1,18 @@
 //! Laws over listings: the functions do nothing, and their contracts are the laws.
 
-ghost use Rattle.std.specs.Prelude.{◌≡◌, ◌≤◌, length, Ok};
+ghost use Rattle.std.specs.Prelude.{◌≡◌, ◌≤◌, ℕ, List, length, Ok};
 ghost use Rattle.cheri_model.specs.Image.{ImageParts};
 ghost use Rattle.texts.specs.Listable.{IsListable};
 ghost use Rattle.texts.specs.ListingCanon.{canon};
 ghost use Rattle.texts.specs.ListingMeaning.{listing_limit, listing_meaning};
 
-/// The canonical listing of an image that listings can write means that image, where it is not
-/// longer than a listing may be.
+/// The canonical listing of an image that some listing means, where it is not longer than a listing
+/// may be, means that image again. Such images hold only what listings can write.
 pub fn canonical_listing_reads_back()
-    ensures { (image : ImageParts) → IsListable image →
+    ensures meant { (text : List ℕ) (image : ImageParts) → listing_meaning text ≡ Ok image →
+        length (canon image) ≤ listing_limit → listing_meaning (canon image) ≡ Ok image }
+    ensures listable { (text : List ℕ) (image : ImageParts) → listing_meaning text ≡ Ok image →
+        IsListable image }
+    ensures written { (image : ImageParts) → IsListable image →
         length (canon image) ≤ listing_limit → listing_meaning (canon image) ≡ Ok image }
 {}
