@@ -27,6 +27,12 @@ run_command =
     with_rule (with_rule (with_rule (new_app (codes "run")) (required_word (codes "listing")))
     (record (required_word (codes "order")) { long = Some (codes "order") })) (flag (codes "json"))
 
+-- `race LISTING --turns N`
+abbrev pub race_command : App
+race_command =
+    with_rule (with_rule (new_app (codes "race")) (required_word (codes "listing")))
+    (record (required_word (codes "turns")) { long = Some (codes "turns") })
+
 -- `bounds BASE LEN`
 abbrev pub bounds_command : App
 bounds_command =
@@ -47,5 +53,5 @@ program_alone = wanting_subcommand (new_app (codes "cheri_sim"))
 
 abbrev pub program : App
 program =
-    with_subcommand (with_subcommand (with_subcommand (with_subcommand program_alone
-    check_command.top) run_command.top) bounds_command.top) decode_command.top
+    with_subcommand (with_subcommand (with_subcommand (with_subcommand (with_subcommand program_alone
+    check_command.top) run_command.top) race_command.top) bounds_command.top) decode_command.top

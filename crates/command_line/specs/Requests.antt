@@ -1,8 +1,12 @@
 -- What the words of a command line ask for.
-use Rattle.std.specs.Prelude.{List, Option, Some, None, option_and_then, codes, if◌then◌else◌, [], ◌∷◌}
+use Rattle.std.specs.Prelude.{ℕ, nat_le, ◌&&◌, List, Option, Some, None, option_and_then, option_map, codes, if◌then◌else◌, [], ◌∷◌}
+use Rattle.std.specs.Char.{is_ascii_digit}
+use Rattle.std.specs.List.{list_all}
 use Rattle.std.specs.Str.{bytes_eq}
+use Rattle.std.specs.Str.Parse.{digits_value}
 use Rattle.clap.specs.Words.{Kinds, Row, Text, fault_of, first_of, subcommand_of}
 use Rattle.command_line.specs.Commands.{program}
+use Rattle.command_line.specs.declared.requests.TheConstants.{GREATEST_TURNS}
 use Rattle.command_line.specs.declared.requests.ReportForm.{ReportForm}
 use Rattle.command_line.specs.declared.requests.ReportForm.TheVariants as forms
 use Rattle.command_line.specs.declared.requests.Request.{Request}
@@ -17,12 +21,14 @@ form_of None = forms.Text
 pub data Asked : Type 0 where
   Check : Text → Asked
   Run : Text → Text → ReportForm → Asked
+  Race : Text → ℕ → Asked
   Bounds : Text → Text → Asked
   Decode : Text → Asked
 
 abbrev pub asked_by : Request → Asked
 asked_by (requests.Check listing) = Check listing.now
 asked_by (requests.Run listing order form) = Run listing.now order.now form
+asked_by (requests.Race listing turns) = Race listing.now turns
 asked_by (requests.Bounds base len) = Bounds base.now len.now
 asked_by (requests.Decode word) = Decode word.now
 
@@ -35,12 +41,26 @@ abbrev pub with_one : (Text → Asked) → Option Text → Option Asked
 with_one make (Some first) = Some (make first)
 with_one make None = None
 
+-- a number of turns that a race may have
+abbrev pub within_turns : ℕ → Option ℕ
+within_turns turns = if nat_le 1 turns && nat_le turns GREATEST_TURNS then Some turns else None
+
+-- the number of turns that a word writes, by decimal digits alone
+unfoldable pub turns_of : Text → Option ℕ
+turns_of word = if list_all is_ascii_digit word then within_turns (digits_value 10 word) else None
+
+-- a race by the values of its words, if they are there
+abbrev pub race_asked : Option Text → Option Text → Option Asked
+race_asked (Some listing) (Some turns) = option_map (Race listing) (turns_of turns)
+race_asked _ _ = None
+
 -- what the command of this name asks for with these words
 unfoldable pub asked_of : Text → List Row → Option Asked
 asked_of name rows =
     if bytes_eq name (codes "check") then with_one Check (first_of (codes "listing") rows)
     else if bytes_eq name (codes "run") then with_two (λ listing order. Run listing order (form_of (first_of (codes "json") rows)))
     (first_of (codes "listing") rows) (first_of (codes "order") rows)
+    else if bytes_eq name (codes "race") then race_asked (first_of (codes "listing") rows) (first_of (codes "turns") rows)
     else if bytes_eq name (codes "bounds") then with_two Bounds (first_of (codes "base") rows) (first_of (codes "len") rows)
     else if bytes_eq name (codes "decode") then with_one Decode (first_of (codes "word") rows)
     else None

@@ -3,7 +3,8 @@
 ghost use Rattle.std.specs.Prelude.{◌≡◌, IfOk, false};
 ghost use Rattle.clap.specs.Words.{app_of, rule_of};
 ghost use Rattle.command_line.specs.Commands.{has_globals, required_word, check_command};
-ghost use Rattle.command_line.specs.Commands.{run_command, bounds_command, decode_command, program};
+ghost use Rattle.command_line.specs.Commands.{run_command, race_command, bounds_command};
+ghost use Rattle.command_line.specs.Commands.{decode_command, program};
 
 use clap::{Arg, ArgAction, Command};
 use std::alloc::{AllocError, Global};
@@ -39,6 +40,17 @@ fn run_command<'a>(alloc: Global) -> Result<Command<'a>, AllocError>
         .arg(json)
 }
 
+/// `race LISTING --turns N`.
+fn race_command<'a>(alloc: Global) -> Result<Command<'a>, AllocError>
+    ensures app { IfOk result (λ command. app_of command ≡ race_command) }
+    ensures local { IfOk result (λ command. has_globals command ≡ false) }
+{
+    let turns = required(alloc, "turns").long("turns");
+    Command::new(alloc, "race")
+        .arg(required(alloc, "listing"))?
+        .arg(turns)
+}
+
 /// `bounds BASE LEN`.
 fn bounds_command<'a>(alloc: Global) -> Result<Command<'a>, AllocError>
     ensures app { IfOk result (λ command. app_of command ≡ bounds_command) }
@@ -64,6 +76,7 @@ pub(crate) fn program_command<'a>(alloc: Global) -> Result<Command<'a>, AllocErr
     let alone = Command::new(alloc, "cheri_sim").subcommand_required(true);
     let with_check = alone.subcommand(check_command(alloc)?)?;
     let with_run = with_check.subcommand(run_command(alloc)?)?;
-    let with_bounds = with_run.subcommand(bounds_command(alloc)?)?;
+    let with_race = with_run.subcommand(race_command(alloc)?)?;
+    let with_bounds = with_race.subcommand(bounds_command(alloc)?)?;
     with_bounds.subcommand(decode_command(alloc)?)
 }

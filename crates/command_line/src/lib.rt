@@ -2,7 +2,7 @@
 #![tactic(auto)]
 
 ghost use Rattle.std.specs.Prelude.{◌≡◌, IfOk, Err, Some, None, [], ◌∷◌, map, codes};
-ghost use Rattle.command_line.specs.Requests.{asked, asked_by, Check, Run, Bounds, Decode};
+ghost use Rattle.command_line.specs.Requests.{asked, asked_by, Check, Run, Race, Bounds, Decode};
 
 mod commands;
 mod faults;
@@ -11,7 +11,7 @@ mod requests;
 use crate::commands::program_command;
 use crate::requests::request_met;
 pub use faults::CommandFault;
-pub use requests::{ReportForm, Request};
+pub use requests::{GREATEST_TURNS, ReportForm, Request};
 use std::alloc::Global;
 
 /// What the words ask for, of which the first is the program's name. `Usage` means that they ask
@@ -41,6 +41,22 @@ pub fn known_command_lines()
         ≡ Some (Run (codes "first.lst") (codes "zeros.txt") ReportForm.Json) }
     ensures json_twice { asked (codes "cheri_sim" ∷ codes "run" ∷ codes "--json"
         ∷ codes "--json" ∷ codes "--order=zeros.txt" ∷ codes "first.lst" ∷ [])
+        ≡ None }
+    ensures race { asked (codes "cheri_sim" ∷ codes "race" ∷ codes "first.lst"
+        ∷ codes "--turns" ∷ codes "4" ∷ [])
+        ≡ Some (Race (codes "first.lst") 4) }
+    ensures race_with_zeros { asked (codes "cheri_sim" ∷ codes "race"
+        ∷ codes "--turns=0100000" ∷ codes "first.lst" ∷ [])
+        ≡ Some (Race (codes "first.lst") 100000) }
+    ensures no_turns { asked (codes "cheri_sim" ∷ codes "race" ∷ codes "first.lst"
+        ∷ codes "--turns" ∷ codes "0" ∷ []) ≡ None }
+    ensures too_many_turns { asked (codes "cheri_sim" ∷ codes "race" ∷ codes "first.lst"
+        ∷ codes "--turns" ∷ codes "100001" ∷ []) ≡ None }
+    ensures turns_with_plus { asked (codes "cheri_sim" ∷ codes "race" ∷ codes "first.lst"
+        ∷ codes "--turns" ∷ codes "+4" ∷ []) ≡ None }
+    ensures hexadecimal_turns { asked (codes "cheri_sim" ∷ codes "race" ∷ codes "first.lst"
+        ∷ codes "--turns" ∷ codes "0x4" ∷ []) ≡ None }
+    ensures without_turns { asked (codes "cheri_sim" ∷ codes "race" ∷ codes "first.lst" ∷ [])
         ≡ None }
     ensures bounds { asked (codes "cheri_sim" ∷ codes "bounds" ∷ codes "1" ∷ codes "4096" ∷ [])
         ≡ Some (Bounds (codes "1") (codes "4096")) }

@@ -1,12 +1,17 @@
 //! What a command asks for, with the words that `clap` found.
 
 ghost use Rattle.std.specs.Prelude.{◌≡◌, option_map, option_and_then, codes};
+ghost use Rattle.std.specs.List.{list_all};
+ghost use Rattle.std.specs.Char.{is_ascii_digit};
 ghost use Rattle.clap.specs.Words.{first_of, found_of, rows_of, subcommand_rows_of};
 ghost use Rattle.command_line.specs.Requests.{asked_by, asked_of, form_of, with_one, with_two};
-ghost use Rattle.command_line.specs.Requests.{Check, Run};
-ghost use Rattle.command_line.specs.Requests.{Bounds, Decode};
+ghost use Rattle.command_line.specs.Requests.{Check, Run, Bounds, Decode};
+ghost use Rattle.command_line.specs.Requests.{race_asked, turns_of, within_turns};
 
 use clap::ArgMatches;
+
+/// The greatest number of turns of a race.
+pub const GREATEST_TURNS: u32 = 100_000;
 
 /// The form of a report.
 #[derive(Clone, Copy, Debug, PartialEq, Eq)]
@@ -15,7 +20,8 @@ pub enum ReportForm {
     Json,
 }
 
-/// What a command line asks for. Numbers are still the words of the command line.
+/// What a command line asks for. The numbers of `bounds` and `decode` are still the words of the
+/// command line.
 #[derive(Clone, Copy, Debug, PartialEq, Eq)]
 pub enum Request<'a> {
     /// To judge the listing in the file of this name.
@@ -28,6 +34,12 @@ pub enum Request<'a> {
         listing: &'a str,
         order: &'a str,
         form: ReportForm,
+    },
+    /// To race the harts of the listing in the file of this name, each in up to this many turns,
+    /// and to report it.
+    Race {
+        listing: &'a str,
+        turns: u32,
     },
     /// For the rounding of a range, by its base and its length.
     Bounds {
@@ -84,6 +96,49 @@ fn run_request<'a>(found: &ArgMatches<'a>) -> Option<Request<'a>>
     })
 }
 
+/// Whether a word has decimal digits alone.
+fn has_digits_alone(word: &str) -> bool
+    ensures { result ≡ list_all is_ascii_digit word.now }
+{
+    word.as_bytes().iter().all(|byte| byte.is_ascii_digit())
+}
+
+/// A number of turns from 1 to 100,000.
+fn within_turns(turns: u32) -> Option<u32>
+    ensures { result ≡ within_turns turns }
+{
+    if turns >= 1 && turns <= GREATEST_TURNS {
+        Some(turns)
+    } else {
+        None
+    }
+}
+
+/// The number of turns that a word writes: decimal digits alone, from 1 to 100,000.
+fn turns_written(word: &str) -> Option<u32>
+    ensures { result ≡ turns_of word.now }
+{
+    if !has_digits_alone(word) {
+        return None;
+    }
+    match word.parse::<u32>() {
+        Ok(turns) => within_turns(turns),
+        Err(_) => None,
+    }
+}
+
+/// `race` with the words that were found.
+fn race_request<'a>(found: &ArgMatches<'a>) -> Option<Request<'a>>
+    ensures { let rows = rows_of (found_of found.now) in
+        option_map asked_by result
+        ≡ race_asked (first_of (codes "listing") rows) (first_of (codes "turns") rows) }
+{
+    let listing = word_found(found, "listing")?;
+    let word = word_found(found, "turns")?;
+    let turns = turns_written(word)?;
+    Some(Request::Race { listing, turns })
+}
+
 /// `bounds` with the words that were found.
 fn bounds_request<'a>(found: &ArgMatches<'a>) -> Option<Request<'a>>
     ensures { let rows = rows_of (found_of found.now) in
@@ -112,6 +167,7 @@ fn request_of<'a>(name: &str, found: &ArgMatches<'a>) -> Option<Request<'a>>
     match name {
         "check" => check_request(found),
         "run" => run_request(found),
+        "race" => race_request(found),
         "bounds" => bounds_request(found),
         "decode" => decode_request(found),
         _ => None,

@@ -1,6 +1,6 @@
 use Rattle.std.proofs.Common.{refl}
 use Rattle.clap.proofs.OnLiterals.{clap_on_literals}
-use Rattle.command_line.specs.Requests.{asked, asked_of}
+use Rattle.command_line.specs.Requests.{asked, asked_of, turns_of}
 use Rattle.command_line.proofs.known_command_lines.Goals as goal
 
 pub returns-clause-run : goal.returns-clause-run
@@ -54,3 +54,31 @@ returns-clause-json c = refl
 pub returns-clause-json_twice : goal.returns-clause-json_twice
 unfolding clap_on_literals asked asked_of
 returns-clause-json_twice c = refl
+
+pub returns-clause-race : goal.returns-clause-race
+unfolding clap_on_literals asked asked_of turns_of
+returns-clause-race c = refl
+
+pub returns-clause-race_with_zeros : goal.returns-clause-race_with_zeros
+unfolding clap_on_literals asked asked_of turns_of
+returns-clause-race_with_zeros c = refl
+
+pub returns-clause-no_turns : goal.returns-clause-no_turns
+unfolding clap_on_literals asked asked_of turns_of
+returns-clause-no_turns c = refl
+
+pub returns-clause-too_many_turns : goal.returns-clause-too_many_turns
+unfolding clap_on_literals asked asked_of turns_of
+returns-clause-too_many_turns c = refl
+
+pub returns-clause-turns_with_plus : goal.returns-clause-turns_with_plus
+unfolding clap_on_literals asked asked_of turns_of
+returns-clause-turns_with_plus c = refl
+
+pub returns-clause-hexadecimal_turns : goal.returns-clause-hexadecimal_turns
+unfolding clap_on_literals asked asked_of turns_of
+returns-clause-hexadecimal_turns c = refl
+
+pub returns-clause-without_turns : goal.returns-clause-without_turns
+unfolding clap_on_literals asked asked_of turns_of
+returns-clause-without_turns c = refl

@@ -14,9 +14,11 @@ returns c =
     ∙ ap₂ with_subcommand alone_is (ap top c.in_ok-check_command.ensures.app) in
     let run_added = c.in_ok-with_run.ensures.shape c.in_ok-run_command.ensures.local
     ∙ ap₂ with_subcommand check_added (ap top c.in_ok-run_command.ensures.app) in
+    let race_added = c.in_ok-with_race.ensures.shape c.in_ok-race_command.ensures.local
+    ∙ ap₂ with_subcommand run_added (ap top c.in_ok-race_command.ensures.app) in
     let bounds_added = c.in_ok-with_bounds.ensures.shape c.in_ok-bounds_command.ensures.local
-    ∙ ap₂ with_subcommand run_added (ap top c.in_ok-bounds_command.ensures.app) in
-    IfOk-weaker c.subcommand-4.result _ _
+    ∙ ap₂ with_subcommand race_added (ap top c.in_ok-bounds_command.ensures.app) in
+    IfOk-weaker c.subcommand-5.result _ _
     (λ command added. added.shape c.in_ok-decode_command.ensures.local
     ∙ ap₂ with_subcommand bounds_added (ap top c.in_ok-decode_command.ensures.app))
-    c.subcommand-4.ensures
+    c.subcommand-5.ensures
