@@ -1,10 +1,11 @@
--- The run of a listing in an order, from texts to a text.
-use Rattle.std.specs.Prelude.{◌≡◌, ℕ, List, Option, Ok, Err, IsOk, ⊤, false}
+-- The run of a listing in an order, from two texts to what a sink took.
+use Rattle.std.specs.Prelude.{◌≡◌, ℕ, List, Option, Result, Ok, Err, IsOk, ⊤, Bool, true, false, codes}
 use Rattle.texts.specs.ListingFaults.{Gives}
 use Rattle.texts.specs.ListingMeaning.{listing_meaning}
 use Rattle.texts.specs.Orders.{GivesFault, order_of}
 use Rattle.cheri_model.specs.Image.{ImageParts}
 use Rattle.reports.specs.Report.{report}
+use Rattle.reports.specs.ReportFaults.{failures_of}
 use Rattle.machine.specs.declared.faults.BootFault.{BootFault}
 use Rattle.machine.specs.declared.faults.BootFault.TheVariants as boot
 use Rattle.machine.specs.declared.faults.StepFault.{StepFault}
@@ -13,26 +14,52 @@ use Rattle.machine.specs.declared.simulation.SimFault.TheVariants.{Listing, Orde
 use Rattle.machine.specs.Cores.{CoreParts, is_limit}
 use Rattle.machine.specs.Runs.{IsRunOf}
 
--- A text shows a run of a listing in an order, which ended at a refused step or at none: it is the report of a machine
--- that began as the image which the listing means and took the order as far as it can be taken.
-pub record IsShownRun (listing order : List ℕ) (limit : ℕ) (text : List ℕ) (end : Option (ℕ × StepFault)) : Type 0 where
+-- A run of a listing in an order, which ended at a refused step or at none, is shown: of its report this is so. The
+-- report is that of a machine which began as the image that the listing means and took the order as far as it can be
+-- taken.
+pub record IsShownRun (listing order : List ℕ) (limit : ℕ) (IsSo : List ℕ → Type 0) (end : Option (ℕ × StepFault)) : Type 0 where
   pub image : ImageParts
   pub harts : List ℕ
   pub core : CoreParts
   pub listing_is : listing_meaning listing ≡ Ok image
   pub order_is : order_of order ≡ Ok harts
   pub run_is : IsRunOf image harts limit core end
-  pub text_is : text ≡ report core.image core.trace core.state
+  pub shown : IsSo (report core.image core.trace core.state)
 
 abbrev pub IsRefusedBoot : BootFault → ℕ → Type 0
 IsRefusedBoot boot.Limit limit = is_limit limit ≡ false
 IsRefusedBoot boot.NoMemory limit = ⊤
 
--- A run was refused: for the listing's own fault, after a good listing for the order's, and after good texts for the
--- limit. Running out of memory says nothing of the texts.
-abbrev pub IsRefusedRun : List ℕ → List ℕ → ℕ → SimFault → Type 0
-IsRefusedRun listing order limit (Listing fault) = Gives (Err fault) (listing_meaning listing)
-IsRefusedRun listing order limit (Order fault) = (IsOk (listing_meaning listing)) × GivesFault fault.kind fault (order_of order)
-IsRefusedRun listing order limit (Boot fault) =
+-- A run was refused: for the listing's own fault, after a good listing for the order's, after good texts for the
+-- limit, and after a run because its report was not taken whole, of which this is so. Running out of memory says
+-- nothing of the texts.
+abbrev pub IsRefusedRun : List ℕ → List ℕ → ℕ → (List ℕ → Type 0) → SimFault → Type 0
+IsRefusedRun listing order limit IsSo (Listing fault) = Gives (Err fault) (listing_meaning listing)
+IsRefusedRun listing order limit IsSo (Order fault) =
+    (IsOk (listing_meaning listing)) × GivesFault fault.kind fault (order_of order)
+IsRefusedRun listing order limit IsSo (Boot fault) =
     (IsOk (listing_meaning listing)) × (IsOk (order_of order)) × IsRefusedBoot fault limit
-IsRefusedRun listing order limit Report = (IsOk (listing_meaning listing)) × (IsOk (order_of order))
+IsRefusedRun listing order limit IsSo (Report fault) =
+    (end : Option (ℕ × StepFault)) × IsShownRun listing order limit IsSo end
+
+-- whether a run was refused after its report was begun
+abbrev pub is_reported : SimFault → Bool
+is_reported (Report fault) = true
+is_reported _ = false
+
+-- how often the sink failed by an answer
+abbrev pub failures_of_run : {X : Type 0} → Result X SimFault → ℕ
+failures_of_run (Err (Report fault)) = failures_of (Err fault)
+failures_of_run _ = 0
+
+abbrev pub sim_fault_number : SimFault → ℕ
+sim_fault_number (Listing fault) = 1
+sim_fault_number (Order fault) = 2
+sim_fault_number (Boot fault) = 3
+sim_fault_number (Report fault) = 4
+
+abbrev pub sim_fault_name : SimFault → List ℕ
+sim_fault_name (Listing fault) = codes "Listing"
+sim_fault_name (Order fault) = codes "Order"
+sim_fault_name (Boot fault) = codes "Boot"
+sim_fault_name (Report fault) = codes "Report"

@@ -15,4 +15,4 @@ pub use faults::{BootFault, OpenFault, StepFault};
 pub use machines::Machine;
 pub use runs::run_order;
 pub use shares::{Blanks, Lane, Naming, Share};
-pub use simulation::{SimFault, Simulated, simulate};
+pub use simulation::{SimFault, simulate};

@@ -1,23 +1,18 @@
 //! The run of two texts, a listing and an order, to the report of what ran.
 
-ghost use Rattle.std.specs.Prelude.{◌≡◌, IfOk, IfErr, string_bytes};
+ghost use Rattle.std.specs.Prelude.{◌≡◌, ◌+◌, IfOk, IfErr, false};
+ghost use Rattle.std.specs.Io.KnownBytes.{Appends};
+ghost use Rattle.reports.specs.Sinks.{TakesBeginning};
 ghost use Rattle.machine.specs.Simulation.{IsShownRun, IsRefusedRun};
+ghost use Rattle.machine.specs.Simulation.{is_reported, failures_of_run};
 
 use crate::faults::{BootFault, StepFault};
 use crate::runs::run_order;
-use reports::report_text;
-use std::alloc::{AllocError, Global};
+use reports::{ReportFault, Sink, write_report};
+use std::alloc::Global;
 use texts::{ListingFault, OrderFault, read_listing, read_order};
 
-/// What a simulation shows: the report, and the step that was refused, with its place in the order
-/// counted from 0.
-#[derive(Drop)]
-pub struct Simulated {
-    pub report: String,
-    pub refused: Option<(usize, StepFault)>,
-}
-
-/// Why nothing was simulated, tried in this order.
+/// Why a simulation was not shown, tried in this order.
 #[derive(Clone, Copy, Debug, PartialEq, Eq)]
 pub enum SimFault {
     /// The listing was refused.
@@ -26,8 +21,36 @@ pub enum SimFault {
     Order(OrderFault),
     /// The machine could not be booted.
     Boot(BootFault),
-    /// The report ran out of memory.
-    Report,
+    /// The report was not written whole.
+    Report(ReportFault),
+}
+
+impl SimFault {
+    ghost use Rattle.machine.specs.Simulation.{sim_fault_number, sim_fault_name};
+
+    /// The number of the refusal.
+    pub fn number(self) -> u8
+        ensures { result ≡ sim_fault_number self }
+    {
+        match self {
+            SimFault::Listing(_) => 1,
+            SimFault::Order(_) => 2,
+            SimFault::Boot(_) => 3,
+            SimFault::Report(_) => 4,
+        }
+    }
+
+    /// The name of the refusal.
+    pub fn name(self) -> &'static str
+        ensures { result.now ≡ sim_fault_name self }
+    {
+        match self {
+            SimFault::Listing(_) => "Listing",
+            SimFault::Order(_) => "Order",
+            SimFault::Boot(_) => "Boot",
+            SimFault::Report(_) => "Report",
+        }
+    }
 }
 
 impl From<ListingFault> for SimFault {
@@ -60,31 +83,39 @@ impl From<BootFault> for SimFault {
     }
 }
 
-impl From<AllocError> for SimFault {
+impl From<ReportFault> for SimFault {
     ghost use Rattle.machine.specs.declared.simulation.SimFault.TheVariants.{Report};
 
-    ghost from_gives = { λ _ fault. fault ≡ Report };
+    ghost from_gives = { λ refused fault. fault ≡ Report refused };
 
-    fn from(_: AllocError) -> SimFault {
-        SimFault::Report
+    fn from(refused: ReportFault) -> SimFault {
+        SimFault::Report(refused)
     }
 }
 
-/// Runs the machine of a listing in an order, with a trace of at most `limit` entries, and reports
-/// it. Nothing of the report is made before both texts are good; the listing is judged first.
-pub fn simulate(
+/// Runs the machine of a listing in an order, with a trace of at most `limit` entries, and writes
+/// its report. Answers the step that was refused, if one was, with its place in the order counted
+/// from 0. Nothing is written before both texts are good; the listing is judged first. After a
+/// fault of the report the sink took a beginning of it.
+pub fn simulate<S: Sink>(
     alloc: Global,
     listing: &[u8],
     order: &[u8],
     limit: u32,
-) -> Result<Simulated, SimFault>
-    ensures shown { IfOk result (λ ran.
-        IsShownRun listing.now order.now limit (string_bytes ran.report) ran.refused) }
-    ensures refused { IfErr result (λ fault. IsRefusedRun listing.now order.now limit fault) }
+    out: &mut S,
+) -> Result<Option<(usize, StepFault)>, SimFault>
+    ensures shown { IfOk result (λ end.
+        IsShownRun listing.now order.now limit (Appends (S.taken out.old) (S.taken out.new)) end) }
+    ensures refused { IfErr result (λ fault.
+        IsRefusedRun listing.now order.now limit
+        (TakesBeginning (S.taken out.old) (S.taken out.new)) fault) }
+    ensures untouched { IfErr result (λ fault. is_reported fault ≡ false → out.new ≡ out.old) }
+    ensures failures { S.failures out.new ≡ S.failures out.old + failures_of_run result }
+    ensures place { S.place out.new ≡ S.place out.old }
 {
     let image = read_listing(alloc, listing)?;
     let harts = read_order(alloc, order)?;
     let (core, refused) = run_order(alloc, image, harts.as_slice(), limit)?;
-    let report = report_text(alloc, core.view())?;
-    Ok(Simulated { report, refused })
+    write_report(alloc, core.view(), out)?;
+    Ok(refused)
 }

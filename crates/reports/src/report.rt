@@ -103,56 +103,6 @@ fn write_granule(out: &mut String, number: usize, value: Cap) -> Result<(), NoMe
     Ok(())
 }
 
-/// Appends the lines of the entries.
-fn write_entries(out: &mut String, entries: &[Entry]) -> Result<(), NoMemory>
-    ensures { OnOk result (string_bytes out.new
-        ≡ string_bytes out.old ++ numbered entry_line 0 entries.now) }
-{
-    for (place, entry) in entries.iter().enumerate() {
-        write_entry(out, place, entry)?;
-    }
-    Ok(())
-}
-
-/// Appends the lines of the harts.
-fn write_harts(out: &mut String, harts: &[Hart]) -> Result<(), NoMemory>
-    ensures { OnOk result (string_bytes out.new
-        ≡ string_bytes out.old ++ numbered hart_lines 0 harts.now) }
-{
-    for (number, hart) in harts.iter().enumerate() {
-        write_hart(out, number, hart)?;
-    }
-    Ok(())
-}
-
-/// Appends the lines of the granules.
-fn write_granules(out: &mut String, view: View<'_>) -> Result<(), NoMemory>
-    ensures { OnOk result (string_bytes out.new
-        ≡ string_bytes out.old ++ numbered granule_line 0 (state_of view.entry).memory) }
-{
-    for number in 0..view.granule_count() {
-        write_granule(out, number, view.granule(number))?;
-    }
-    Ok(())
-}
-
-/// Report 1 of what is shown, as text. Fails only when out of memory.
-#[tactic(auto, unfolding(crate::specs::Report::report, crate::specs::Report::title_line, crate::specs::Report::count_line))]
-pub fn report_text(alloc: Global, view: View<'_>) -> Result<String, NoMemory>
-    ensures { IfOk result (λ text. string_bytes text
-        ≡ report view.entry.image.now view.entry.entries.now (state_of view.entry)) }
-{
-    let mut out = String::new(alloc);
-    writeln!(out, "cheri-sim report 1")?;
-    write_image(&mut out, view.image)?;
-    writeln!(out, "entries {}", view.entries.len())?;
-    write_entries(&mut out, view.entries)?;
-    write_harts(&mut out, view.harts)?;
-    write_granules(&mut out, view)?;
-    writeln!(out, "end")?;
-    Ok(out)
-}
-
 /// The most bytes of one put.
 const PIECE: usize = 65_536;
 
