@@ -1,2 +1,6 @@
--- How the program ends.
+-- What the program prints, and how it ends.
+pub mod FaultLemmas
+pub mod PrintLemmas
+pub mod RunLemmas
+pub mod RaceLemmas
 pub mod ProgramLemmas

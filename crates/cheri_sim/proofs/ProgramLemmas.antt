@@ -1,107 +1,161 @@
 -- Faults of the crates below as faults of the program: what they say is so.
-use Rattle.std.proofs.Common.{◌≡◌, ◌∙◌, ap, sym, subst, ℕ, List, Option, Some, None, Ok, Err, Result, refl, inl, inr}
-use Rattle.std.specs.Prelude.{◌⊎◌}
+use Rattle.std.proofs.Common.{◌≡◌, ◌≢◌, subst, ℕ, List, Option, Some, None, Ok, Err, Result, refl, inl, inr}
+use Rattle.std.specs.Prelude.{OnOk, IfErr}
 use Rattle.texts.specs.declared.listing.fault.ListingFault.{ListingFault}
-use Rattle.texts.specs.declared.listing.fault.ListingFaultKind.{ListingFaultKind}
-use Rattle.texts.specs.declared.listing.fault.ListingFaultKind.TheVariants as listing_kinds
-use Rattle.texts.specs.declared.orders.OrderFault.{OrderFault}
-use Rattle.texts.specs.declared.orders.OrderFaultKind.{OrderFaultKind}
-use Rattle.texts.specs.declared.orders.OrderFaultKind.TheVariants as order_kinds
 use Rattle.texts.specs.ListingFaults.{Gives}
-use Rattle.texts.specs.Orders.{GivesFault, order_of}
 use Rattle.texts.specs.ListingMeaning.{listing_meaning}
-use Rattle.machine.specs.declared.simulation.SimFault.{SimFault}
-use Rattle.machine.specs.declared.simulation.SimFault.TheVariants as sim
-use Rattle.machine.specs.Simulation.{IsRefusedRun}
-use Rattle.command_line.specs.Requests.{Asked, Check, Run}
+use Rattle.machine.specs.declared.faults.StepFault.{StepFault}
+use Rattle.command_line.specs.Requests.{Asked, Check, Run, Race, Bounds, Decode}
 use Rattle.command_line.specs.declared.requests.ReportForm.{ReportForm}
 use Rattle.command_line.specs.declared.faults.CommandFault.{CommandFault}
 use Rattle.command_line.specs.declared.faults.CommandFault.TheVariants as commands
 use Rattle.cheri_sim.specs.declared.faults.Fault.{Fault}
 use Rattle.cheri_sim.specs.declared.faults.Fault.TheVariants as faults
-use Rattle.cheri_sim.specs.Faults.{status_of, command_fault, listing_fault, listing_fault_of_kind, order_fault, order_fault_of_kind, sim_fault}
+use Rattle.cheri_sim.specs.Faults.{status_of, command_fault, listing_fault}
 use Rattle.cheri_sim.specs.Files.{KnownFiles, AreBytesOf}
-use Rattle.cheri_sim.specs.Program.{Fails, FailsAlone, FailsWith, HasListingFault, HasOrderFault, OfNamed, listing_named, order_named}
+use Rattle.cheri_sim.specs.Printing.{Prints}
+use Rattle.cheri_sim.specs.Program.{Begins, Fails, FailsAlone, FailsWith, IsRaceAnswer, IsRunAnswer}
+use Rattle.cheri_sim.specs.Races.{IsRace, IsUnraced}
+use Rattle.cheri_sim.specs.Runs.{IsShown, IsUnprinted}
+use Rattle.cheri_sim.proofs.FaultLemmas.{listing_refused}
 
--- a refused listing is reported as such, but for memory
-listing_kind_is : (kind : ListingFaultKind) (fault : ListingFault) →
-    (listing_fault_of_kind kind fault ≡ faults.NoMemory) ⊎ (listing_fault_of_kind kind fault ≡ faults.Listing fault)
-listing_kind_is listing_kinds.NoMemory fault = inl refl
-listing_kind_is listing_kinds.NotAscii fault = inr refl
-listing_kind_is listing_kinds.Word fault = inr refl
-listing_kind_is listing_kinds.Operand fault = inr refl
-listing_kind_is listing_kinds.Range fault = inr refl
-listing_kind_is listing_kinds.Label fault = inr refl
-listing_kind_is listing_kinds.Twice fault = inr refl
-listing_kind_is listing_kinds.Capability fault = inr refl
-listing_kind_is listing_kinds.NoHart fault = inr refl
-listing_kind_is listing_kinds.Size fault = inr refl
-
--- a listing's fault, of a request that names this listing
-listing_fails : (files : KnownFiles) (request : Option Asked) (name bytes : List ℕ) (fault : ListingFault)
-    (old new : Option (List ℕ)) → listing_named request ≡ Some name → AreBytesOf (files name) bytes →
-    Gives (Err fault) (listing_meaning bytes) → new ≡ old → Fails files request (listing_fault fault) old new
-listing_fails files request name bytes fault old new named are (inl memory) same =
-    subst (λ (f : Fault). Fails files request f old new) (sym (ap listing_fault memory)) same
-listing_fails files request name bytes fault old new named are (inr meaning) same = by (listing_kind_is fault.kind fault)
-  where
-    by : (listing_fault fault ≡ faults.NoMemory) ⊎ (listing_fault fault ≡ faults.Listing fault) →
-        Fails files request (listing_fault fault) old new
-    by (inl is) = subst (λ (f : Fault). Fails files request f old new) (sym is) same
-    by (inr is) = subst (λ (f : Fault). Fails files request f old new) (sym is)
-        (subst (λ (n : Option (List ℕ)). OfNamed (HasListingFault files fault) n) (sym named) (bytes, are, meaning), same)
-
--- the same of an order
-order_fails : (files : KnownFiles) (request : Option Asked) (name bytes : List ℕ) (kind : OrderFaultKind) (fault : OrderFault)
-    (old new : Option (List ℕ)) → order_named request ≡ Some name → AreBytesOf (files name) bytes →
-    GivesFault kind fault (order_of bytes) → new ≡ old → Fails files request (order_fault_of_kind kind fault) old new
-order_fails files request name bytes order_kinds.NoMemory fault old new named are gives same = same
-order_fails files request name bytes order_kinds.Byte fault old new named are gives same =
-    (subst (λ (n : Option (List ℕ)). OfNamed (HasOrderFault files fault) n) (sym named) (bytes, are, gives), same)
-order_fails files request name bytes order_kinds.Size fault old new named are gives same =
-    (subst (λ (n : Option (List ℕ)). OfNamed (HasOrderFault files fault) n) (sym named) (bytes, are, gives), same)
+-- nothing was printed
+pub nothing_printed : (files : KnownFiles) (request : Option Asked) (old new : Option (List ℕ)) → new ≡ old →
+    Begins files request old new
+unfolding Begins
+nothing_printed files None old new same = same
+nothing_printed files (Some (Check listing)) old new same = same
+nothing_printed files (Some (Run listing order form)) old new same = inl same
+nothing_printed files (Some (Race listing turns)) old new same = inl same
+nothing_printed files (Some (Bounds base len)) old new same = same
+nothing_printed files (Some (Decode word)) old new same = same
 
 -- `check` fails for its listing
 pub check_fails : (files : KnownFiles) (listing bytes : List ℕ) (fault : ListingFault) (old new : Option (List ℕ)) →
     AreBytesOf (files listing) bytes → Gives (Err fault) (listing_meaning bytes) → new ≡ old →
     Fails files (Some (Check listing)) (listing_fault fault) old new
 check_fails files listing bytes fault old new are gives same =
-    listing_fails files (Some (Check listing)) listing bytes fault old new refl are gives same
+    listing_refused (λ (f : Fault). Fails files (Some (Check listing)) f old new) bytes fault
+    (nothing_printed files (Some (Check listing)) old new same) (λ meaning. ((bytes, are, meaning), same)) gives
 
--- `run` fails for what a simulation refuses
+-- what was printed of a run answers for its files
+pub run_answers_for : (files : KnownFiles) (listing order : List ℕ) (form : ReportForm) (end : Option (ℕ × StepFault))
+    (listing_bytes order_bytes : List ℕ) (old new : Option (List ℕ)) → AreBytesOf (files listing) listing_bytes →
+    AreBytesOf (files order) order_bytes → Prints (λ text. IsShown form listing_bytes order_bytes text end) old new →
+    Prints (IsRunAnswer files listing order form end) old new
+run_answers_for files listing order form end listing_bytes order_bytes old new listing_are order_are printed = (
+  printed.0,
+  record {
+    listing_bytes = listing_bytes;
+    order_bytes = order_bytes;
+    listing_is = listing_are;
+    order_is = order_are;
+    shown = printed.1;
+  },
+  printed.2,
+)
+
+-- up to a step that was refused
+pub run_stops : (files : KnownFiles) (listing order : List ℕ) (form : ReportForm) (place : ℕ) (fault : StepFault)
+    (listing_bytes order_bytes : List ℕ) (old new : Option (List ℕ)) → AreBytesOf (files listing) listing_bytes →
+    AreBytesOf (files order) order_bytes →
+    Prints (λ text. IsShown form listing_bytes order_bytes text (Some (place, fault))) old new →
+    Fails files (Some (Run listing order form)) (faults.Step place fault) old new
+run_stops files listing order form place fault listing_bytes order_bytes old new listing_are order_are printed =
+    run_answers_for files listing order form (Some (place, fault)) listing_bytes order_bytes old new listing_are order_are printed
+
+-- a run that was not printed whole
 pub run_fails : (files : KnownFiles) (listing order : List ℕ) (form : ReportForm) (listing_bytes order_bytes : List ℕ)
-    (limit : ℕ) (refused : SimFault) (old new : Option (List ℕ)) → AreBytesOf (files listing) listing_bytes →
-    AreBytesOf (files order) order_bytes → IsRefusedRun listing_bytes order_bytes limit refused → new ≡ old →
-    Fails files (Some (Run listing order form)) (sim_fault refused) old new
-run_fails files listing order form listing_bytes order_bytes limit (sim.Listing fault) old new listing_are order_are is same =
-    listing_fails files (Some (Run listing order form)) listing listing_bytes fault old new refl listing_are is same
-run_fails files listing order form listing_bytes order_bytes limit (sim.Order fault) old new listing_are order_are is same =
-    order_fails files (Some (Run listing order form)) order order_bytes fault.kind fault old new refl order_are is.1 same
-run_fails files listing order form listing_bytes order_bytes limit (sim.Boot fault) old new listing_are order_are is same = same
-run_fails files listing order form listing_bytes order_bytes limit sim.Report old new listing_are order_are is same = same
+    (fault : Fault) (old new : Option (List ℕ)) → AreBytesOf (files listing) listing_bytes →
+    AreBytesOf (files order) order_bytes → IsUnprinted listing_bytes order_bytes old new fault →
+    Fails files (Some (Run listing order form)) fault old new
+unfolding Begins
+run_fails files listing order form first second faults.NoMemory old new first_are second_are (inl same) = inl same
+run_fails files listing order form first second faults.NoMemory old new first_are second_are (inr begun) =
+    inr (first, second, first_are, second_are, begun)
+run_fails files listing order form first second faults.CannotWrite old new first_are second_are is = tt
+run_fails files listing order form first second (faults.Listing fault) old new first_are second_are is = ((first, first_are, is.0), is.1)
+run_fails files listing order form first second (faults.Order fault) old new first_are second_are is = ((second, second_are, is.0), is.1)
+run_fails files listing order form first second faults.Usage old new first_are second_are is = absurd is
+run_fails files listing order form first second faults.BadNumber old new first_are second_are is = absurd is
+run_fails files listing order form first second faults.CannotReadListing old new first_are second_are is = absurd is
+run_fails files listing order form first second faults.CannotReadOrder old new first_are second_are is = absurd is
+run_fails files listing order form first second faults.CannotStart old new first_are second_are is = absurd is
+run_fails files listing order form first second faults.ImageDiffers old new first_are second_are is = absurd is
+run_fails files listing order form first second (faults.Step place fault) old new first_are second_are is = absurd is
+
+pub run_no_usage : (listing order : List ℕ) (fault : Fault) (old new : Option (List ℕ)) →
+    IsUnprinted listing order old new fault → fault ≢ faults.Usage
+run_no_usage listing order fault old new is usage = absurd (subst (IsUnprinted listing order old new) usage is)
+
+pub ruleset run_answers = (nothing_printed, run_answers_for, run_stops, run_fails, run_no_usage)
+
+-- what was printed of a race answers for its file
+pub race_answers_for : {E : Type 0} (files : KnownFiles) (listing bytes : List ℕ) (result : Result (Unit {0}) E)
+    (old new : Option (List ℕ)) → AreBytesOf (files listing) bytes → OnOk result (Prints (IsRace bytes) old new) →
+    OnOk result (Prints (IsRaceAnswer files listing) old new)
+race_answers_for files listing bytes (Ok done) old new are printed =
+    (printed.0, record { bytes = bytes; bytes_are = are; race = printed.1 }, printed.2)
+race_answers_for files listing bytes (Err fault) old new are printed = tt
+
+-- a race that was not printed whole
+race_fails_for : (files : KnownFiles) (listing : List ℕ) (turns : ℕ) (bytes : List ℕ) (fault : Fault) (old new : Option (List ℕ)) →
+    AreBytesOf (files listing) bytes → IsUnraced bytes old new fault → Fails files (Some (Race listing turns)) fault old new
+unfolding Begins
+race_fails_for files listing turns bytes faults.NoMemory old new are (inl same) = inl same
+race_fails_for files listing turns bytes faults.NoMemory old new are (inr begun) =
+    inr (begun.0, record { bytes = bytes; bytes_are = are; race = begun.1 }, begun.2)
+race_fails_for files listing turns bytes faults.CannotWrite old new are is = tt
+race_fails_for files listing turns bytes faults.CannotStart old new are is = (refl, is)
+race_fails_for files listing turns bytes faults.ImageDiffers old new are is = (refl, is)
+race_fails_for files listing turns bytes (faults.Listing fault) old new are is = ((bytes, are, is.0), is.1)
+race_fails_for files listing turns bytes faults.Usage old new are is = absurd is
+race_fails_for files listing turns bytes faults.BadNumber old new are is = absurd is
+race_fails_for files listing turns bytes faults.CannotReadListing old new are is = absurd is
+race_fails_for files listing turns bytes faults.CannotReadOrder old new are is = absurd is
+race_fails_for files listing turns bytes (faults.Order fault) old new are is = absurd is
+race_fails_for files listing turns bytes (faults.Step place fault) old new are is = absurd is
+
+pub race_fails : {T : Type 0} (files : KnownFiles) (listing : List ℕ) (turns : ℕ) (bytes : List ℕ) (result : Result T Fault)
+    (old new : Option (List ℕ)) → AreBytesOf (files listing) bytes → IfErr result (λ fault. IsUnraced bytes old new fault) →
+    IfErr result (λ fault. Fails files (Some (Race listing turns)) fault old new)
+race_fails files listing turns bytes (Ok done) old new are is = tt
+race_fails files listing turns bytes (Err fault) old new are is = race_fails_for files listing turns bytes fault old new are is
+
+pub race_no_usage : {T : Type 0} (bytes : List ℕ) (result : Result T Fault) (old new : Option (List ℕ)) →
+    IfErr result (λ fault. IsUnraced bytes old new fault) → result ≢ Err faults.Usage
+race_no_usage {T} bytes result old new is usage =
+    absurd (subst (λ (r : Result T Fault). IfErr r (λ fault. IsUnraced bytes old new fault)) usage is)
+
+pub ruleset race_answers = (nothing_printed, race_answers_for, race_fails, race_no_usage)
 
 -- words that ask for nothing
 pub command_fails : {X : Type 0} (files : KnownFiles) (request : Option Asked) (result : Result X CommandFault)
     (refused : CommandFault) (old new : Option (List ℕ)) → result ≡ Err refused →
     (result ≡ Err commands.Usage → request ≡ None) → new ≡ old → Fails files request (command_fault refused) old new
 command_fails files request result commands.Usage old new is nothing same = (nothing is, same)
-command_fails files request result commands.NoMemory old new is nothing same = same
+command_fails files request result commands.NoMemory old new is nothing same = nothing_printed files request old new same
 
 -- a command that reads no file
 pub fails_alone : (files : KnownFiles) (request : Option Asked) (fault : Fault)
     (old new : Option (List ℕ)) → FailsAlone request fault old new → Fails files request fault old new
 fails_alone files request faults.CannotWrite old new fails = tt
-fails_alone files request faults.NoMemory old new fails = fails
+fails_alone files request faults.NoMemory old new fails = nothing_printed files request old new fails
 fails_alone files request faults.BadNumber old new fails = fails
 fails_alone files request faults.Usage old new fails = absurd fails
 fails_alone files request faults.CannotReadListing old new fails = absurd fails
 fails_alone files request faults.CannotReadOrder old new fails = absurd fails
+fails_alone files request faults.CannotStart old new fails = absurd fails
+fails_alone files request faults.ImageDiffers old new fails = absurd fails
 fails_alone files request (faults.Listing fault) old new fails = absurd fails
 fails_alone files request (faults.Order fault) old new fails = absurd fails
 fails_alone files request (faults.Step place fault) old new fails = absurd fails
 
 -- what a command line fails for
-pub ruleset answer_failures = (command_fails, fails_alone)
+pub ruleset answer_failures = (nothing_printed, command_fails, fails_alone)
+
+-- what `check` fails for
+pub ruleset check_failures = (nothing_printed, check_fails)
 
 -- a fault and its status
 pub fails_with : (files : KnownFiles) (request : Option Asked) (fault : Fault) (status : ℕ) (old new : Option (List ℕ)) →

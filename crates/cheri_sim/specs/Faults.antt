@@ -1,7 +1,7 @@
 -- The lines of standard error, and the exit statuses.
 use Rattle.std.specs.Prelude.{ℕ, List, ◌++◌, codes, decimal}
 use Rattle.cheri_sim.specs.declared.faults.Fault.{Fault}
-use Rattle.cheri_sim.specs.declared.faults.Fault.TheVariants.{Usage, NoMemory, BadNumber, CannotReadListing, CannotReadOrder, CannotWrite, Listing, Order, Step}
+use Rattle.cheri_sim.specs.declared.faults.Fault.TheVariants.{Usage, NoMemory, BadNumber, CannotReadListing, CannotReadOrder, CannotWrite, CannotStart, ImageDiffers, Listing, Order, Step}
 use Rattle.command_line.specs.declared.faults.CommandFault.{CommandFault}
 use Rattle.command_line.specs.declared.faults.CommandFault.TheVariants as commands
 use Rattle.texts.specs.declared.listing.fault.ListingFault.{ListingFault}
@@ -12,9 +12,13 @@ use Rattle.texts.specs.declared.orders.OrderFaultKind.{OrderFaultKind}
 use Rattle.texts.specs.declared.orders.OrderFaultKind.TheVariants as order_kinds
 use Rattle.texts.specs.ListingFaults.{listing_fault_text}
 use Rattle.texts.specs.Orders.{order_fault_text}
+use Rattle.reports.specs.declared.report.fault.ReportFault.{ReportFault}
+use Rattle.reports.specs.declared.report.fault.ReportFault.TheVariants as written
 use Rattle.machine.specs.Faults.{step_fault_text}
 use Rattle.machine.specs.declared.simulation.SimFault.{SimFault}
 use Rattle.machine.specs.declared.simulation.SimFault.TheVariants as sim
+use Rattle.harts.specs.declared.faults.RunFault.{RunFault}
+use Rattle.harts.specs.declared.faults.RunFault.TheVariants as race
 
 -- what standard error says of a fault
 abbrev pub fault_text : Fault → List ℕ
@@ -24,6 +28,8 @@ fault_text BadNumber = codes "bad number"
 fault_text CannotReadListing = codes "cannot read listing"
 fault_text CannotReadOrder = codes "cannot read order"
 fault_text CannotWrite = codes "cannot write"
+fault_text CannotStart = codes "cannot start a worker"
+fault_text ImageDiffers = codes "image differs"
 fault_text (Listing fault) = codes "listing line " ++ (decimal fault.line ++ (codes ": " ++ listing_fault_text fault.kind))
 fault_text (Order fault) = codes "order byte " ++ (decimal fault.offset ++ (codes ": " ++ order_fault_text fault.kind))
 fault_text (Step place fault) = codes "order step " ++ (decimal place ++ (codes ": " ++ step_fault_text fault))
@@ -56,9 +62,20 @@ order_fault_of_kind _ fault = Order fault
 abbrev pub order_fault : OrderFault → Fault
 order_fault fault = order_fault_of_kind fault.kind fault
 
--- a simulation that was refused; the program's limit is lawful, so booting it only runs out of memory
+-- a report that was not written whole
+abbrev pub written_fault : ReportFault → Fault
+written_fault written.Write = CannotWrite
+written_fault written.NoMemory = NoMemory
+
+-- A simulation or a race that was refused. The program's limit is lawful, so booting only runs out of memory.
 abbrev pub sim_fault : SimFault → Fault
 sim_fault (sim.Listing fault) = listing_fault fault
 sim_fault (sim.Order fault) = order_fault fault
 sim_fault (sim.Boot fault) = NoMemory
-sim_fault sim.Report = NoMemory
+sim_fault (sim.Report fault) = written_fault fault
+
+abbrev pub race_fault : RunFault → Fault
+race_fault (race.Boot fault) = NoMemory
+race_fault race.NoMemory = NoMemory
+race_fault race.Spawn = CannotStart
+race_fault race.ImageDiffers = ImageDiffers

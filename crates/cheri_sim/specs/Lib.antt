@@ -2,5 +2,7 @@
 pub mod Answers
 pub mod Faults
 pub mod Files
+pub mod Printing
 pub mod Runs
+pub mod Races
 pub mod Program

@@ -1,7 +1,6 @@
 -- What the program prints for what it was asked.
-use Rattle.std.specs.Prelude.{◌≡◌, ℕ, List, ◌∷◌, map, codes, Option, Some, None, Ok, Err, IsErr, ◌⊎◌, ⊤, String, string_bytes}
+use Rattle.std.specs.Prelude.{◌≡◌, ℕ, List, ◌∷◌, map, codes, Option, Some, None, Ok, Err, IsErr, ◌⊎◌, ⊤, Bool, true, false, String, string_bytes}
 use Rattle.std.specs.Global.{Global}
-use Rattle.std.specs.Io.KnownBytes.{Appends}
 use Rattle.cheri_model.specs.Image.{ImageParts}
 use Rattle.cheri_model.specs.declared.encoding.TheConstants.{ADDRESS_SPACE}
 use Rattle.texts.specs.declared.listing.fault.ListingFault.{ListingFault}
@@ -10,14 +9,16 @@ use Rattle.texts.specs.ListingMeaning.{listing_meaning}
 use Rattle.texts.specs.Orders.{order_of}
 use Rattle.machine.specs.declared.faults.StepFault.{StepFault}
 use Rattle.command_line.specs.declared.requests.ReportForm.{ReportForm}
-use Rattle.command_line.specs.Requests.{Asked, Check, Run, Bounds, Decode}
+use Rattle.command_line.specs.Requests.{Asked, Check, Run, Race, Bounds, Decode}
 use Rattle.cheri_sim.specs.declared.program.TheConstants.{GREATEST_ADDRESS, GREATEST_WORD}
 use Rattle.cheri_sim.specs.declared.faults.Fault.{Fault}
-use Rattle.cheri_sim.specs.declared.faults.Fault.TheVariants.{Usage, NoMemory, BadNumber, CannotReadListing, CannotReadOrder, CannotWrite, Listing, Order, Step}
+use Rattle.cheri_sim.specs.declared.faults.Fault.TheVariants.{Usage, NoMemory, BadNumber, CannotReadListing, CannotReadOrder, CannotWrite, CannotStart, ImageDiffers, Listing, Order, Step}
 use Rattle.cheri_sim.specs.Answers.{number_given, bounds_line, check_line, decode_line}
 use Rattle.cheri_sim.specs.Faults.{status_of}
-use Rattle.cheri_sim.specs.Runs.{IsShown}
 use Rattle.cheri_sim.specs.Files.{KnownFiles, AreBytesOf}
+use Rattle.cheri_sim.specs.Printing.{Prints, PrintsBeginning}
+use Rattle.cheri_sim.specs.Races.{IsRace}
+use Rattle.cheri_sim.specs.Runs.{BeginsRun, IsShown}
 
 -- the command line of the words that are given after the program's name
 abbrev pub command_line : List (String Global) → List (List ℕ)
@@ -39,6 +40,12 @@ pub record IsRunAnswer (files : KnownFiles) (listing order : List ℕ) (form : R
   pub order_is : AreBytesOf (files order) order_bytes
   pub shown : IsShown form listing_bytes order_bytes text end
 
+-- `race`: the report of a race of the listing in the file
+pub record IsRaceAnswer (files : KnownFiles) (listing : List ℕ) (text : List ℕ) : Type 0 where
+  pub bytes : List ℕ
+  pub bytes_are : AreBytesOf (files listing) bytes
+  pub race : IsRace bytes text
+
 -- `bounds`: both words are numbers in their ranges, and this is the line of that range
 pub record IsBoundsAnswer (base len : List ℕ) (text : List ℕ) : Type 0 where
   pub first : ℕ
@@ -57,6 +64,7 @@ pub record IsDecodeAnswer (word : List ℕ) (text : List ℕ) : Type 0 where
 abbrev pub IsAnswer : KnownFiles → Asked → List ℕ → Type 0
 IsAnswer files (Check listing) text = IsCheckAnswer files listing text
 IsAnswer files (Run listing order form) text = IsRunAnswer files listing order form None text
+IsAnswer files (Race listing turns) text = IsRaceAnswer files listing text
 IsAnswer files (Bounds base len) text = IsBoundsAnswer base len text
 IsAnswer files (Decode word) text = IsDecodeAnswer word text
 
@@ -65,11 +73,7 @@ abbrev pub IsStopped : KnownFiles → (ℕ × StepFault) → Asked → List ℕ 
 IsStopped files at (Run listing order form) text = IsRunAnswer files listing order form (Some at) text
 IsStopped files at _ text = ⊥
 
--- the known bytes of a writer grew by a text of this kind, and by nothing else
-abbrev pub Prints : (List ℕ → Type 0) → Option (List ℕ) → Option (List ℕ) → Type 0
-Prints IsText old new = (text : List ℕ) × IsText text × Appends old new text
-
--- the same of what was asked for, if anything was: where nothing was, nothing answers it
+-- a writer got a text of this kind for what was asked for, if anything was: where nothing was, nothing answers it
 abbrev pub PrintsFor : (Asked → List ℕ → Type 0) → Option Asked → Option (List ℕ) → Option (List ℕ) → Type 0
 PrintsFor IsText (Some request) old new = Prints (IsText request) old new
 PrintsFor IsText None old new = ⊥
@@ -84,6 +88,7 @@ HasBadNumber _ = ⊥
 abbrev pub listing_named : Option Asked → Option (List ℕ)
 listing_named (Some (Check listing)) = Some listing
 listing_named (Some (Run listing order form)) = Some listing
+listing_named (Some (Race listing turns)) = Some listing
 listing_named _ = None
 
 abbrev pub order_named : Option Asked → Option (List ℕ)
@@ -108,15 +113,36 @@ abbrev pub HasOrderFault : KnownFiles → OrderFault → List ℕ → Type 0
 HasOrderFault files fault name =
     (bytes : List ℕ) × AreBytesOf (files name) bytes × (order_of bytes ≡ Err fault)
 
+-- the bytes of the files that a run names, of which this is so
+abbrev pub OfFiles : KnownFiles → List ℕ → List ℕ → (List ℕ → List ℕ → Type 0) → Type 0
+OfFiles files listing order IsSo =
+    (listing_bytes : List ℕ) × (order_bytes : List ℕ) × AreBytesOf (files listing) listing_bytes
+    × AreBytesOf (files order) order_bytes × IsSo listing_bytes order_bytes
+
+-- Where memory ran out, nothing was printed, or a beginning of the report of a run or of a race.
+unfoldable pub Begins : KnownFiles → Option Asked → Option (List ℕ) → Option (List ℕ) → Type 0
+Begins files (Some (Run listing order form)) old new =
+    (new ≡ old) ⊎ OfFiles files listing order (λ first second. BeginsRun first second old new)
+Begins files (Some (Race listing turns)) old new = (new ≡ old) ⊎ PrintsBeginning (IsRaceAnswer files listing) old new
+Begins files _ old new = new ≡ old
+
+-- whether a race was asked for
+abbrev pub is_race : Option Asked → Bool
+is_race (Some (Race listing turns)) = true
+is_race _ = false
+
 -- A request fails for this reason, which leaves standard output so. Nothing is known after a failed write; before a
--- refused step its report was printed; every other fault comes before anything is printed.
+-- refused step its report was printed; where memory ran out, a beginning of a report may have been; every other fault
+-- comes before anything is printed.
 abbrev pub Fails : KnownFiles → Option Asked → Fault → Option (List ℕ) → Option (List ℕ) → Type 0
 Fails files request Usage old new = (request ≡ None) × (new ≡ old)
-Fails files request NoMemory old new = new ≡ old
+Fails files request NoMemory old new = Begins files request old new
 Fails files request BadNumber old new = HasBadNumber request × (new ≡ old)
 Fails files request CannotReadListing old new = OfNamed (IsUnknown files) (listing_named request) × (new ≡ old)
 Fails files request CannotReadOrder old new = OfNamed (IsUnknown files) (order_named request) × (new ≡ old)
 Fails files request CannotWrite old new = ⊤
+Fails files request CannotStart old new = (is_race request ≡ true) × (new ≡ old)
+Fails files request ImageDiffers old new = (is_race request ≡ true) × (new ≡ old)
 Fails files request (Listing fault) old new = OfNamed (HasListingFault files fault) (listing_named request) × (new ≡ old)
 Fails files request (Order fault) old new = OfNamed (HasOrderFault files fault) (order_named request) × (new ≡ old)
 Fails files request (Step place fault) old new = PrintsFor (IsStopped files (place, fault)) request old new

@@ -1,11 +1,12 @@
 -- The run of a listing in an order, shown in a form.
-use Rattle.std.specs.Prelude.{◌≡◌, ℕ, List, Option, Ok}
+use Rattle.std.specs.Prelude.{◌≡◌, ℕ, List, Option, Ok, Err, ◌⊎◌, ⊤}
 use Rattle.serde_json.specs.Written.{compact_text}
 use Rattle.cheri_model.specs.Image.{ImageParts}
 use Rattle.texts.specs.ListingMeaning.{listing_meaning}
 use Rattle.texts.specs.Orders.{order_of}
 use Rattle.reports.specs.Json.{json_report}
 use Rattle.reports.specs.Report.{line}
+use Rattle.reports.specs.Sinks.{TakesBeginning}
 use Rattle.machine.specs.declared.cores.TheConstants.{GREATEST_TRACE_LIMIT}
 use Rattle.machine.specs.declared.faults.StepFault.{StepFault}
 use Rattle.machine.specs.Cores.{CoreParts}
@@ -13,6 +14,8 @@ use Rattle.machine.specs.Runs.{IsRunOf}
 use Rattle.machine.specs.Simulation.{IsShownRun}
 use Rattle.command_line.specs.declared.requests.ReportForm.{ReportForm}
 use Rattle.command_line.specs.declared.requests.ReportForm.TheVariants as forms
+use Rattle.cheri_sim.specs.declared.faults.Fault.{Fault}
+use Rattle.cheri_sim.specs.declared.faults.Fault.TheVariants.{NoMemory, CannotWrite, Listing, Order}
 
 -- A text shows a run of a listing in an order as JSON, in one line; the run ended at a refused step or at none.
 pub record IsJsonRun (listing order : List ℕ) (text : List ℕ) (end : Option (ℕ × StepFault)) : Type 0 where
@@ -26,5 +29,19 @@ pub record IsJsonRun (listing order : List ℕ) (text : List ℕ) (end : Option 
 
 -- a text shows a run in a form
 abbrev pub IsShown : ReportForm → List ℕ → List ℕ → List ℕ → Option (ℕ × StepFault) → Type 0
-IsShown forms.Text listing order text end = IsShownRun listing order GREATEST_TRACE_LIMIT text end
+IsShown forms.Text listing order text end =
+    IsShownRun listing order GREATEST_TRACE_LIMIT (λ (shown : List ℕ). text ≡ shown) end
 IsShown forms.Json listing order text end = IsJsonRun listing order text end
+
+-- Where memory ran out, nothing was printed, or a beginning of the report.
+abbrev pub BeginsRun : List ℕ → List ℕ → Option (List ℕ) → Option (List ℕ) → Type 0
+BeginsRun listing order old new =
+    (end : Option (ℕ × StepFault)) × IsShownRun listing order GREATEST_TRACE_LIMIT (TakesBeginning old new) end
+
+-- A run was not printed whole: for this fault, which left the writer's known bytes so.
+abbrev pub IsUnprinted : List ℕ → List ℕ → Option (List ℕ) → Option (List ℕ) → Fault → Type 0
+IsUnprinted listing order old new NoMemory = (new ≡ old) ⊎ BeginsRun listing order old new
+IsUnprinted listing order old new CannotWrite = ⊤
+IsUnprinted listing order old new (Listing fault) = (listing_meaning listing ≡ Err fault) × (new ≡ old)
+IsUnprinted listing order old new (Order fault) = (order_of order ≡ Err fault) × (new ≡ old)
+IsUnprinted listing order old new _ = ⊥

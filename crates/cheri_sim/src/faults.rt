@@ -4,7 +4,9 @@ ghost use Rattle.std.specs.Prelude.{◌≡◌};
 ghost use Rattle.cheri_sim.specs.Faults.{fault_text, status_of};
 
 use command_line::CommandFault;
+use harts::RunFault;
 use machine::{SimFault, StepFault};
+use reports::ReportFault;
 use std::alloc::AllocError;
 use std::fmt;
 use texts::{ListingFault, ListingFaultKind, OrderFault, OrderFaultKind};
@@ -24,6 +26,10 @@ pub enum Fault {
     CannotReadOrder,
     /// Standard output takes no more.
     CannotWrite,
+    /// The thread of a hart cannot be started.
+    CannotStart,
+    /// A race left another image than the one that it was given.
+    ImageDiffers,
     /// The listing was refused.
     Listing(ListingFault),
     /// The order was refused.
@@ -43,7 +49,9 @@ impl Fault {
             Fault::NoMemory
             | Fault::CannotReadListing
             | Fault::CannotReadOrder
-            | Fault::CannotWrite => 3,
+            | Fault::CannotWrite
+            | Fault::CannotStart
+            | Fault::ImageDiffers => 3,
         }
     }
 }
@@ -61,6 +69,8 @@ impl fmt::Display for Fault {
             Fault::CannotReadListing => f.write_str("cannot read listing"),
             Fault::CannotReadOrder => f.write_str("cannot read order"),
             Fault::CannotWrite => f.write_str("cannot write"),
+            Fault::CannotStart => f.write_str("cannot start a worker"),
+            Fault::ImageDiffers => f.write_str("image differs"),
             Fault::Listing(ListingFault { line, kind }) => write!(f, "listing line {line}: {kind}"),
             Fault::Order(OrderFault { offset, kind }) => write!(f, "order byte {offset}: {kind}"),
             Fault::Step(place, fault) => write!(f, "order step {place}: {fault}"),
@@ -117,6 +127,19 @@ impl From<OrderFault> for Fault {
     }
 }
 
+impl From<ReportFault> for Fault {
+    ghost use Rattle.cheri_sim.specs.Faults.{written_fault};
+
+    ghost from_gives = { λ refused fault. fault ≡ written_fault refused };
+
+    fn from(refused: ReportFault) -> Fault {
+        match refused {
+            ReportFault::Write => Fault::CannotWrite,
+            ReportFault::NoMemory => Fault::NoMemory,
+        }
+    }
+}
+
 impl From<SimFault> for Fault {
     ghost use Rattle.cheri_sim.specs.Faults.{sim_fault};
 
@@ -126,7 +149,22 @@ impl From<SimFault> for Fault {
         match refused {
             SimFault::Listing(fault) => Fault::from(fault),
             SimFault::Order(fault) => Fault::from(fault),
-            SimFault::Boot(_) | SimFault::Report => Fault::NoMemory,
+            SimFault::Boot(_) => Fault::NoMemory,
+            SimFault::Report(fault) => Fault::from(fault),
+        }
+    }
+}
+
+impl From<RunFault> for Fault {
+    ghost use Rattle.cheri_sim.specs.Faults.{race_fault};
+
+    ghost from_gives = { λ refused fault. fault ≡ race_fault refused };
+
+    fn from(refused: RunFault) -> Fault {
+        match refused {
+            RunFault::Boot(_) | RunFault::NoMemory => Fault::NoMemory,
+            RunFault::Spawn => Fault::CannotStart,
+            RunFault::ImageDiffers => Fault::ImageDiffers,
         }
     }
 }

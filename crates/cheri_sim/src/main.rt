@@ -4,7 +4,9 @@
 mod answers;
 mod faults;
 mod files;
+mod printing;
 mod program;
+mod races;
 mod runs;
 
 use crate::faults::Fault;
@@ -22,6 +24,7 @@ fn main(rt: HostRuntime) -> ExitCode {
     let mut err = rt.stderr();
     let status = match words_given(&rt) {
         Ok(words) => perform(
+            &rt,
             rt.alloc(),
             words.as_slice(),
             &mut SystemFiles(&rt),

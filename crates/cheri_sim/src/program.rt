@@ -2,7 +2,7 @@
 
 ghost use Rattle.std.specs.Prelude.{◌≡◌, ◌≢◌, ◌≤◌, ◌⊎◌, IfOk, IfErr, OnOk, Err, Some, None};
 ghost use Rattle.std.specs.Io.KnownBytes.{Appends};
-ghost use Rattle.command_line.specs.Requests.{Asked, asked, Check, Run, Bounds, Decode};
+ghost use Rattle.command_line.specs.Requests.{Asked, asked, Check, Run, Race, Bounds, Decode};
 ghost use Rattle.texts.specs.ListingTokens.{texts};
 ghost use Rattle.cheri_sim.specs.Answers.{number_given};
 ghost use Rattle.cheri_sim.specs.Faults.{fault_text, status_of};
@@ -10,16 +10,21 @@ ghost use Rattle.cheri_sim.specs.Files.{AreBytesOf};
 ghost use Rattle.reports.specs.Report.{line};
 ghost use Rattle.cheri_sim.specs.Program.{command_line, Fails, FailsAlone, FailsWith, IsAnswer};
 ghost use Rattle.cheri_sim.specs.Program.{IsBoundsAnswer, IsCheckAnswer, IsDecodeAnswer};
-ghost use Rattle.cheri_sim.specs.Program.{IsRunAnswer, Prints, PrintsFor};
+ghost use Rattle.cheri_sim.specs.Printing.{Prints};
+ghost use Rattle.cheri_sim.specs.Program.{IsRaceAnswer, IsRunAnswer, PrintsFor};
 
 use crate::answers::{bounds_text, check_text, decode_text};
 use crate::faults::Fault;
 use crate::files::{FileFault, Files};
-use crate::runs::simulate_as;
+use crate::printing::print;
+use crate::races::print_race;
+use crate::runs::print_run;
 use cheri_model::{ADDRESS_SPACE, NoMemory};
 use command_line::{ReportForm, Request, parse};
 use std::alloc::Global;
 use std::io::{self, Write};
+use std::sync::Wait;
+use std::thread::Threads;
 use texts::{number_of, read_listing};
 
 /// The greatest address.
@@ -42,22 +47,8 @@ fn read<F: Files>(files: &mut F, name: &str, cannot_read: Fault) -> Result<Vec<u
     }
 }
 
-/// Writes all of a text, and flushes.
-fn print<O: Write>(out: &mut O, text: &str) -> Result<(), Fault>
-    ensures printed { OnOk result (Appends (O.contents out.old) (O.contents out.new) text.now) }
-    ensures refused { IfErr result (λ fault. fault ≡ Fault.CannotWrite) }
-{
-    if out.write_all(text.as_bytes()).is_err() {
-        return Err(Fault::CannotWrite);
-    }
-    match out.flush() {
-        Ok(()) => Ok(()),
-        Err(_) => Err(Fault::CannotWrite),
-    }
-}
-
 /// `check LISTING`.
-#[tactic(auto, using(crate::proofs::ProgramLemmas::check_fails))]
+#[tactic(auto, using(crate::proofs::ProgramLemmas::check_failures))]
 fn check<F: Files, O: Write>(
     alloc: Global,
     listing: &str,
@@ -77,7 +68,7 @@ fn check<F: Files, O: Write>(
 }
 
 /// `run LISTING --order FILE [--json]`: both files are read before either is judged.
-#[tactic(auto, using(crate::proofs::ProgramLemmas::run_fails))]
+#[tactic(auto, using(crate::proofs::ProgramLemmas::run_answers))]
 fn run<F: Files, O: Write>(
     alloc: Global,
     listing: &str,
@@ -96,17 +87,38 @@ fn run<F: Files, O: Write>(
 {
     let listing_bytes = read(files, listing, Fault::CannotReadListing)?;
     let order_bytes = read(files, order, Fault::CannotReadOrder)?;
-    let ran = simulate_as(
+    let refused = print_run(
         alloc,
         form,
         listing_bytes.as_slice(),
         order_bytes.as_slice(),
+        out,
     )?;
-    print(out, ran.report.as_str())?;
-    match ran.refused {
+    match refused {
         None => Ok(()),
         Some((place, fault)) => Err(Fault::Step(place, fault)),
     }
+}
+
+/// `race LISTING --turns N`: done, whatever stopped the harts.
+#[tactic(auto, using(crate::proofs::ProgramLemmas::race_answers))]
+fn race<F: Files, O: Write, R: Threads + Wait + Sync>(
+    rt: &R,
+    alloc: Global,
+    listing: &str,
+    turns: u32,
+    files: &mut F,
+    out: &mut O,
+) -> Result<(), Fault>
+    ensures printed { OnOk result (Prints (IsRaceAnswer (F.bytes_of files.old) listing.now)
+        (O.contents out.old) (O.contents out.new)) }
+    ensures failed { IfErr result (λ fault.
+        Fails (F.bytes_of files.old) (Some (Race listing.now turns)) fault
+        (O.contents out.old) (O.contents out.new)) }
+    ensures command { result ≢ Err Fault.Usage }
+{
+    let text = read(files, listing, Fault::CannotReadListing)?;
+    print_race(rt, alloc, text.as_slice(), turns, out)
 }
 
 /// The number that an argument writes as in a listing, which is at most the limit.
@@ -160,7 +172,8 @@ fn with_program_name<'a>(alloc: Global, words: &'a [String]) -> Result<Vec<&'a s
 
 /// Does what the words ask for. The command line is judged first.
 #[tactic(auto, using(crate::proofs::ProgramLemmas::answer_failures))]
-fn answer<F: Files, O: Write>(
+fn answer<F: Files, O: Write, R: Threads + Wait + Sync>(
+    rt: &R,
     alloc: Global,
     words: &[String],
     files: &mut F,
@@ -182,6 +195,7 @@ fn answer<F: Files, O: Write>(
             order,
             form,
         } => run(alloc, listing, order, form, files, out),
+        Request::Race { listing, turns } => race(rt, alloc, listing, turns, files, out),
         Request::Bounds { base, len } => bounds(alloc, base, len, out),
         Request::Decode { word } => decode(alloc, word, out),
     }
@@ -206,10 +220,11 @@ pub fn report_fault<E: Write>(err: &mut E, fault: Fault) -> u8
 /// Does what the words of a command line ask for, which are those after the program's name, and
 /// gives the exit status: 0 where it was done, 1 where a number, a text or a step was refused, 2
 /// where the command line was, and 3 for every other fault. With status 0 `out` got the whole
-/// answer and `err` nothing. With any other status `err` gets the one line of the fault; a write to
+/// answer and `err` nothing. Only a race starts threads and waits. With any other status `err` gets the one line of the fault; a write to
 /// `err` that fails does not change the status.
 #[tactic(auto, using(crate::proofs::ProgramLemmas::fails_with))]
-pub fn perform<F: Files, O: Write, E: Write>(
+pub fn perform<F: Files, O: Write, E: Write, R: Threads + Wait + Sync>(
+    rt: &R,
     alloc: Global,
     words: &[String],
     files: &mut F,
@@ -226,7 +241,7 @@ pub fn perform<F: Files, O: Write, E: Write>(
         (asked (command_line words.now)) result (O.contents out.old) (O.contents out.new) }
     ensures nothing { asked (command_line words.now) ≡ None → (result ≡ 2) ⊎ (result ≡ 3) }
 {
-    match answer(alloc, words, files, out) {
+    match answer(rt, alloc, words, files, out) {
         Ok(()) => 0,
         Err(fault) => report_fault(err, fault),
     }

@@ -1,44 +1,132 @@
-//! The run of two texts to its report, in the form that was asked for.
+//! The run of two texts, printed in the form that was asked for.
 
-ghost use Rattle.std.specs.Prelude.{IfOk, IfErr, string_bytes};
-ghost use Rattle.machine.specs.Simulation.{IsRefusedRun};
-ghost use Rattle.cheri_sim.specs.Runs.{IsJsonRun, IsShown};
+ghost use Rattle.std.specs.Prelude.{◌≡◌, IfOk, IfErr, false, ⊤, string_bytes};
+ghost use Rattle.std.specs.Io.KnownBytes.{Appends};
+ghost use Rattle.hart_step.specs.View.{state_of};
+ghost use Rattle.serde_json.specs.Written.{compact_text};
+ghost use Rattle.reports.specs.Json.{json_report};
+ghost use Rattle.reports.specs.Report.{line};
+ghost use Rattle.reports.specs.Sinks.{TakesBeginning};
+ghost use Rattle.machine.specs.Simulation.{IsRefusedRun, IsShownRun, is_reported};
+ghost use Rattle.cheri_sim.specs.Printing.{Prints};
+ghost use Rattle.cheri_sim.specs.Runs.{IsJsonRun, IsShown, IsUnprinted};
 
+use crate::faults::Fault;
+use crate::printing::{flush, print};
 use command_line::ReportForm;
-use machine::{GREATEST_TRACE_LIMIT, SimFault, Simulated, run_order, simulate};
-use reports::report_json;
+use hart_step::View;
+use machine::{GREATEST_TRACE_LIMIT, SimFault, StepFault, run_order, simulate};
+use reports::{ReportFault, ToWrite, report_json};
 use std::alloc::Global;
+use std::io::Write;
 use texts::{read_listing, read_order};
 
-/// As `simulate`, with a JSON report in one line.
-fn simulate_json(alloc: Global, listing: &[u8], order: &[u8]) -> Result<Simulated, SimFault>
+/// The JSON report of what a view shows, in one line.
+fn json_line(alloc: Global, view: View<'_>) -> Result<String, ReportFault>
+    ensures { IfOk result (λ text. string_bytes text ≡ line (compact_text
+        (json_report view.entry.image.now view.entry.entries.now (state_of view.entry)))) }
+{
+    let mut report = report_json(alloc, view)?;
+    report.push('\n')?;
+    Ok(report)
+}
+
+/// As `simulate`, with a JSON report in one line, which is handed out.
+fn simulate_json(
+    alloc: Global,
+    listing: &[u8],
+    order: &[u8],
+) -> Result<(String, Option<(usize, StepFault)>), SimFault>
     ensures shown { IfOk result (λ ran.
-        IsJsonRun listing.now order.now (string_bytes ran.report) ran.refused) }
+        IsJsonRun listing.now order.now (string_bytes ran.0) ran.1) }
     ensures refused { IfErr result (λ fault.
-        IsRefusedRun listing.now order.now GREATEST_TRACE_LIMIT fault) }
+        IsRefusedRun listing.now order.now GREATEST_TRACE_LIMIT (λ _. ⊤) fault) }
 {
     let image = read_listing(alloc, listing)?;
     let harts = read_order(alloc, order)?;
     let (core, refused) = run_order(alloc, image, harts.as_slice(), GREATEST_TRACE_LIMIT)?;
-    let mut report = report_json(alloc, core.view())?;
-    report.push('\n')?;
-    Ok(Simulated { report, refused })
+    let report = json_line(alloc, core.view())?;
+    Ok((report, refused))
 }
 
-/// Runs a listing in an order, and makes its report in this form.
-pub fn simulate_as(
+/// `simulate` to a writer.
+fn simulate_to<O: Write>(
+    alloc: Global,
+    listing: &[u8],
+    order: &[u8],
+    out: &mut O,
+) -> Result<Option<(usize, StepFault)>, SimFault>
+    ensures shown { IfOk result (λ end.
+        IsShownRun listing.now order.now GREATEST_TRACE_LIMIT
+        (Appends (O.contents out.old) (O.contents out.new)) end) }
+    ensures refused { IfErr result (λ fault.
+        IsRefusedRun listing.now order.now GREATEST_TRACE_LIMIT
+        (TakesBeginning (O.contents out.old) (O.contents out.new)) fault) }
+    ensures untouched { IfErr result (λ fault. is_reported fault ≡ false
+        → O.contents out.new ≡ O.contents out.old) }
+{
+    let mut sink = ToWrite::new(out);
+    let ran = simulate(alloc, listing, order, GREATEST_TRACE_LIMIT, &mut sink);
+    let writer = sink.into_writer();
+    let _ = &*writer;
+    ran
+}
+
+/// Prints the run as a text, while it is made.
+#[tactic(auto, using(crate::proofs::RunLemmas::text_runs))]
+fn print_text<O: Write>(
+    alloc: Global,
+    listing: &[u8],
+    order: &[u8],
+    out: &mut O,
+) -> Result<Option<(usize, StepFault)>, Fault>
+    ensures printed { IfOk result (λ end.
+        Prints (λ text. IsShown ReportForm.Text listing.now order.now text end)
+        (O.contents out.old) (O.contents out.new)) }
+    ensures failed { IfErr result (λ fault.
+        IsUnprinted listing.now order.now (O.contents out.old) (O.contents out.new) fault) }
+{
+    let refused = simulate_to(alloc, listing, order, out)?;
+    flush(out)?;
+    Ok(refused)
+}
+
+/// Prints the run as JSON.
+#[tactic(auto, using(crate::proofs::RunLemmas::json_runs))]
+fn print_json<O: Write>(
+    alloc: Global,
+    listing: &[u8],
+    order: &[u8],
+    out: &mut O,
+) -> Result<Option<(usize, StepFault)>, Fault>
+    ensures printed { IfOk result (λ end.
+        Prints (λ text. IsShown ReportForm.Json listing.now order.now text end)
+        (O.contents out.old) (O.contents out.new)) }
+    ensures failed { IfErr result (λ fault.
+        IsUnprinted listing.now order.now (O.contents out.old) (O.contents out.new) fault) }
+{
+    let (report, refused) = simulate_json(alloc, listing, order)?;
+    print(out, report.as_str())?;
+    Ok(refused)
+}
+
+/// Runs a listing in an order, and prints its report in this form. Answers the step that was
+/// refused, if one was.
+pub fn print_run<O: Write>(
     alloc: Global,
     form: ReportForm,
     listing: &[u8],
     order: &[u8],
-) -> Result<Simulated, SimFault>
-    ensures shown { IfOk result (λ ran.
-        IsShown form listing.now order.now (string_bytes ran.report) ran.refused) }
-    ensures refused { IfErr result (λ fault.
-        IsRefusedRun listing.now order.now GREATEST_TRACE_LIMIT fault) }
+    out: &mut O,
+) -> Result<Option<(usize, StepFault)>, Fault>
+    ensures printed { IfOk result (λ end.
+        Prints (λ text. IsShown form listing.now order.now text end)
+        (O.contents out.old) (O.contents out.new)) }
+    ensures failed { IfErr result (λ fault.
+        IsUnprinted listing.now order.now (O.contents out.old) (O.contents out.new) fault) }
 {
     match form {
-        ReportForm::Text => simulate(alloc, listing, order, GREATEST_TRACE_LIMIT),
-        ReportForm::Json => simulate_json(alloc, listing, order),
+        ReportForm::Text => print_text(alloc, listing, order, out),
+        ReportForm::Json => print_json(alloc, listing, order, out),
     }
 }

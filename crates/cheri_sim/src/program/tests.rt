@@ -5,7 +5,9 @@ use crate::program::perform;
 use std::alloc::Global;
 use std::io::Write;
 use std::process::Abort;
+use std::sync::Wait;
 use std::test::Fail;
+use std::thread::Threads;
 use std::{io, str};
 
 mod checks;
@@ -13,6 +15,7 @@ mod commands;
 mod devices;
 mod json;
 mod numbers;
+mod races;
 mod runs;
 
 /// Two harts with the same code: it narrows a capability, reads the length, and halts.
@@ -106,7 +109,7 @@ fn owned(alloc: Global, words: &[&str]) -> Result<Vec<String>, Fail> {
 }
 
 /// Compares a run with its status and with what it writes to standard output and standard error.
-fn compare<R: Abort + AllocGlobal>(
+fn compare<R: Abort + AllocGlobal + Threads + Wait + Sync>(
     rt: &R,
     words: &[&str],
     files: &[(&str, &str)],
@@ -121,7 +124,7 @@ fn compare<R: Abort + AllocGlobal>(
         files,
         too_large: "",
     };
-    let given = perform(alloc, all.as_slice(), &mut folder, &mut out, &mut err);
+    let given = perform(rt, alloc, all.as_slice(), &mut folder, &mut out, &mut err);
     assert_eq!(rt; str::from_utf8(err.as_slice())?, reported, "{words:?}");
     assert_eq!(rt; str::from_utf8(out.as_slice())?, printed, "{words:?}");
     assert_eq!(rt; given, status, "{words:?}");

@@ -4,7 +4,7 @@ use crate::program::tests::{FIRST, OPENING_REPORT, compare};
 use std::test::Fail;
 
 /// Words that are no command, a request for help among them.
-const REFUSED: [&[&str]; 34] = [
+const REFUSED: [&[&str]; 45] = [
     &[],
     &["help"],
     &["--help"],
@@ -29,6 +29,17 @@ const REFUSED: [&[&str]; 34] = [
     &["run", "listing", "--order", "order", "--json", "--json"],
     &["run", "listing", "--order", "order", "--json=true"],
     &["check", "listing", "--json"],
+    &["race"],
+    &["race", "listing"],
+    &["race", "--turns", "4"],
+    &["race", "listing", "--turns"],
+    &["race", "listing", "--turns", "0"],
+    &["race", "listing", "--turns", "100001"],
+    &["race", "listing", "--turns", "+4"],
+    &["race", "listing", "--turns", "0x4"],
+    &["race", "listing", "--turns", ""],
+    &["race", "listing", "--turns", "4", "--turns", "4"],
+    &["race", "listing", "--turns", "4", "--order", "order"],
     &["bounds"],
     &["bounds", "1"],
     &["bounds", "1", "2", "3"],

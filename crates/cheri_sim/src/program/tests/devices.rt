@@ -43,8 +43,22 @@ fn full_writers(rt: HostRuntime) -> Result<(), Fail> {
             too_large: "",
         };
         let mut err = Vec::new(alloc);
-        let reported = perform(alloc, words.as_slice(), &mut folder, &mut Full, &mut err);
-        let unreported = perform(alloc, words.as_slice(), &mut folder, &mut Full, &mut Full);
+        let reported = perform(
+            &rt,
+            alloc,
+            words.as_slice(),
+            &mut folder,
+            &mut Full,
+            &mut err,
+        );
+        let unreported = perform(
+            &rt,
+            alloc,
+            words.as_slice(),
+            &mut folder,
+            &mut Full,
+            &mut Full,
+        );
         assert_eq!(rt; (reported, unreported), (status, status), "{order}");
     }
     Ok(())
@@ -69,8 +83,9 @@ fn full_answers(rt: HostRuntime) -> Result<(), Fail> {
             too_large: "",
         };
         let (mut err, mut other) = (Vec::new(alloc), Vec::new(alloc));
-        let full = perform(alloc, all.as_slice(), &mut folder, &mut Full, &mut err);
+        let full = perform(&rt, alloc, all.as_slice(), &mut folder, &mut Full, &mut err);
         let unflushed = perform(
+            &rt,
             alloc,
             all.as_slice(),
             &mut folder,
@@ -105,7 +120,14 @@ fn large_files(rt: HostRuntime) -> Result<(), Fail> {
             too_large,
         };
         let (mut out, mut err) = (Vec::new(alloc), Vec::new(alloc));
-        let status = perform(alloc, words.as_slice(), &mut folder, &mut out, &mut err);
+        let status = perform(
+            &rt,
+            alloc,
+            words.as_slice(),
+            &mut folder,
+            &mut out,
+            &mut err,
+        );
         assert_eq!(rt; (status, out.len()), (3, 0));
         assert_eq!(rt; str::from_utf8(err.as_slice())?, "memory\n");
     }

@@ -1,0 +1,86 @@
+-- What a race answers, as what was printed of it.
+use Rattle.std.proofs.Common.{◌≡◌, ℕ, List, Option, Ok, Err, Result, length, refl, inl, inr}
+use Rattle.std.specs.Prelude.{OnOk, IfErr}
+use Rattle.std.specs.Io.KnownBytes.{Appends}
+use Rattle.texts.specs.declared.listing.fault.ListingFault.{ListingFault}
+use Rattle.texts.specs.ListingFaults.{Gives}
+use Rattle.texts.specs.ListingMeaning.{listing_meaning}
+use Rattle.cheri_model.specs.Image.{ImageParts}
+use Rattle.cheri_model.specs.Replay.{IsReplay}
+use Rattle.reports.specs.Report.{report}
+use Rattle.machine.specs.Cores.{CoreParts}
+use Rattle.harts.specs.declared.faults.RunFault.{RunFault}
+use Rattle.harts.specs.declared.faults.RunFault.TheVariants as race
+use Rattle.harts.specs.declared.workers.HartReport.{HartReport}
+use Rattle.harts.specs.Reports.{AreReports}
+use Rattle.cheri_sim.specs.declared.faults.Fault.{Fault}
+use Rattle.cheri_sim.specs.declared.faults.Fault.TheVariants as faults
+use Rattle.cheri_sim.specs.Faults.{listing_fault, race_fault}
+use Rattle.cheri_sim.specs.Printing.{IsUnwritten, Prints}
+use Rattle.cheri_sim.specs.Races.{IsRace, IsUnraced}
+use Rattle.cheri_sim.proofs.FaultLemmas.{listing_refused}
+
+-- a race whose listing is refused
+pub race_unread : (listing : List ℕ) (fault : ListingFault) (old : Option (List ℕ)) →
+    Gives (Err fault) (listing_meaning listing) → IsUnraced listing old old (listing_fault fault)
+race_unread listing fault old gives =
+    listing_refused (IsUnraced listing old old) listing fault (inl refl) (λ meaning. (meaning, refl)) gives
+
+-- a race that has no result
+pub race_unrun : (listing : List ℕ) (refused : RunFault) (old : Option (List ℕ)) →
+    IsUnraced listing old old (race_fault refused)
+race_unrun listing (race.Boot fault) old = inl refl
+race_unrun listing race.NoMemory old = inl refl
+race_unrun listing race.Spawn old = refl
+race_unrun listing race.ImageDiffers old = refl
+
+-- the text of a race
+race_of : (listing : List ℕ) (image : ImageParts) (core : CoreParts) (reports : List HartReport) (text : List ℕ) →
+    listing_meaning listing ≡ Ok image → core.image ≡ image → IsReplay core.image core.trace core.state →
+    AreReports core.trace (length image.harts) reports → text ≡ report core.image core.trace core.state → IsRace listing text
+race_of listing image core reports text meaning same replay are is = record {
+  image = image;
+  core = core;
+  reports = reports;
+  listing_is = meaning;
+  image_is = same;
+  replay = replay;
+  reports_are = are;
+  text_is = is;
+}
+
+-- its report was printed
+pub race_printed : {E : Type 0} (listing : List ℕ) (image : ImageParts) (core : CoreParts) (reports : List HartReport)
+    (text : List ℕ) (result : Result (Unit {0}) E) (old new : Option (List ℕ)) →
+    listing_meaning listing ≡ Ok image → core.image ≡ image → IsReplay core.image core.trace core.state →
+    AreReports core.trace (length image.harts) reports → text ≡ report core.image core.trace core.state →
+    OnOk result (Appends old new text) → OnOk result (Prints (IsRace listing) old new)
+race_printed listing image core reports text (Ok done) old new meaning same replay are is grown =
+    (text, race_of listing image core reports text meaning same replay are is, grown)
+race_printed listing image core reports text (Err fault) old new meaning same replay are is grown = tt
+
+-- or was not
+race_fault_printed : (listing : List ℕ) (text : List ℕ) (fault : Fault) (old new : Option (List ℕ)) →
+    IsRace listing text → IsUnwritten old new text fault → IsUnraced listing old new fault
+race_fault_printed listing text faults.NoMemory old new shown begun = inr (text, shown, begun)
+race_fault_printed listing text faults.CannotWrite old new shown begun = tt
+race_fault_printed listing text faults.Usage old new shown begun = absurd begun
+race_fault_printed listing text faults.BadNumber old new shown begun = absurd begun
+race_fault_printed listing text faults.CannotReadListing old new shown begun = absurd begun
+race_fault_printed listing text faults.CannotReadOrder old new shown begun = absurd begun
+race_fault_printed listing text faults.CannotStart old new shown begun = absurd begun
+race_fault_printed listing text faults.ImageDiffers old new shown begun = absurd begun
+race_fault_printed listing text (faults.Listing fault) old new shown begun = absurd begun
+race_fault_printed listing text (faults.Order fault) old new shown begun = absurd begun
+race_fault_printed listing text (faults.Step place fault) old new shown begun = absurd begun
+
+pub race_unprinted : {T : Type 0} (listing : List ℕ) (image : ImageParts) (core : CoreParts) (reports : List HartReport)
+    (text : List ℕ) (result : Result T Fault) (old new : Option (List ℕ)) →
+    listing_meaning listing ≡ Ok image → core.image ≡ image → IsReplay core.image core.trace core.state →
+    AreReports core.trace (length image.harts) reports → text ≡ report core.image core.trace core.state →
+    IfErr result (λ fault. IsUnwritten old new text fault) → IfErr result (λ fault. IsUnraced listing old new fault)
+race_unprinted listing image core reports text (Ok done) old new meaning same replay are is begun = tt
+race_unprinted listing image core reports text (Err fault) old new meaning same replay are is begun =
+    race_fault_printed listing text fault old new (race_of listing image core reports text meaning same replay are is) begun
+
+pub ruleset races = (race_unread, race_unrun, race_printed, race_unprinted)

@@ -1,0 +1,63 @@
+//! What is printed: a text, or a report while it is made.
+
+ghost use Rattle.std.specs.Prelude.{◌≡◌, OnOk, IfErr};
+ghost use Rattle.std.specs.Io.KnownBytes.{Appends, Keeps};
+ghost use Rattle.hart_step.specs.View.{state_of};
+ghost use Rattle.reports.specs.Report.{report};
+ghost use Rattle.reports.specs.Sinks.{TakesBeginning};
+ghost use Rattle.cheri_sim.specs.Printing.{IsUnwritten};
+
+use crate::faults::Fault;
+use hart_step::View;
+use reports::{ReportFault, ToWrite, write_report};
+use std::alloc::Global;
+use std::io::Write;
+
+/// Flushes a writer.
+pub fn flush<O: Write>(out: &mut O) -> Result<(), Fault>
+    ensures kept { Keeps (O.contents out.old) (O.contents out.new) }
+    ensures refused { IfErr result (λ fault. fault ≡ Fault.CannotWrite) }
+{
+    match out.flush() {
+        Ok(()) => Ok(()),
+        Err(_) => Err(Fault::CannotWrite),
+    }
+}
+
+/// Writes all of a text, and flushes.
+pub fn print<O: Write>(out: &mut O, text: &str) -> Result<(), Fault>
+    ensures printed { OnOk result (Appends (O.contents out.old) (O.contents out.new) text.now) }
+    ensures refused { IfErr result (λ fault. fault ≡ Fault.CannotWrite) }
+{
+    if out.write_all(text.as_bytes()).is_err() {
+        return Err(Fault::CannotWrite);
+    }
+    flush(out)
+}
+
+/// Writes the report of what a view shows, in pieces.
+fn write_shown<O: Write>(alloc: Global, view: View<'_>, out: &mut O) -> Result<(), ReportFault>
+    ensures whole { OnOk result (Appends (O.contents out.old) (O.contents out.new)
+        (report view.entry.image.now view.entry.entries.now (state_of view.entry))) }
+    ensures beginning { TakesBeginning (O.contents out.old) (O.contents out.new)
+        (report view.entry.image.now view.entry.entries.now (state_of view.entry)) }
+{
+    let mut sink = ToWrite::new(out);
+    let written = write_report(alloc, view, &mut sink);
+    let writer = sink.into_writer();
+    let _ = &*writer;
+    written
+}
+
+/// Writes the report of what a view shows, and flushes.
+#[tactic(auto, using(crate::proofs::PrintLemmas::unwritten))]
+pub fn print_report<O: Write>(alloc: Global, view: View<'_>, out: &mut O) -> Result<(), Fault>
+    ensures printed { OnOk result (Appends (O.contents out.old) (O.contents out.new)
+        (report view.entry.image.now view.entry.entries.now (state_of view.entry))) }
+    ensures refused { IfErr result (λ fault.
+        IsUnwritten (O.contents out.old) (O.contents out.new)
+        (report view.entry.image.now view.entry.entries.now (state_of view.entry)) fault) }
+{
+    write_shown(alloc, view, out)?;
+    flush(out)
+}

@@ -1,0 +1,100 @@
+//! Races of a listing's harts.
+
+use crate::program::perform;
+use crate::program::tests::{FIRST, Folder, Full, compare, owned};
+use std::str;
+use std::test::Fail;
+
+/// Whichever hart goes first, each of the two takes its four instructions, and halts.
+#[test]
+fn both_harts_halt(rt: HostRuntime) -> Result<(), Fail> {
+    let alloc = rt.alloc();
+    for turns in ["4", "0000000000000000000000004", "100000"] {
+        let words = owned(alloc, &["race", "listing", "--turns", turns])?;
+        let files = [("listing", FIRST)];
+        let mut folder = Folder {
+            alloc,
+            files: &files,
+            too_large: "",
+        };
+        let (mut out, mut err) = (Vec::new(alloc), Vec::new(alloc));
+        let status = perform(
+            &rt,
+            alloc,
+            words.as_slice(),
+            &mut folder,
+            &mut out,
+            &mut err,
+        );
+        let printed = str::from_utf8(out.as_slice())?;
+        assert_eq!(rt; (status, err.len()), (0, 0));
+        assert!(rt;
+            printed.starts_with("cheri-sim report 1\nimage harts=2 ram=4096 code=4\nentries 8\n")
+        );
+        assert!(rt; printed.contains("\nhart 0 halted\n"));
+        assert!(rt; printed.contains("\nhart 1 halted\n"));
+        assert!(rt; printed.ends_with("\nend\n"));
+    }
+    Ok(())
+}
+
+/// A hart takes at most its turns.
+#[test]
+fn turns_end(rt: HostRuntime) -> Result<(), Fail> {
+    let alloc = rt.alloc();
+    let words = owned(alloc, &["race", "--turns=3", "listing"])?;
+    let files = [("listing", FIRST)];
+    let mut folder = Folder {
+        alloc,
+        files: &files,
+        too_large: "",
+    };
+    let (mut out, mut err) = (Vec::new(alloc), Vec::new(alloc));
+    let status = perform(
+        &rt,
+        alloc,
+        words.as_slice(),
+        &mut folder,
+        &mut out,
+        &mut err,
+    );
+    let printed = str::from_utf8(out.as_slice())?;
+    assert_eq!(rt; (status, err.len()), (0, 0));
+    assert!(rt; printed.contains("\nentries 6\n"));
+    assert!(rt; printed.contains("\nhart 0 running\n"));
+    assert!(rt; printed.contains("\nhart 1 running\n"));
+    Ok(())
+}
+
+/// A listing that cannot be read or is faulty, and output that is not taken.
+#[test]
+fn refusals(rt: HostRuntime) -> Result<(), Fail> {
+    let race = ["race", "listing", "--turns", "4"];
+    compare(&rt, &race, &[], (3, "", "cannot read listing\n"))?;
+    compare(
+        &rt,
+        &race,
+        &[("listing", "walk")],
+        (1, "", "listing line 1: 2 Word\n"),
+    )?;
+    let alloc = rt.alloc();
+    let words = owned(alloc, &race)?;
+    let files = [("listing", FIRST)];
+    let mut folder = Folder {
+        alloc,
+        files: &files,
+        too_large: "",
+    };
+    let mut err = Vec::new(alloc);
+    let status = perform(
+        &rt,
+        alloc,
+        words.as_slice(),
+        &mut folder,
+        &mut Full,
+        &mut err,
+    );
+    assert_eq!(rt; status, 3);
+    assert_eq!(rt; str::from_utf8(err.as_slice())?, "cannot write\n");
+    Ok(())
+}
