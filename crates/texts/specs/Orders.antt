@@ -19,7 +19,7 @@ order_fault_name NoMemory = codes "NoMemory"
 abbrev pub order_fault_text : OrderFaultKind → List ℕ
 order_fault_text kind = decimal (order_fault_number kind) ++ (codes " " ++ order_fault_name kind)
 
--- want of memory, which has no offset
+-- out of memory, which has no offset
 abbrev pub no_memory : OrderFault
 no_memory = record { offset = 0; kind = NoMemory }
 
@@ -54,12 +54,12 @@ order_unless_foreign None text = order_of_length text
 unfoldable pub order_of : List ℕ → Result (List ℕ) OrderFault
 order_of text = order_unless_foreign (position is_foreign text) text
 
--- a fault that was answered for this meaning: want of memory, or the meaning's own fault
+-- a fault that was answered for this meaning: out of memory, or the meaning's own fault
 abbrev pub GivesFault : OrderFaultKind → OrderFault → Result (List ℕ) OrderFault → Type 0
 GivesFault NoMemory fault meaning = fault ≡ no_memory
 GivesFault _ fault meaning = meaning ≡ Err fault
 
--- an answer gives a meaning: the order that it is, or its fault, or want of memory
+-- an answer gives a meaning: the order that it is, or its fault, or out of memory
 abbrev pub Gives : Result (Vec ℕ Global) OrderFault → Result (List ℕ) OrderFault → Type 0
 Gives (Ok order) meaning = meaning ≡ Ok order.items
 Gives (Err fault) meaning = GivesFault fault.kind fault meaning

@@ -17,7 +17,7 @@ pub enum OrderFaultKind {
     Byte = 1,
     /// More than 100,000 steps.
     Size,
-    /// Want of memory, which says nothing of the order.
+    /// Out of memory, which says nothing of the order.
     NoMemory,
 }
 
@@ -118,7 +118,7 @@ fn hart_numbers(alloc: Global, text: &[u8]) -> Result<Vec<u8>, AllocError>
 
 /// The hart numbers, each below 8, that an order's text asks to step, in turn: one for each digit. Spaces and
 /// newlines are skipped, and any other byte is refused, the first such. Without one, more than 100,000 digits are
-/// refused, at offset 0. Want of memory says nothing of the text.
+/// refused, at offset 0. Running out of memory says nothing of the text.
 #[tactic(auto, using(crate::proofs::HartNumbers::hart_numbers_below), unfolding(crate::specs::Orders::order_of))]
 pub fn read_order(alloc: Global, text: &[u8]) -> Result<Vec<u8>, OrderFault>
     ensures meaning { Gives result (order_of text.now) }

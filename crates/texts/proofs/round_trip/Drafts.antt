@@ -1,16 +1,15 @@
 -- What each line that reads without a fault keeps of a draft.
-use Rattle.std.proofs.Common.{◌≡◌, ℕ, zero, suc, ◌+◌, ◌-◌, ◌*◌, ◌/◌, ◌%◌, ◌^◌, ◌<◌, ◌≤◌, ◌==◌, ◌&&◌, nat_lt, nat_le, Bool, true, false, not, cond, List, [], ◌∷◌, ◌++◌, length, get_or, Option, Some, None, Result, Ok, Err, All, refl, sym, ap, ◌∙◌, subst, length-append, inl, inr, lit<, arith}
-use Rattle.std.specs.Prelude.{replicate, slice_set, slice_index_or, codes, bytes_eq}
+use Rattle.std.proofs.Common.{◌≡◌, ℕ, ◌+◌, ◌-◌, ◌*◌, ◌/◌, ◌%◌, ◌^◌, ◌<◌, ◌≤◌, ◌==◌, ◌&&◌, nat_lt, nat_le, Bool, true, false, not, cond, List, [], ◌∷◌, ◌++◌, length, Option, Some, None, Result, Ok, Err, All, refl, sym, ap, ◌∙◌, subst, length-append, inl, inr, lit<, arith}
+use Rattle.std.specs.Prelude.{replicate, slice_set}
 use Rattle.std.specs.List.{AllByRecursion}
 use Rattle.std.proofs.Math.ListN.{length-set}
 use Rattle.std.proofs.lemmas.Bool.Decides.{nat_tests}
 use Rattle.std.proofs.lemmas.Bool.{cases_lt}
 use Rattle.std.proofs.lemmas.List.{length-replicate, get_or_past}
-use Rattle.std.proofs.lemmas.List.Elements.{All-nil, All-replicate, All-push, All-set, All-get_or, recursion_from_All, All-from_recursion}
+use Rattle.std.proofs.lemmas.List.Elements.{All-replicate, All-push, All-set, All-get_or, recursion_from_All, All-from_recursion}
 use Rattle.cheri_model.specs.declared.instr.Instr.{Instr}
 use Rattle.cheri_model.specs.declared.image.HartImage.{HartImage}
-use Rattle.cheri_model.specs.declared.form.Form.{Form}
-use Rattle.cheri_model.specs.Form.{form_of, instr_of}
+use Rattle.cheri_model.specs.Form.{form_of}
 use Rattle.cheri_model.specs.PermissionNames.{known_permissions}
 use Rattle.cheri_model.specs.Window.{is_in_window}
 use Rattle.cheri_model.specs.EditedWords.{with_rounded_fields}
@@ -18,7 +17,7 @@ use Rattle.cheri_model.specs.Results.{is_exact}
 use Rattle.cheri_model.specs.Capability as capability
 use Rattle.cheri_model.specs.Capability.{IsLawful, IsLawfulType, unsealed_type}
 use Rattle.cheri_model.specs.CapValue.{CapValue, valid, raw, bits_of}
-use Rattle.cheri_model.specs.Memory.{ram_base, is_ram_size, cleared_memory, granule_at, granule_number, granule_offset, store_data, store_capability, fits, is_in_ram}
+use Rattle.cheri_model.specs.Memory.{is_ram_size, cleared_memory, granule_at, granule_number, granule_offset, store_data, store_capability, fits, is_in_ram}
 use Rattle.cheri_model.proofs.Results.PermissionSets.{dropped_bits_leave_set}
 use Rattle.cheri_model.proofs.Results.Values.{result_is_lawful}
 use Rattle.cheri_model.proofs.Results.AddressResults.{window_test}
@@ -27,7 +26,7 @@ use Rattle.cheri_model.proofs.Runs.Granted.{with_bytes_below}
 use Rattle.cap_ops.specs.Making.{made, capability_with}
 use Rattle.cap_ops.specs.declared.making.MakeFault.{MakeFault}
 use Rattle.cap_ops.specs.declared.making.MakeFault.TheVariants as refusal
-use Rattle.cap_ops.proofs.Makings.{IsMakeable, makeable, made_result, unbounded}
+use Rattle.cap_ops.proofs.Makings.{makeable, made_result, unbounded}
 use Rattle.texts.specs.declared.listing.fault.ListingFaultKind.{ListingFaultKind}
 use Rattle.texts.specs.declared.listing.fault.ListingFaultKind.TheVariants as kind
 use Rattle.texts.specs.declared.listing.operands.TypeOperand.{TypeOperand}
@@ -40,8 +39,7 @@ use Rattle.texts.specs.ListingOperands.{type_in_range}
 use Rattle.texts.specs.ListingCapability.{cap_parts_of, unless_refused, capability_of}
 use Rattle.texts.specs.ListingDraft.{DraftParts, legal_size, with_ram, hart_from, add_hart, with_hart, latest, with_latest, with_register, set_register, stored_bytes, with_bytes, with_capability, with_instruction, no_registers}
 use Rattle.texts.specs.Listable.{IsWritable, IsWritablePcc, IsWritableHart, IsReadable}
-use Rattle.texts.proofs.PermissionTexts.{first, second}
-use Rattle.texts.proofs.round_trip.Words.{negated}
+use Rattle.texts.proofs.PermissionTexts.{second}
 use Rattle.texts.proofs.round_trip.Ranges.{then_ok, test_true, test_false, at_most_ok, type_ok}
 
 not_false : (a : Bool) → not a ≡ false → a ≡ true

@@ -1,7 +1,7 @@
 -- The image that a listing means is one that listings can write.
-use Rattle.std.proofs.Common.{◌≡◌, ℕ, zero, suc, ◌+◌, ◌-◌, ◌*◌, ◌^◌, ◌<◌, ◌≤◌, ◌==◌, ◌&&◌, nat_lt, nat_le, Bool, true, false, not, cond, List, [], ◌∷◌, ◌++◌, length, drop, Option, Some, None, Result, Ok, Err, All, refl, sym, ap, ◌∙◌, subst, arith}
-use Rattle.std.specs.Prelude.{slice_index_or, codes, bytes_eq, replicate, is_some}
-use Rattle.std.specs.List.{AllByRecursion, list_all}
+use Rattle.std.proofs.Common.{◌≡◌, ℕ, suc, ◌+◌, ◌-◌, ◌*◌, ◌^◌, ◌<◌, ◌≤◌, ◌==◌, nat_lt, Bool, true, false, cond, List, [], ◌∷◌, length, drop, Option, Some, None, Result, Ok, Err, refl, sym, ap, ◌∙◌, subst, arith}
+use Rattle.std.specs.Prelude.{slice_index_or, codes, bytes_eq}
+use Rattle.std.specs.List.{list_all}
 use Rattle.std.proofs.lemmas.Bool.Decides.{nat_tests}
 use Rattle.std.proofs.lemmas.List.Elements.{All-nil, All-replicate, recursion_from_All}
 use Rattle.std.proofs.lemmas.Slice.Eq.{bytes_eq-Decides}
@@ -18,7 +18,7 @@ use Rattle.cheri_model.specs.declared.form.StoreOp.TheVariants as store_op
 use Rattle.cheri_model.specs.declared.form.BranchOp.TheVariants as branch_op
 use Rattle.cheri_model.specs.Form.{form_of, instr_of, three_instr, two_instr, immediate_instr, shift_instr, word_shift_instr, upper_instr, load_instr, store_instr, branch_instr}
 use Rattle.cheri_model.specs.CapValue.{CapValue, raw}
-use Rattle.cheri_model.specs.Memory.{ram_base, cleared_memory, is_ram_size}
+use Rattle.cheri_model.specs.Memory.{ram_base}
 use Rattle.cheri_model.specs.Image.{ImageParts}
 use Rattle.texts.specs.declared.listing.fault.ListingFault.{ListingFault}
 use Rattle.texts.specs.declared.listing.fault.ListingFaultKind.{ListingFaultKind}
@@ -30,20 +30,18 @@ use Rattle.texts.specs.declared.listing.labels.Place.{Place}
 use Rattle.texts.specs.declared.listing.operands.TypeOperand.TheVariants.{Unsealed}
 use Rattle.texts.specs.declared.listing.operands.TypeOperand.{TypeOperand}
 use Rattle.texts.specs.declared.listing.capability.CapOperands.{CapOperands}
-use Rattle.texts.specs.declared.listing.capability.CapParts.{CapParts}
 use Rattle.texts.specs.declared.listing.draft.Setting.{Setting}
 use Rattle.texts.specs.declared.listing.draft.Setting.TheVariants.{Word, Capability}
 use Rattle.texts.specs.ListingFaults.{◌>>=◌}
 use Rattle.texts.specs.ListingLines.{lines_of, is_plain}
 use Rattle.texts.specs.ListingTokens.{tokens_of, token_at}
 use Rattle.texts.specs.ListingNumerals.{number_of, at_most}
-use Rattle.texts.specs.ListingOperands.{register_of}
 use Rattle.texts.specs.ListingPermissions.{permissions_of}
-use Rattle.texts.specs.ListingCapability.{cap_operands_of, cap_tokens, cap_parts_of, optional_type, capability_of}
+use Rattle.texts.specs.ListingCapability.{cap_operands_of, cap_tokens, cap_parts_of}
 use Rattle.texts.specs.ListingDirectives.{found_at, directive_of, directive_table}
 use Rattle.texts.specs.ListingMnemonics.{mnemonic_of, mnemonic_table, is_instruction}
 use Rattle.texts.specs.ListingForms.{counted, form_from}
-use Rattle.texts.specs.ListingLabels.{PlaceParts, is_label_token, label_name, label_of, label_fault, count_of, labels_from, label_in, instruction_lines, places_of}
+use Rattle.texts.specs.ListingLabels.{PlaceParts, is_label_token, label_name, label_of, label_fault, count_of, labels_from, instruction_lines, places_of}
 use Rattle.texts.specs.ListingPlaces.{first_place}
 use Rattle.texts.specs.ListingStatement.{ram_line, hart_line, settable_register_of, word_setting, capability_setting, setting_of, set_line, hex_bytes, bytes_line, cap_line, directive_line, instruction_line, label_line, other_line, line_from, tokens_meaning}
 use Rattle.texts.specs.ListingDraft.{DraftParts, empty_draft, with_ram, with_hart, value_of, with_set, set_register, with_bytes, with_capability, with_instruction}
@@ -52,7 +50,7 @@ use Rattle.texts.specs.Listable.{IsWritable, IsWritableHart, IsReadable, IsLista
 use Rattle.texts.proofs.LabelLemmas.{found-append}
 use Rattle.texts.proofs.round_trip.Ranges.{then_ok, test_true, test_false, at_most_ok, IsBounded}
 use Rattle.texts.proofs.round_trip.FormRanges.{form_ok}
-use Rattle.texts.proofs.round_trip.Drafts.{ArePartsOf, parts_ok, capability_ok, writable, IsDraft, Goes, OnDraft, ram_ok, hart_ok, set_ok, bytes_ok, granule_ok, instruction_ok, same_ok}
+use Rattle.texts.proofs.round_trip.Drafts.{ArePartsOf, parts_ok, capability_ok, writable, IsDraft, Goes, ram_ok, hart_ok, set_ok, bytes_ok, granule_ok, instruction_ok, same_ok}
 
 -- a form gives itself back through its instruction
 form_back : (whole : Form) → form_of (instr_of whole) ≡ whole
