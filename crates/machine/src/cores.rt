@@ -145,10 +145,9 @@ impl Core {
         ensures after { self.new ≡ core_after self.old (step_of hart) }
         ensures core { IsCore self.new }
     {
-        let number = usize::from(hart);
-        let mut stepped = self.harts[number];
-        let entry = step_hart(self.image.program(), &mut stepped, &mut self.ram, hart);
-        self.harts[number] = stepped;
+        let program = self.image.program();
+        let place = &mut self.harts[usize::from(hart)];
+        let entry = step_hart(program, place, &mut self.ram, hart);
         append(&mut self.trace, entry);
         entry
     }

@@ -3,13 +3,9 @@ use Rattle.std.proofs.Common.{arith}
 use Rattle.machine.proofs.CoreLemmas.{can_step, took}
 use Rattle.machine.proofs.cores.Core.take.Goals as goal
 
-pub index-requires : goal.index-requires
-index-requires c =
-    omega (arith, (can_step _ _ c.args.hart c.self.view_is c.requires).there, c.from-number.ensures, c.self.inside.harts.ok.0)
-
-pub index_mut-requires : goal.index_mut-requires
-index_mut-requires c =
-    omega (arith, (can_step _ _ c.args.hart c.self.view_is c.requires).there, c.from-number.ensures, c.self.inside.harts.ok.0)
+pub index_mut-place-requires : goal.index_mut-place-requires
+index_mut-place-requires c =
+    omega (arith, (can_step _ _ c.args.hart c.self.view_is c.requires).there, c.from.ensures, c.self.inside.harts.ok.0)
 
 pub append-requires : goal.append-requires
 append-requires c =
@@ -17,10 +13,10 @@ append-requires c =
 
 pub invariant_of-self : goal.invariant_of-self
 invariant_of-self c =
-    let t = took _ _ c.args.hart c.from-number.result _ c.index.result.now _ _ _ c.self.view_is c.self.invariant.0 c.requires c.from-number.ensures c.program.ensures c.index.ensures c.step_hart-entry.ensures in
+    let t = took _ _ c.args.hart c.from.result _ c.index_mut-place.result.now _ _ _ c.self.view_is c.self.invariant.0 c.requires c.from.ensures c.program-program.ensures c.index_mut-place.ensures.value c.step_hart-entry.ensures in
     (rw c.append.ensures.items t.keeps, omega (arith, c.self.invariant.1, c.append.ensures.capacity))
 
 pub returns : goal.returns
 returns c =
-    let t = took _ _ c.args.hart c.from-number.result _ c.index.result.now _ _ _ c.self.view_is c.self.invariant.0 c.requires c.from-number.ensures c.program.ensures c.index.ensures c.step_hart-entry.ensures in
+    let t = took _ _ c.args.hart c.from.result _ c.index_mut-place.result.now _ _ _ c.self.view_is c.self.invariant.0 c.requires c.from.ensures c.program-program.ensures c.index_mut-place.ensures.value c.step_hart-entry.ensures in
     record { entry = t.entry_is; after = rw c.append.ensures.items t.core_is; core = rw c.append.ensures.items t.keeps }
