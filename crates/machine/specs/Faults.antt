@@ -1,7 +1,9 @@
--- The numbers and the texts of the refusals of booting, stepping and simulating.
+-- The numbers and the texts of the refusals of booting, opening and stepping.
 use Rattle.std.specs.Prelude.{ℕ, List, ◌++◌, codes, decimal}
 use Rattle.machine.specs.declared.faults.BootFault.{BootFault}
 use Rattle.machine.specs.declared.faults.BootFault.TheVariants as boot
+use Rattle.machine.specs.declared.faults.OpenFault.{OpenFault}
+use Rattle.machine.specs.declared.faults.OpenFault.TheVariants as opening
 use Rattle.machine.specs.declared.faults.StepFault.{StepFault}
 use Rattle.machine.specs.declared.faults.StepFault.TheVariants as step
 
@@ -15,6 +17,9 @@ boot_fault_name boot.NoMemory = codes "NoMemory"
 
 abbrev pub boot_fault_text : BootFault → List ℕ
 boot_fault_text fault = decimal (boot_fault_number fault) ++ (codes " " ++ boot_fault_name fault)
+
+abbrev pub open_fault_number : OpenFault → ℕ
+open_fault_number opening.NoMemory = 1
 
 abbrev pub step_fault_number : StepFault → ℕ
 step_fault_number step.NoSuchHart = 1

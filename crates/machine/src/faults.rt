@@ -110,6 +110,17 @@ pub enum OpenFault {
     NoMemory = 1,
 }
 
+impl OpenFault {
+    ghost use Rattle.machine.specs.Faults.{open_fault_number};
+
+    /// The number of the refusal.
+    pub fn number(self) -> u8
+        ensures { result ≡ open_fault_number self }
+    {
+        self as u8
+    }
+}
+
 impl From<AllocError> for OpenFault {
     ghost use Rattle.machine.specs.declared.faults.OpenFault.TheVariants.{NoMemory};
 

@@ -68,8 +68,10 @@ impl Model for Blanks {
 }
 
 impl Blanks {
-    /// Eight new ledgers.
-    pub fn new() -> Blanks {
+    /// Eight new ledgers, with a name for each.
+    pub fn new() -> Blanks
+        ensures { length result ≡ 8 }
+    {
         Blanks {
             hart0: Blank::new(1),
             hart1: Blank::new(1),
