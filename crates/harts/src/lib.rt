@@ -12,3 +12,6 @@ pub use gates::{Gate, Turn};
 pub use lock::Shared;
 pub use races::run_harts;
 pub use workers::{HartReport, Why, hart_loop};
+
+#[cfg(test)]
+mod tests;
