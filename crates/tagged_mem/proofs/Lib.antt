@@ -1,3 +1,4 @@
 pub mod ClearedMemory
 pub mod WordBytes
 pub mod Open
+pub mod PackedBytes
