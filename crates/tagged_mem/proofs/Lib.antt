@@ -2,3 +2,5 @@ pub mod ClearedMemory
 pub mod WordBytes
 pub mod Open
 pub mod PackedBytes
+pub mod PackedTags
+pub mod PackedRam

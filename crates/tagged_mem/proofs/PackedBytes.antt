@@ -1,9 +1,9 @@
 -- Numbers of several bytes, and granules that are read from bytes and bits.
 use Rattle.std.proofs.Common.{◌≡◌, ℕ, zero, suc, ◌+◌, ◌-◌, ◌*◌, ◌/◌, ◌%◌, ◌^◌, ◌<◌, ◌≤◌, ◌≢◌, ◌==◌, Bool, true, false, List, [], ◌∷◌, length, inl, inr, arith, ap, sym, ◌∙◌, refl}
 use Rattle.std.specs.Prelude.{slice_index_or, slice_set}
-use Rattle.std.proofs.Math.Nat.{mul_assoc, mul-le-mul_right}
+use Rattle.std.proofs.Math.Nat.{mul_assoc, mul_comm}
 use Rattle.std.proofs.lemmas.Bool.{cases_lt}
-use Rattle.std.proofs.lemmas.Nat.{pow-add, pow_pos, mod-pow-add}
+use Rattle.std.proofs.lemmas.Nat.{pow-add, pow_pos, mod-pow-add, mod-mul-add, div-mul-add}
 use Rattle.std.proofs.lemmas.List.{length-set, get_or-set_same, get_or-set_other}
 use Rattle.cheri_model.specs.CapValue.{CapValue, value_at}
 use Rattle.cheri_model.specs.Memory.{bytes_at, with_bytes}
@@ -115,3 +115,38 @@ granules_set bytes tags other others k (suc n) (suc j) v is each =
     let first = each k (λ e. omega arith) in
     let rest = granules_set bytes tags other others (suc k) n j v (rw same at is) (λ m apart. each m (λ e. apart (e ∙ same))) in
     λ i. sym first i ∷ rest i
+
+-- one turn of the loop that writes bytes
+pub with_number_turn : (bytes : List ℕ) (place k count rest : ℕ) → k < count →
+    with_number (slice_set bytes (place + k) (rest % 256)) (place + (k + 1)) (count - (k + 1)) (rest / 256) ≡ with_number bytes (place + k) (count - k) rest
+unfolding with_number
+with_number_turn bytes place k count rest below =
+    let left : count - k ≡ suc (count - (k + 1)) = omega arith in
+    let next : place + (k + 1) ≡ place + k + 1 = omega arith in
+    rw (left, next) refl
+
+-- a number of three parts, and its parts again
+module _ (low below mid span high : ℕ) (in_low : low < below) (in_mid : mid < span) where
+  abbrev pub whole : ℕ
+  whole = low + below * (mid + span * high)
+
+  pub whole_low : whole % below ≡ low
+  whole_low = let turned : whole ≡ (mid + span * high) * below + low = omega (arith, mul_comm below (mid + span * high)) in
+      rw turned (mod-mul-add (mid + span * high) below low in_low)
+
+  pub whole_above : whole / below ≡ mid + span * high
+  whole_above = let turned : whole ≡ (mid + span * high) * below + low = omega (arith, mul_comm below (mid + span * high)) in
+      rw turned (div-mul-add (mid + span * high) below low in_low)
+
+  pub whole_mid : whole / below % span ≡ mid
+  whole_mid = let turned : mid + span * high ≡ high * span + mid = omega (arith, mul_comm span high) in
+      rw (whole_above, turned) (mod-mul-add high span mid in_mid)
+
+  pub whole_high : whole / below / span ≡ high
+  whole_high = let turned : mid + span * high ≡ high * span + mid = omega (arith, mul_comm span high) in
+      rw (whole_above, turned) (div-mul-add high span mid in_mid)
+
+-- nothing is left to write
+pub with_number_done : (bytes : List ℕ) (place k count rest : ℕ) → count ≤ k → with_number bytes (place + k) (count - k) rest ≡ bytes
+unfolding with_number
+with_number_done bytes place k count rest past = let none : count - k ≡ 0 = omega arith in rw none refl

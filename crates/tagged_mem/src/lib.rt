@@ -6,6 +6,7 @@
 
 mod bytes;
 mod fault;
+mod packed;
 mod ram;
 
 pub use fault::MemFault;
