@@ -2,9 +2,9 @@
 use Rattle.std.proofs.Common.{◌≡◌, ◌≢◌, ℕ, suc, zero, ◌+◌, ◌-◌, ◌*◌, ◌/◌, ◌%◌, ◌^◌, ◌<◌, ◌≤◌, Bool, true, false, List, [], ◌∷◌, length, inl, inr, arith, refl, ap, sym, ◌∙◌, lit<, IsTrue}
 use Rattle.std.specs.Prelude.{slice_index_or, slice_set, replicate, nat_le, ◌==◌, ◌&&◌}
 use Rattle.std.specs.Int.{bit_at}
-use Rattle.std.proofs.lemmas.Bool.{cases_lt}
+use Rattle.std.proofs.lemmas.Bool.{cases_lt, cases_eq}
 use Rattle.std.proofs.lemmas.Bool.Decides.{nat_tests}
-use Rattle.std.proofs.lemmas.List.{get_or_past, length-replicate, get_or-replicate}
+use Rattle.std.proofs.lemmas.List.{get_or_past, length-replicate, get_or-replicate, get_or-set_same, get_or-set_other, set_past}
 use Rattle.std.proofs.Math.Nat.{mul_comm}
 use Rattle.cheri_model.specs.CapValue.{CapValue, raw, bits_of, tag_of, value_at, IsLawfulValue, IsTaggedWord}
 use Rattle.cheri_model.specs.ValueFacts.{bits_of-value_at, IsLawfulValue-value_at}
@@ -92,3 +92,69 @@ stored_is bytes tags bits g offset n number v inside below others is =
     let same : 0 + g ≡ g = omega arith in
     rw size (sym (granules_set bytes tags (with_number bytes (16 * g + offset) n number) bits 0 (length bytes / 16) g v (rw same is)
     (λ m apart. let other : m ≢ g = λ e. apart (e ∙ sym same) in rw (others m other, other_granule bytes g offset n number m inside other) refl)))
+
+-- the bytes that are written are bytes
+octets_written : (bytes : List ℕ) → ((i : ℕ) → slice_index_or bytes i 0 < 256) → (i n number k : ℕ) → slice_index_or (with_number bytes i n number) k 0 < 256
+unfolding with_number
+octets_written bytes octets i zero number k = octets k
+octets_written bytes octets i (suc n) number k =
+    octets_written (slice_set bytes i (number % 256)) (set_octets bytes octets i (number % 256) (omega arith)) (i + 1) n (number / 256) k
+  where
+    set_octets : (bytes : List ℕ) → ((i : ℕ) → slice_index_or bytes i 0 < 256) → (i byte : ℕ) → byte < 256 → (k : ℕ) → slice_index_or (slice_set bytes i byte) k 0 < 256
+    set_octets bytes octets i byte below k = elim (cases_eq k i) [
+      | inr other ↦ rw (get_or-set_other bytes i k byte 0 other) (octets k)
+      | inl same ↦ elim (cases_lt i (length bytes)) [
+        | inl inside ↦ rw (same, get_or-set_same bytes i byte 0 inside) below
+        | inr past ↦ rw (set_past bytes i byte past) (octets k)
+      ]
+    ]
+
+-- a store keeps RAM packed, where the granule then may have its tag
+pub packed_stored : (bytes tags bits : List ℕ) (g offset n number : ℕ) → IsPackedRam bytes tags → offset + n ≤ 16 → length bits ≡ length tags →
+    ((k : ℕ) → k ≢ g → tag_at bits k ≡ tag_at tags k) →
+    IsTaggedWord (tag_at bits g) (number_at (with_number bytes (16 * g + offset) n number) (16 * g) 16) →
+    IsPackedRam (with_number bytes (16 * g + offset) n number) bits
+packed_stored bytes tags bits g offset n number h inside same others is =
+    let size = length-with_number bytes (16 * g + offset) n number in
+    let room = h.room in
+    record {
+      size = rw size h.size;
+      room = rw (size, same) room;
+      octets = octets_written bytes h.octets (16 * g + offset) n number;
+      tagged = λ k. elim (cases_eq k g) [
+        | inl here ↦ rw here is
+        | inr other ↦ rw (others k other, other_granule bytes g offset n number k inside other) (h.tagged k)
+      ];
+    }
+
+-- a data store
+pub data_stored : (bytes tags bits : List ℕ) (g offset n number : ℕ) → IsPackedRam bytes tags → offset + n ≤ 16 → g < length bytes / 16 →
+    ((k : ℕ) → k ≢ g → tag_at bits k ≡ tag_at tags k) → tag_at bits g ≡ false →
+    unpacked_memory (with_number bytes (16 * g + offset) n number) bits
+    ≡ slice_set (unpacked_memory bytes tags) g (raw (with_bytes (bits_of (granule_at (unpacked_memory bytes tags) g)) offset n number))
+data_stored bytes tags bits g offset n number h inside below others cleared =
+    let all : offset + (n + (16 - offset - n)) ≡ 16 = omega arith in
+    let whole = whole_granules (length bytes) h.size in
+    let word = word_with_number bytes h.octets (16 * g) offset n (16 - offset - n) all number (omega arith) in
+    let old = bits_of-value_at (tag_at tags g) (number_at bytes (16 * g) 16) (h.tagged g) in
+    stored_is bytes tags bits g offset n number _ inside below others
+    (rw (cleared, word, granule-unpacked bytes tags g below, old) refl)
+
+-- a data load
+pub data_loaded : (bytes tags : List ℕ) (g offset n : ℕ) → IsPackedRam bytes tags → offset + n ≤ 16 → g < length bytes / 16 →
+    number_at bytes (16 * g + offset) n ≡ bytes_at (bits_of (granule_at (unpacked_memory bytes tags) g)) offset n
+data_loaded bytes tags g offset n h inside below =
+    let all : offset + (n + (16 - offset - n)) ≡ 16 = omega arith in
+    let old = bits_of-value_at (tag_at tags g) (number_at bytes (16 * g) 16) (h.tagged g) in
+    rw (granule-unpacked bytes tags g below, old) (sym (bytes_of_word bytes h.octets (16 * g) offset n (16 - offset - n) all))
+
+-- a capability store
+pub capability_stored : (bytes tags bits : List ℕ) (g : ℕ) (v : CapValue) → IsPackedRam bytes tags → IsLawfulValue v → g < length bytes / 16 →
+    ((k : ℕ) → k ≢ g → tag_at bits k ≡ tag_at tags k) → tag_at bits g ≡ tag_of v →
+    unpacked_memory (with_number bytes (16 * g) 16 (bits_of v)) bits ≡ slice_set (unpacked_memory bytes tags) g v
+capability_stored bytes tags bits g v h lawful below others tag =
+    let place : 16 * g + 0 ≡ 16 * g = omega arith in
+    let small = bits_lt v lawful in
+    let word : number_at (with_number bytes (16 * g) 16 (bits_of v)) (16 * g) 16 ≡ bits_of v =
+    with_number_there bytes (16 * g) 16 (bits_of v) (omega (arith, whole_granules (length bytes) h.size)) ∙ omega arith in
+    rw place at (stored_is bytes tags bits g 0 16 (bits_of v) v (omega arith) below others (rw (place, tag, word) (value_back v lawful)))
