@@ -1,14 +1,16 @@
 -- RAM as bytes and a bitmap: the granules that they are, and what stores leave.
 use Rattle.std.proofs.Common.{◌≡◌, ◌≢◌, ℕ, suc, zero, ◌+◌, ◌-◌, ◌*◌, ◌/◌, ◌%◌, ◌^◌, ◌<◌, ◌≤◌, Bool, true, false, List, [], ◌∷◌, length, inl, inr, arith, refl, ap, sym, ◌∙◌, lit<, IsTrue}
-use Rattle.std.specs.Prelude.{slice_index_or, slice_set, replicate, nat_le, ◌==◌, ◌&&◌}
+use Rattle.std.specs.Prelude.{take, drop, ◌++◌, slice_index_or, slice_set, replicate, nat_le, ◌==◌, ◌&&◌}
 use Rattle.std.specs.Int.{bit_at}
 use Rattle.std.proofs.lemmas.Bool.{cases_lt, cases_eq}
 use Rattle.std.proofs.lemmas.Bool.Decides.{nat_tests}
-use Rattle.std.proofs.lemmas.List.{get_or_past, length-replicate, get_or-replicate, get_or-set_same, get_or-set_other, set_past}
+use Rattle.std.proofs.lemmas.List.{get_or_past, length-replicate, get_or-replicate, get_or-set_same, get_or-set_other, set_past, drop_all, take_all, append-nil}
 use Rattle.std.proofs.Math.Nat.{mul_comm}
 use Rattle.cheri_model.specs.CapValue.{CapValue, raw, bits_of, tag_of, value_at, IsLawfulValue, IsTaggedWord}
 use Rattle.cheri_model.specs.ValueFacts.{bits_of-value_at, IsLawfulValue-value_at}
-use Rattle.cheri_model.specs.Memory.{granule_at, bytes_at, with_bytes, is_ram_size, IsMemory}
+use Rattle.cheri_model.specs.declared.width.Width.{Width}
+use Rattle.cheri_model.specs.declared.width.Width.TheVariants.{Byte, Half, Word, Double}
+use Rattle.cheri_model.specs.Memory.{ram_base, bytes_of, fits, granule_number, granule_offset, granule_at, bytes_at, with_bytes, is_ram_size, IsMemory}
 use Rattle.cheri_model.proofs.Results.Values.{value_back, value_tagged, bits_lt}
 use Rattle.tagged_mem.specs.Packed.{number_at, with_number, tag_at, packed_at, granules_from, unpacked_memory, IsPackedRam}
 use Rattle.tagged_mem.proofs.PackedBytes.{number_below, number_split, number_same, length-with_number, with_number_other, with_number_there, length-granules_from, granule-granules_from, granules_set, whole_low, whole_above, whole_mid, whole_high}
@@ -158,3 +160,43 @@ capability_stored bytes tags bits g v h lawful below others tag =
     let word : number_at (with_number bytes (16 * g) 16 (bits_of v)) (16 * g) 16 ≡ bits_of v =
     with_number_there bytes (16 * g) 16 (bits_of v) (omega (arith, whole_granules (length bytes) h.size)) ∙ omega arith in
     rw place at (stored_is bytes tags bits g 0 16 (bits_of v) v (omega arith) below others (rw (place, tag, word) (value_back v lawful)))
+
+-- where an access that fits is: its granule, and the place of its bytes there
+pub place_is : (addr : ℕ) → addr - ram_base ≡ 16 * granule_number addr + granule_offset addr
+place_is addr = omega arith
+
+pub data_inside : (granules : List CapValue) (addr : ℕ) (width : Width) → IsTrue (fits granules addr (bytes_of width)) → granule_offset addr + bytes_of width ≤ 16
+data_inside granules addr Byte h = grind (arith, nat_tests)
+data_inside granules addr Half h = grind (arith, nat_tests)
+data_inside granules addr Word h = grind (arith, nat_tests)
+data_inside granules addr Double h = grind (arith, nat_tests)
+
+pub granule_inside : (granules : List CapValue) (addr bytes : ℕ) → IsTrue (fits granules addr bytes) → granule_number addr < length granules
+granule_inside granules addr bytes h = grind (arith, nat_tests)
+
+pub granule_aligned : (granules : List CapValue) (addr : ℕ) → IsTrue (fits granules addr 16) → granule_offset addr ≡ 0
+granule_aligned granules addr h = grind (arith, nat_tests)
+
+-- the same of the memory that packed bytes are
+pub below_is : (bytes tags : List ℕ) (now : List CapValue) (g : ℕ) → unpacked_memory bytes tags ≡ now → g < length now → g < length bytes / 16
+below_is bytes tags now g is below = let size = ap length is in omega (arith, size, length-unpacked bytes tags)
+
+pub most_bytes : (size : ℕ) → is_ram_size size ≡ true → size ≤ 1048576
+most_bytes size h = grind (arith, nat_tests)
+
+-- one byte
+pub byte_unpacked : (bytes tags : List ℕ) (i : ℕ) → IsPackedRam bytes tags → i < length bytes →
+    slice_index_or bytes i 0 ≡ bytes_at (bits_of (granule_at (unpacked_memory bytes tags) (i / 16))) (i % 16) 1
+unfolding number_at
+byte_unpacked bytes tags i h below =
+    let place : 16 * (i / 16) + i % 16 ≡ i = omega arith in
+    let whole = whole_granules (length bytes) h.size in
+    let loaded = data_loaded bytes tags (i / 16) (i % 16) 1 h (omega arith) (omega arith) in
+    omega (arith, rw place at loaded)
+
+-- a vector whose items were replaced by as many
+pub kept_whole : (len : ℕ) (new old : List ℕ) → length new ≡ length old → len ≡ length old → take len (new ++ drop (length new) old) ≡ new
+kept_whole len new old same is =
+    let none : drop (length new) old ≡ [] = drop_all old (length new) (omega arith) in
+    let size : len ≡ length new = omega arith in
+    rw (none, size) (rw (append-nil new) (take_all new (length new) (omega arith)))
