@@ -2,7 +2,7 @@
 use Rattle.std.proofs.Common.{◌≡◌, ◌≢◌, ℕ, suc, zero, ◌+◌, ◌-◌, ◌*◌, ◌/◌, ◌%◌, ◌^◌, ◌<◌, ◌≤◌, Bool, true, false, List, [], ◌∷◌, length, inl, inr, arith, refl, ap, sym, ◌∙◌, lit<, IsTrue}
 use Rattle.std.specs.Prelude.{take, drop, ◌++◌, slice_index_or, slice_set, replicate, nat_le, ◌==◌, ◌&&◌}
 use Rattle.std.specs.Int.{bit_at}
-use Rattle.std.proofs.lemmas.Bool.{cases_lt, cases_eq}
+use Rattle.std.proofs.lemmas.Bool.{cases_lt, cases_eq, false≢true}
 use Rattle.std.proofs.lemmas.Bool.Decides.{nat_tests}
 use Rattle.std.proofs.lemmas.List.{get_or_past, length-replicate, get_or-replicate, get_or-set_same, get_or-set_other, set_past, drop_all, take_all, append-nil}
 use Rattle.std.proofs.Math.Nat.{mul_comm}
@@ -197,6 +197,23 @@ byte_unpacked bytes tags i h below =
 -- a vector whose items were replaced by as many
 pub kept_whole : (len : ℕ) (new old : List ℕ) → length new ≡ length old → len ≡ length old → take len (new ++ drop (length new) old) ≡ new
 kept_whole len new old same is =
-    let none : drop (length new) old ≡ [] = drop_all old (length new) (omega arith) in
+    let none : drop (length new) old ≡ [] = drop_all (length new) old (omega arith) in
     let size : len ≡ length new = omega arith in
-    rw (none, size) (rw (append-nil new) (take_all new (length new) (omega arith)))
+    rw (none, size) (rw (append-nil new) (take_all (length new) new (omega arith)))
+
+-- what stores keep packed
+pub data_packed : (bytes tags bits : List ℕ) (g offset n number : ℕ) → IsPackedRam bytes tags → offset + n ≤ 16 → length bits ≡ length tags →
+    ((k : ℕ) → k ≢ g → tag_at bits k ≡ tag_at tags k) → tag_at bits g ≡ false → IsPackedRam (with_number bytes (16 * g + offset) n number) bits
+data_packed bytes tags bits g offset n number h inside same others cleared =
+    let small = number_below _ (octets_written bytes h.octets (16 * g + offset) n number) (16 * g) 16 in
+    packed_stored bytes tags bits g offset n number h inside same others
+    (rw cleared (record { below = small; encoded = λ e. absurd (false≢true e) }))
+
+pub capability_packed : (bytes tags bits : List ℕ) (g : ℕ) (v : CapValue) → IsPackedRam bytes tags → IsLawfulValue v → g < length bytes / 16 → length bits ≡ length tags →
+    ((k : ℕ) → k ≢ g → tag_at bits k ≡ tag_at tags k) → tag_at bits g ≡ tag_of v → IsPackedRam (with_number bytes (16 * g) 16 (bits_of v)) bits
+capability_packed bytes tags bits g v h lawful below same others tag =
+    let place : 16 * g + 0 ≡ 16 * g = omega arith in
+    let small = bits_lt v lawful in
+    let word : number_at (with_number bytes (16 * g) 16 (bits_of v)) (16 * g) 16 ≡ bits_of v =
+    with_number_there bytes (16 * g) 16 (bits_of v) (omega (arith, whole_granules (length bytes) h.size)) ∙ omega arith in
+    rw place at (packed_stored bytes tags bits g 0 16 (bits_of v) h (omega arith) same others (rw (place, tag, word) (value_tagged v lawful)))
