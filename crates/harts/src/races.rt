@@ -8,6 +8,7 @@ ghost use Rattle.harts.specs.Reports.{AreReports};
 use crate::faults::RunFault;
 use crate::gates::Gate;
 use crate::lock::Shared;
+use crate::viewers::{Nobody, Onlooker, Viewer};
 use crate::workers::{HartReport, hart_loop};
 use cheri_model::{Image, NoMemory};
 use machine::{Blanks, BootFault, Core, Machine, Naming, Share};
@@ -37,19 +38,41 @@ pub fn run_harts<G: Gate + Sync, R: Threads + Wait + Sync>(
     ensures reports { IfOk result (λ run.
         AreReports run.0.trace (length image.harts) run.1.items) }
 {
+    run_watched(rt, alloc, image, turns, limit, gate, &mut Nobody)
+}
+
+/// Runs the harts of an image as `run_harts` does, while the calling thread has the viewer look on
+/// once, from when the workers are started until it gives its watch back. Where no watch is given,
+/// the viewer is not called.
+pub fn run_watched<G: Gate + Sync, V: Viewer, R: Threads + Wait + Sync>(
+    rt: &R,
+    alloc: Global,
+    image: Image,
+    turns: u32,
+    limit: u32,
+    gate: &G,
+    viewer: &mut V,
+) -> Result<(Core, Vec<HartReport>), RunFault>
+    ensures limit { (result ≡ Err (RunFault.Boot BootFault.Limit)) ↔ (is_limit limit ≡ false) }
+    ensures image { IfOk result (λ run. run.0.image ≡ image) }
+    ensures replay { IfOk result (λ run. IsReplay run.0.image run.0.trace run.0.state) }
+    ensures reports { IfOk result (λ run.
+        AreReports run.0.trace (length image.harts) run.1.items) }
+{
     let core = Core::boot(alloc, image, limit)?;
     let given = core.view().image.copy(alloc)?;
-    race::<Brand, G, R>(rt, alloc, core, given, turns, gate, Blanks::new())
+    race::<Brand, G, V, R>(rt, alloc, core, given, turns, gate, viewer, Blanks::new())
 }
 
 /// Races the harts of a core that was just booted from an image that is given, too.
-fn race<J: Naming + Send + Sync, G: Gate + Sync, R: Threads + Wait + Sync>(
+fn race<J: Naming + Send + Sync, G: Gate + Sync, V: Viewer, R: Threads + Wait + Sync>(
     rt: &R,
     alloc: Global,
     core: Core,
     given: Image,
     turns: u32,
     gate: &G,
+    viewer: &mut V,
     blanks: Blanks,
 ) -> Result<(Core, Vec<HartReport>), RunFault>
     requires names { blanks ≡ J.names }
@@ -61,7 +84,7 @@ fn race<J: Naming + Send + Sync, G: Gate + Sync, R: Threads + Wait + Sync>(
     ensures reports { IfOk result (λ run.
         AreReports run.0.trace (length J.image.harts) run.1.items) }
 {
-    let (machine, shares) = Machine::<J>::open(alloc, core, blanks)?;
+    let (machine, shares) = Machine::<J>::open(rt, alloc, core, blanks)?;
     let shared = Shared::new(machine);
     let work = Work {
         rt,
@@ -69,14 +92,44 @@ fn race<J: Naming + Send + Sync, G: Gate + Sync, R: Threads + Wait + Sync>(
         gate,
         turns,
     };
-    let worked = work_all(&work, alloc, shares)?;
+    let onlooker = Onlooker {
+        viewer,
+        watch: shared.watch(rt).ok(),
+    };
+    let raced = race_all(&work, alloc, shares, onlooker);
+    match raced {
+        Err(fault) => {
+            let _core = shared.into_machine().close(rt, Vec::new(alloc));
+            Err(fault)
+        }
+        Ok((reports, shares)) => {
+            let core = shared.into_machine().close(rt, shares);
+            if core.view().image != &given {
+                return Err(RunFault::ImageDiffers);
+            }
+            Ok((core, reports))
+        }
+    }
+}
+
+/// The reports and the shares of workers for each of these shares, which have counted nothing yet.
+fn race_all<J: Naming + Send + Sync, G: Gate + Sync, V: Viewer, R: Threads + Wait + Sync>(
+    work: &Work<'_, J, G, R>,
+    alloc: Global,
+    shares: Vec<Share<J>>,
+    onlooker: Onlooker<'_, J, V>,
+) -> Result<(Vec<HartReport>, Vec<Share<J>>), RunFault>
+    requires { All (λ share. share.amount ≡ 0) shares.items }
+    ensures fault { result ≢ Err (RunFault.Boot BootFault.Limit) }
+    ensures harts { IfOk result (λ all.
+        map (λ r. r.hart) all.0.items ≡ map (λ s. s.hart) shares.items) }
+    ensures counted { IfOk result (λ all.
+        all.1.items ≡ map (λ r. record { hart = r.hart; amount = r.steps }) all.0.items) }
+{
+    let worked = work_all(work, alloc, shares, onlooker)?;
     let reports = reports_of(alloc, worked.as_slice())?;
     let shares = shares_back(alloc, worked)?;
-    let core = shared.into_machine().close(shares);
-    if core.view().image != &given {
-        return Err(RunFault::ImageDiffers);
-    }
-    Ok((core, reports))
+    Ok((reports, shares))
 }
 
 /// What every worker of a race is lent.
@@ -108,10 +161,11 @@ impl<J: Naming> Promise<Worked<J>> for OfHart {
 }
 
 /// Starts a worker for each of these shares, which have counted nothing yet, and joins them all.
-fn work_all<J: Naming + Send + Sync, G: Gate + Sync, R: Threads + Wait + Sync>(
+fn work_all<J: Naming + Send + Sync, G: Gate + Sync, V: Viewer, R: Threads + Wait + Sync>(
     work: &Work<'_, J, G, R>,
     alloc: Global,
     shares: Vec<Share<J>>,
+    onlooker: Onlooker<'_, J, V>,
 ) -> Result<Vec<Worked<J>>, RunFault>
     requires { All (λ share. share.amount ≡ 0) shares.items }
     ensures fault { result ≢ Err (RunFault.Boot BootFault.Limit) }
@@ -133,17 +187,18 @@ fn work_all<J: Naming + Send + Sync, G: Gate + Sync, R: Threads + Wait + Sync>(
             ensures counted { IfOk result (λ all. All
                 (λ w. w.share ≡ record { hart = w.report.hart; amount = w.report.steps })
                 all.items) }
-        { work_rest(scope, work, shares, done) },
+        { work_rest(scope, work, shares, done, onlooker) },
     )
 }
 
-/// Starts a worker for the last of these shares, then those for the others, and joins them in hart
-/// order.
-fn work_rest<'s, E, J: Naming + Send + Sync, G: Gate + Sync, R: Threads + Wait + Sync>(
+/// Starts a worker for the last of these shares, then those for the others, has the viewer look on,
+/// and joins the workers in hart order.
+fn work_rest<'s, E, J: Naming + Send + Sync, G: Gate + Sync, V: Viewer, R: Threads + Wait + Sync>(
     scope: &Scope<'s, E>,
     work: &'s Work<'_, J, G, R>,
     shares: Vec<Share<J>>,
     done: Vec<Worked<J>>,
+    onlooker: Onlooker<'_, J, V>,
 ) -> Result<Vec<Worked<J>>, RunFault>
     requires none { All (λ share. share.amount ≡ 0) shares.items }
     requires done { done.items ≡ [] }
@@ -155,6 +210,7 @@ fn work_rest<'s, E, J: Naming + Send + Sync, G: Gate + Sync, R: Threads + Wait +
 {
     let mut shares = shares;
     let Some(share) = shares.pop() else {
+        onlooker.look_on();
         return Ok(done);
     };
     let promise = OfHart(share.hart());
@@ -167,7 +223,7 @@ fn work_rest<'s, E, J: Naming + Send + Sync, G: Gate + Sync, R: Threads + Wait +
     let Ok(worker) = scope.spawn_with(promise, job) else {
         return Err(RunFault::Spawn);
     };
-    let mut all = work_rest(scope, work, shares, done)?;
+    let mut all = work_rest(scope, work, shares, done, onlooker)?;
     let Ok(()) = all.push(worker.join(work.rt)) else {
         return Err(RunFault::NoMemory);
     };

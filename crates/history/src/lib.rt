@@ -7,6 +7,9 @@ mod links;
 mod rule;
 mod seen;
 
+#[cfg(test)]
+mod tests;
+
 pub use keeper::{Blank, Keeper};
 pub use links::{Link, Operation};
 pub use rule::Law;

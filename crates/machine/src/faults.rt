@@ -119,3 +119,12 @@ impl From<AllocError> for OpenFault {
         OpenFault::NoMemory
     }
 }
+
+/// Why a watch cannot be had.
+#[derive(Clone, Copy, Debug, PartialEq, Eq)]
+pub enum WatchFault {
+    /// Each place for a watch is in use.
+    NoPlace = 1,
+    /// Out of memory.
+    NoMemory = 2,
+}
