@@ -9,6 +9,7 @@ pub trait Viewer {
 }
 
 /// Nobody looks on.
+#[derive(Drop)]
 pub struct Nobody;
 
 impl Viewer for Nobody {
