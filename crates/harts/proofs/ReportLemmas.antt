@@ -23,6 +23,10 @@ pub harts_in_order : (trace : List Entry) (harts : ℕ) → map (λ (s : SharePa
 unfolding shares_of
 harts_in_order trace harts = harts_of_list trace (range_with_len 0 harts)
 
+-- a share that has counted just the steps of a report
+abbrev pub share_of : HartReport → ShareParts
+share_of report = record { hart = report.hart; amount = report.steps }
+
 -- what workers hand back, of whatever type: a report and a share that has counted just its steps
 module _ {W : Type 0} (report : W → HartReport) (share : W → ShareParts) where
   abbrev pub IsWork : W → Type 0
@@ -31,6 +35,20 @@ module _ {W : Type 0} (report : W → HartReport) (share : W → ShareParts) whe
   hart_by_report : (ws : List W) → map (λ (r : HartReport). r.hart) (map report ws) ≡ map (λ w. (report w).hart) ws
   hart_by_report [] = refl
   hart_by_report (w ∷ ws) = ap (λ (ns : List ℕ). (report w).hart ∷ ns) (hart_by_report ws)
+
+  pub harts_of_work : (reports : List HartReport) (ws : List W) → reports ≡ map report ws →
+      map (λ (r : HartReport). r.hart) reports ≡ map (λ w. (report w).hart) ws
+  harts_of_work reports ws made = ap (map (λ (r : HartReport). r.hart)) made ∙ hart_by_report ws
+
+  shares_by_report : (ws : List W) → All IsWork ws → map share ws ≡ map share_of (map report ws)
+  shares_by_report [] work = refl
+  shares_by_report (w ∷ ws) work =
+      ap (λ (s : ShareParts). s ∷ map share ws) (All-head IsWork w ws work)
+      ∙ ap (λ (ss : List ShareParts). share_of (report w) ∷ ss) (shares_by_report ws (All-tail IsWork w ws work))
+
+  pub shares_of_work : (reports : List HartReport) (back : List ShareParts) (ws : List W) → reports ≡ map report ws → back ≡ map share ws →
+      All IsWork ws → back ≡ map share_of reports
+  shares_of_work reports back ws made shares work = shares ∙ (shares_by_report ws work ∙ sym (ap (map share_of) made))
 
   exact : (trace : List Entry) (ws : List W) → All IsWork ws →
       All (λ (s : ShareParts). s.amount ≡ step_count trace s.hart) (map share ws) →
@@ -52,3 +70,15 @@ module _ {W : Type 0} (report : W → HartReport) (share : W → ShareParts) whe
         ∙ ap (map (λ (s : ShareParts). s.hart)) start ∙ harts_in_order [] harts;
     exact = rw made (exact trace ws work (rw shares at counted));
   }
+
+same_reports : (reports : List HartReport) → reports ≡ map (λ (r : HartReport). r) reports
+same_reports [] = refl
+same_reports (r ∷ reports) = ap (λ (rs : List HartReport). r ∷ rs) (same_reports reports)
+
+-- reports whose shares have counted just their steps
+pub reports_raced : (trace : List Entry) (harts : ℕ) (opened back : List ShareParts) (reports : List HartReport) →
+    opened ≡ shares_of [] harts → map (λ (r : HartReport). r.hart) reports ≡ map (λ (s : ShareParts). s.hart) opened →
+    back ≡ map share_of reports → All (λ (s : ShareParts). s.amount ≡ step_count trace s.hart) back → AreReports trace harts reports
+reports_raced trace harts opened back reports start order shares counted =
+    reports_made {W = HartReport} (λ (r : HartReport). r) share_of trace harts opened back reports reports start order
+    (λ k d inside. refl) (same_reports reports) shares counted
