@@ -19,7 +19,7 @@ order_more key (x ∷ xs) ys = by_pen (x.pen == key) (order_more x.next xs ys) (
         → order key (xs ++ ys) ≡ order key xs ++ order (open_end key xs) ys
         → either_order b (x.operation ∷ order x.next (xs ++ ys)) (order key (xs ++ ys))
         ≡ either_order b (x.operation ∷ order x.next xs) (order key xs)
-          ++ order (either_key b (open_end x.next xs) (open_end key xs)) ys
+        ++ order (either_key b (open_end x.next xs) (open_end key xs)) ys
     by_pen true its other = ap (λ (os : List Operation). x.operation ∷ os) its
     by_pen false its other = other
 

@@ -96,10 +96,10 @@ ended cells first pen v log pre written away end =
     let after : AreWritten cells rest = written_rest cells v rest (subst (AreWritten cells) (sym pre.1) written) in
     record {
       order_is = ap (order first) (sym pre.1) ∙ order_more first v rest
-      ∙ ap (λ os. order first v ++ os) (ap (λ k. order k rest) end ∙ order_away cells pen rest away after)
-      ∙ append-nil (order first v);
+          ∙ ap (λ os. order first v ++ os) (ap (λ k. order k rest) end ∙ order_away cells pen rest away after)
+          ∙ append-nil (order first v);
       end_is = ap (open_end first) (sym pre.1) ∙ open_end_more first v rest
-      ∙ ap (λ k. open_end k rest) end ∙ open_end_away cells pen rest away after;
+          ∙ ap (λ k. open_end k rest) end ∙ open_end_away cells pen rest away after;
     }
 
 same_pen : (k : ℕ) → (k == k) ≡ true
@@ -117,7 +117,7 @@ added : (first : ℕ) (v log : List Link) (e : Link) → Ended first e.pen v log
     (order first (log ++ e ∷ []) ≡ order first v ++ e.operation ∷ []) × (open_end first (log ++ e ∷ []) ≡ e.next)
 added first v log e is = (
   order_more first log (e ∷ []) ∙ ap (λ os. os ++ order (open_end first log) (e ∷ [])) is.order_is
-  ∙ ap (λ os. order first v ++ os) (ap (λ k. order k (e ∷ [])) is.end_is ∙ one_link e),
+      ∙ ap (λ os. order first v ++ os) (ap (λ k. order k (e ∷ [])) is.end_is ∙ one_link e),
   open_end_more first log (e ∷ []) ∙ ap (λ k. open_end k (e ∷ [])) is.end_is ∙ one_end e,
 )
 

@@ -61,10 +61,7 @@ impl Blank {
 }
 
 /// A new pen, of which no chain has a link yet.
-fn new_pen(
-    head: &Word<Link, u64, Law>,
-    seen: &mut logbook::Seen<Link, u64, Law>,
-) -> Pen
+fn new_pen(head: &Word<Link, u64, Law>, seen: &mut logbook::Seen<Link, u64, Law>) -> Pen
     requires { head.now ≡ head_of seen.old.book }
     ensures seen { seen.new.book ≡ seen.old.book }
     ensures pen { (result.book ≡ seen.old.book) × (result.nib.right ≡ may_write) }
@@ -124,11 +121,16 @@ impl<J: Order> Keeper<J> {
             next,
             operation,
         };
-        let mut offer: Offer<Link, u64, Law, Nothing> =
-            self.seen.plain::<Nothing, Draft, Add>(&draft);
+        let mut offer: Offer<Link, u64, Law, Nothing> = self
+            .seen
+            .plain::<Nothing, Draft, Add>(&draft);
         self.head
             .compare_exchange::<Add, Nothing>(0, 0, &mut self.seen, &mut offer, &mut draft.pen);
-        let Draft { pen: _, next, operation: _ } = draft;
+        let Draft {
+            pen: _,
+            next,
+            operation: _,
+        } = draft;
         self.pen = next;
     }
 

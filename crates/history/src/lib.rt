@@ -6,7 +6,6 @@ mod keeper;
 mod links;
 mod rule;
 mod seen;
-
 #[cfg(test)]
 mod tests;
 

@@ -63,7 +63,7 @@ pub type CopyReading<J> = Reading<Shown, (), Shows<J>>;
 pub fn publish<J: Naming, R: Wait>(copies: Copies<J>, rt: &R) -> (Copies<J>, ())
     requires { IsShown J.image (order_named J.names) copies.desk.shown.value
         → IsShown J.image (order_named J.names)
-            (fold shown_after copies.desk.shown.value (drop copies.behind copies.log.items)) }
+        (fold shown_after copies.desk.shown.value (drop copies.behind copies.log.items)) }
     ensures shown { result.0.desk.shown.value
         ≡ fold shown_after copies.desk.shown.value (drop copies.behind copies.log.items) }
     ensures pending { drop result.0.behind result.0.log.items ≡ [] }
@@ -76,10 +76,9 @@ pub fn publish<J: Naming, R: Wait>(copies: Copies<J>, rt: &R) -> (Copies<J>, ())
 /// none, watchers get no look until a later operation tells.
 pub fn tell<J: Naming>(copies: &mut Copies<J>, token: Token)
     ensures shown { copies.new.desk ≡ copies.old.desk }
-    ensures pending {
-        (drop copies.new.behind copies.new.log.items ≡ drop copies.old.behind copies.old.log.items)
+    ensures pending { (drop copies.new.behind copies.new.log.items ≡ drop copies.old.behind copies.old.log.items)
         ⊎ (drop copies.new.behind copies.new.log.items
-            ≡ drop copies.old.behind copies.old.log.items ++ Tell token ∷ []) }
+        ≡ drop copies.old.behind copies.old.log.items ++ Tell token ∷ []) }
 {
     let _told = copies.append(Ticket::Tell(token));
 }

@@ -14,12 +14,12 @@ publish-requires g c =
     let token = c.args.token.now in
     let shown = c.append-2.new.self.desk.shown.value in
     let two : pending ≡ Tell token ∷ Tell token ∷ [] =
-        c.in-Ok-append.ensures.pending
-        ∙ (ap (λ (ts : List Ticket). ts ++ Tell c.again-2.result ∷ []) (c.in-Ok.ensures.pending ∙ ap (λ (ts : List Ticket). ts ++ Tell c.again.result ∷ []) c.requires.none)
-        ∙ (λ i. Tell (c.again.ensures i) ∷ Tell (c.again-2.ensures i) ∷ [])) in
+    c.in-Ok-append.ensures.pending
+    ∙ (ap (λ (ts : List Ticket). ts ++ Tell c.again-2.result ∷ []) (c.in-Ok.ensures.pending ∙ ap (λ (ts : List Ticket). ts ++ Tell c.again.result ∷ []) c.requires.none)
+    ∙ (λ i. Tell (c.again.ensures i) ∷ Tell (c.again-2.ensures i) ∷ [])) in
     let same : shown ≡ c.args.copies.desk.shown.value = ap (λ d. d.shown.value) (c.append-2.ensures.desk ∙ c.append.ensures.desk) in
     let keep : fold shown_after shown pending ≡ shown =
-        told_again shown token pending (ap (λ (v : Shown). v.told) same ∙ c.requires.told) (ap (λ (v : Shown). v.token) same ∙ c.requires.token) two in
+    told_again shown token pending (ap (λ (v : Shown). v.told) same ∙ c.requires.told) (ap (λ (v : Shown). v.token) same ∙ c.requires.token) two in
     λ old. subst (λ (v : Shown). IsShown g.J.Naming.image (order_named g.J.Naming.names) v) (sym keep) old
 
 pub returns-clause-shown : goal.returns-clause-shown
@@ -28,10 +28,10 @@ returns-clause-shown g c =
     let token = c.args.token.now in
     let shown = c.append-2.new.self.desk.shown.value in
     let two : pending ≡ Tell token ∷ Tell token ∷ [] =
-        c.in-Ok-append.ensures.pending
-        ∙ (ap (λ (ts : List Ticket). ts ++ Tell c.again-2.result ∷ []) (c.in-Ok.ensures.pending ∙ ap (λ (ts : List Ticket). ts ++ Tell c.again.result ∷ []) c.requires.none)
-        ∙ (λ i. Tell (c.again.ensures i) ∷ Tell (c.again-2.ensures i) ∷ [])) in
+    c.in-Ok-append.ensures.pending
+    ∙ (ap (λ (ts : List Ticket). ts ++ Tell c.again-2.result ∷ []) (c.in-Ok.ensures.pending ∙ ap (λ (ts : List Ticket). ts ++ Tell c.again.result ∷ []) c.requires.none)
+    ∙ (λ i. Tell (c.again.ensures i) ∷ Tell (c.again-2.ensures i) ∷ [])) in
     let same : shown ≡ c.args.copies.desk.shown.value = ap (λ d. d.shown.value) (c.append-2.ensures.desk ∙ c.append.ensures.desk) in
     let keep : fold shown_after shown pending ≡ shown =
-        told_again shown token pending (ap (λ (v : Shown). v.told) same ∙ c.requires.told) (ap (λ (v : Shown). v.token) same ∙ c.requires.token) two in
+    told_again shown token pending (ap (λ (v : Shown). v.told) same ∙ c.requires.told) (ap (λ (v : Shown). v.token) same ∙ c.requires.token) two in
     c.publish.ensures.shown ∙ (keep ∙ same)

@@ -14,7 +14,7 @@ loop-place-preserved g c =
     let items = c.loop-place.shares.items in
     let inside : place < length items = search rules in
     let counted : old.amount ≡ step_count trace old.hart =
-        c.audit.ensures.amount ∙ (ap (λ (b : List ℕ). slice_index b old.hart) c.loop-place.invariant.books ∙ c.self.invariant.0.counts old.hart c.audit.ensures.below) in
+    c.audit.ensures.amount ∙ (ap (λ (b : List ℕ). slice_index b old.hart) c.loop-place.invariant.books ∙ c.self.invariant.0.counts old.hart c.audit.ensures.below) in
     let now = subst (λ (s : ShareParts). s.amount ≡ step_count trace s.hart) (sym c.audit.ensures.share) counted in
     let kept : slice_set items place c.audit.new.share ≡ c.args.shares.items = ap (λ (s : ShareParts). slice_set items place s) c.audit.ensures.share ∙ (set_read items place old c.index_mut.ensures.value ∙ c.loop-place.invariant.shares) in
     record {

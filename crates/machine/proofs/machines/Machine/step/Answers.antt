@@ -20,7 +20,7 @@ returns-in-Some-clause-there g c = λ missing.
     hart_is_there c.self.inside.watched c.core.result.now c.hart-hart.result _ c.in-Some.fault c.refusal.ensures.core c.core.ensures.core
     (ap (λ (image : ImageParts). length image.harts) c.self.invariant.1) c.hart-hart.ensures.below
     (refused_answered c.self.inside.watched c.hart-hart.result c.in-Some.fault
-        (c.in-Some.ensures.value ∙ ap (λ (k : CoreParts). refused k (step_of c.hart-hart.result)) c.core.ensures.core)) (cc)
+    (c.in-Some.ensures.value ∙ ap (λ (k : CoreParts). refused k (step_of c.hart-hart.result)) c.core.ensures.core)) (cc)
 
 pub newest-requires : goal.newest-requires
 newest-requires g c =
@@ -31,8 +31,7 @@ unfolding core_after
 invariant_of-self-2 g c =
     let hart = c.args.share.now.hart in
     let after : c.take.new.self ≡ core_after c.self.inside.watched (step_of hart) =
-        c.in-Ok.ensures.ok ∙ ap (λ n. core_after c.self.inside.watched (step_of n)) c.hart-hart.ensures.hart in
-    (
+    c.in-Ok.ensures.ok ∙ ap (λ n. core_after c.self.inside.watched (step_of n)) c.hart-hart.ensures.hart in (
       rw c.add.ensures.books (counted_after c.self.inside.books c.self.inside.watched c.take.new.self hart _ c.add.ensures.inside after c.self.invariant.0),
       ap (λ (k : CoreParts). k.image) after ∙ c.self.invariant.1,
     )
@@ -41,9 +40,9 @@ pub returns-clause-answered : goal.returns-clause-answered
 returns-clause-answered g c =
     let hart = c.args.share.now.hart in
     let after : c.take.new.self ≡ core_after c.self.inside.watched (step_of hart) =
-        c.in-Ok.ensures.ok ∙ ap (λ n. core_after c.self.inside.watched (step_of n)) c.hart-hart.ensures.hart in
+    c.in-Ok.ensures.ok ∙ ap (λ n. core_after c.self.inside.watched (step_of n)) c.hart-hart.ensures.hart in
     let none : refused c.self.inside.watched (step_of hart) ≡ None =
-        sym (c.in-None.ensures.value ∙ (λ i. refused (c.core.ensures.core i) (step_of (c.hart-hart.ensures.hart i)))) in
+    sym (c.in-None.ensures.value ∙ (λ i. refused (c.core.ensures.core i) (step_of (c.hart-hart.ensures.hart i)))) in
     λ other. taken_answered c.args.self.now c.core-2.result.now hart c.newest.result
     (ap (λ (k : CoreParts). refused k (step_of hart)) (sym c.self.view_is) ∙ none)
     (c.core-2.ensures.core ∙ (after ∙ ap (λ (k : CoreParts). core_after k (step_of hart)) c.self.view_is))
@@ -53,8 +52,8 @@ pub returns-clause-applied : goal.returns-clause-applied
 returns-clause-applied g c =
     let hart = c.args.share.now.hart in
     let after : c.take.new.self ≡ core_after c.self.inside.watched (step_of hart) =
-        c.in-Ok.ensures.ok ∙ ap (λ n. core_after c.self.inside.watched (step_of n)) c.hart-hart.ensures.hart in
+    c.in-Ok.ensures.ok ∙ ap (λ n. core_after c.self.inside.watched (step_of n)) c.hart-hart.ensures.hart in
     let none : refused c.self.inside.watched (step_of hart) ≡ None =
-        sym (c.in-None.ensures.value ∙ (λ i. refused (c.core.ensures.core i) (step_of (c.hart-hart.ensures.hart i)))) in
+    sym (c.in-None.ensures.value ∙ (λ i. refused (c.core.ensures.core i) (step_of (c.hart-hart.ensures.hart i)))) in
     after ∙ (sym (applied_after c.self.inside.watched (Step hart) none)
     ∙ ap (λ (k : CoreParts). applied k (step_of hart)) c.self.view_is)

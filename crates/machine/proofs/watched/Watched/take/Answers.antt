@@ -25,7 +25,7 @@ replace_with-requires g c =
     let seen : shown.core ≡ c.args.self.now = ap (λ (v : Shown). v.core) same ∙ c.self.view_is in
     let none : refused shown.core (asked op) ≡ None = ap (λ (k : CoreParts). refused k (asked op)) seen ∙ c.requires in
     let grown : c.add.new.self ≡ taken shown.core.trace ++ op ∷ [] =
-        c.add.ensures ∙ ap (λ (os : List Operation). os ++ op ∷ []) (c.self.invariant.1 ∙ ap (λ (v : Shown). taken v.core.trace) (sym same)) in
+    c.add.ensures ∙ ap (λ (os : List Operation). os ++ op ∷ []) (c.self.invariant.1 ∙ ap (λ (v : Shown). taken v.core.trace) (sym same)) in
     taken_shown g.J.Naming.image name shown op token pending none may c.token-2.ensures.book
     (sym c.token-2.ensures.order ∙ (c.seen.ensures ∙ grown))
 
@@ -42,10 +42,9 @@ invariant_of-self-2 g c =
     let seen : shown.core ≡ c.args.self.now = ap (λ (v : Shown). v.core) same ∙ c.self.view_is in
     let none : refused shown.core (asked op) ≡ None = ap (λ (k : CoreParts). refused k (asked op)) seen ∙ c.requires in
     let grown : c.add.new.self ≡ taken shown.core.trace ++ op ∷ [] =
-        c.add.ensures ∙ ap (λ (os : List Operation). os ++ op ∷ []) (c.self.invariant.1 ∙ ap (λ (v : Shown). taken v.core.trace) (sym same)) in
+    c.add.ensures ∙ ap (λ (os : List Operation). os ++ op ∷ []) (c.self.invariant.1 ∙ ap (λ (v : Shown). taken v.core.trace) (sym same)) in
     let after : c.replace_with.new.dest.desk.shown.value.core ≡ core_after shown.core (asked op) =
-        ap (λ (v : Shown). v.core) c.replace_with.ensures.0 ∙ taken_core shown op token pending none may in
-    (
+    ap (λ (v : Shown). v.core) c.replace_with.ensures.0 ∙ taken_core shown op token pending none may in (
       ap (λ (k : CoreParts). k.image) after ∙ (image_after shown.core op ∙ (ap (λ (v : Shown). v.core.image) same ∙ c.self.invariant.0)),
       grown ∙ (sym (taken_push shown.core op) ∙ ap (λ (k : CoreParts). taken k.trace) (sym after)),
       c.replace_with.ensures.1,
@@ -64,7 +63,7 @@ returns-clause-ok g c =
     let seen : shown.core ≡ c.args.self.now = ap (λ (v : Shown). v.core) same ∙ c.self.view_is in
     let none : refused shown.core (asked op) ≡ None = ap (λ (k : CoreParts). refused k (asked op)) seen ∙ c.requires in
     let grown : c.add.new.self ≡ taken shown.core.trace ++ op ∷ [] =
-        c.add.ensures ∙ ap (λ (os : List Operation). os ++ op ∷ []) (c.self.invariant.1 ∙ ap (λ (v : Shown). taken v.core.trace) (sym same)) in
+    c.add.ensures ∙ ap (λ (os : List Operation). os ++ op ∷ []) (c.self.invariant.1 ∙ ap (λ (v : Shown). taken v.core.trace) (sym same)) in
     let after : c.replace_with.new.dest.desk.shown.value.core ≡ core_after shown.core (asked op) =
-        ap (λ (v : Shown). v.core) c.replace_with.ensures.0 ∙ taken_core shown op token pending none may in
+    ap (λ (v : Shown). v.core) c.replace_with.ensures.0 ∙ taken_core shown op token pending none may in
     after ∙ ap (λ (k : CoreParts). core_after k (asked op)) seen
