@@ -1,1 +1,2 @@
 pub mod MemoryFaults
+pub mod Packed

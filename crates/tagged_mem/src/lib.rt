@@ -4,8 +4,8 @@
 //! `cheri_model` says what each access reads and what it leaves.
 #![tactic(auto)]
 
-mod bytes;
 mod fault;
+mod packed;
 mod ram;
 
 pub use fault::MemFault;

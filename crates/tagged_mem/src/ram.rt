@@ -1,10 +1,27 @@
-//! RAM as a vector of granules.
+//! RAM as its bytes and a bitmap of tags. A data access touches its bytes and one bit; a capability
+//! is unpacked where it is loaded and packed where it is stored.
 
-ghost use Rattle.std.specs.Prelude.{◌≡◌, ◌*◌, ◌<◌, ◌≤◌, ◌↔◌, false, length, IfOk, IfErr, IsTrue};
-ghost use Rattle.cheri_model.specs.CapValue.{IsLawfulValue};
+ghost use Rattle.std.specs.Prelude.{
+  ◌≡◌,
+  ℕ,
+  ◌*◌,
+  ◌/◌,
+  ◌%◌,
+  ◌<◌,
+  ◌≤◌,
+  ◌↔◌,
+  false,
+  length,
+  slice_index_or,
+  IfOk,
+  IfErr,
+  IsTrue,
+};
+ghost use Rattle.cheri_model.specs.CapValue.{bits_of, IsLawfulValue};
 ghost use Rattle.cheri_model.specs.Memory.{
   ram_base,
   bytes_of,
+  bytes_at,
   granule_number,
   granule_at,
   is_ram_size,
@@ -17,8 +34,8 @@ ghost use Rattle.cheri_model.specs.Memory.{
   IsMemory,
 };
 
-use crate::bytes::{bytes_at, with_bytes};
 use crate::fault::MemFault;
+use crate::packed::{data_at, put_bytes, put_tag, tag_at, unpacked, word_at};
 use cap_ops::Cap;
 use cheri_model::{GRANULE_BYTES, MAX_RAM_BYTES, RAM_BASE, Width};
 use std::alloc::Global;
@@ -28,19 +45,20 @@ use std::marker::Model;
 /// aligned bytes has a tag.
 #[derive(Debug, Drop)]
 pub struct Ram {
-    granules: Vec<Cap>,
+    bytes: Vec<u8>,
+    tags: Vec<u8>,
 }
 
 impl Model for Ram {
     ghost use Rattle.std.specs.Prelude.{List};
     ghost use Rattle.cheri_model.specs.CapValue.{CapValue};
-    ghost use Rattle.cheri_model.specs.Memory.{IsMemory};
+    ghost use Rattle.tagged_mem.specs.Packed.{unpacked_memory, IsPackedRam};
 
     ghost Value = { List CapValue };
 
-    ghost view = { λ ram. ram.granules.items };
+    ghost view = { λ ram. unpacked_memory ram.bytes.items ram.tags.items };
 
-    ghost invariant = { λ ram. IsMemory ram.granules.items };
+    ghost invariant = { λ ram. IsPackedRam ram.bytes.items ram.tags.items };
 }
 
 /// The number of the granule that the byte at `addr` is in.
@@ -60,8 +78,9 @@ impl Ram {
         if !(GRANULE_BYTES..=MAX_RAM_BYTES).contains(&bytes) || bytes % GRANULE_BYTES != 0 {
             return Err(MemFault::Size);
         }
-        let granules = vec![in alloc; Cap::null(); (bytes / GRANULE_BYTES) as usize]?;
-        Ok(Ram { granules })
+        let tags = vec![in alloc; 0; bytes as usize / 128 + 1]?;
+        let bytes = vec![in alloc; 0; bytes as usize]?;
+        Ok(Ram { bytes, tags })
     }
 
     /// RAM of the same size and values. Fails only when out of memory.
@@ -69,16 +88,16 @@ impl Ram {
         ensures same { IfOk result (λ copy. copy ≡ self.now) }
         ensures refused { IfErr result (λ fault. fault ≡ MemFault.NoMemory) }
     {
-        Ok(Ram {
-            granules: Vec::from_slice(alloc, self.granules.as_slice())?,
-        })
+        let bytes = Vec::from_slice(alloc, self.bytes.as_slice())?;
+        let tags = Vec::from_slice(alloc, self.tags.as_slice())?;
+        Ok(Ram { bytes, tags })
     }
 
     /// The size in bytes.
     pub fn size(&self) -> u32
         ensures { result ≡ GRANULE_BYTES * length self.now }
     {
-        self.granule_count() as u32 * GRANULE_BYTES
+        self.bytes.len() as u32
     }
 
     /// The number of granules.
@@ -86,17 +105,26 @@ impl Ram {
         ensures count { result ≡ length self.now }
         ensures memory { IsMemory self.now }
     {
-        self.granules.len()
+        self.bytes.len() / 16
     }
 
     /// The value of a granule, by its number from 0 on.
-    #[tactic(auto, unfolding(cheri_model::specs::Memory::granule_at))]
     pub fn granule(&self, number: usize) -> Cap
         requires { number < length self.now }
         ensures value { result ≡ granule_at self.now number }
         ensures lawful { IsLawfulValue result }
     {
-        self.granules[number]
+        let word = word_at(self.bytes.as_slice(), 16 * number);
+        unpacked(tag_at(self.tags.as_slice(), number), word)
+    }
+
+    /// Lends the bytes in the order of their addresses, without the tags.
+    pub fn bytes(&self) -> &[u8]
+        ensures size { length result.now ≡ GRANULE_BYTES * length self.now }
+        ensures each { (i : ℕ) → i < length result.now → slice_index_or result.now i 0
+            ≡ bytes_at (bits_of (granule_at self.now (i / 16))) (i % 16) 1 }
+    {
+        self.bytes.as_slice()
     }
 
     /// Whether an access of `bytes` bytes, at least one, is aligned to them and lies wholly in RAM.
@@ -114,8 +142,7 @@ impl Ram {
         requires { IsTrue (fits self.now addr (bytes_of width)) }
         ensures { result ≡ load_data self.now addr (bytes_of width) }
     {
-        let word = self.granules[granule_number(addr)].bits();
-        bytes_at(word, addr % u64::from(GRANULE_BYTES), width)
+        data_at(self.bytes.as_slice(), (addr - RAM_BASE) as usize, width)
     }
 
     /// Stores the low bytes of `number` from `addr` on, the least significant first. The granule
@@ -125,10 +152,10 @@ impl Ram {
         requires { IsTrue (fits self.old addr (bytes_of width)) }
         ensures { self.new ≡ store_data self.old addr (bytes_of width) number }
     {
-        let index = granule_number(addr);
-        let word = self.granules[index].bits();
-        let stored = with_bytes(word, addr % u64::from(GRANULE_BYTES), width, number);
-        self.granules[index] = Cap::from_word(stored);
+        let place = (addr - RAM_BASE) as usize;
+        let count = width.bytes() as usize;
+        put_bytes(&mut self.bytes, place, count, u128::from(number));
+        put_tag(&mut self.tags, granule_number(addr), false);
     }
 
     /// The granule at `addr`, with its tag.
@@ -147,9 +174,9 @@ impl Ram {
         requires { IsTrue (fits self.old addr 16) }
         ensures { self.new ≡ store_capability self.old addr value }
     {
-        // The contract of `bits` says that the value is lawful.
-        let _lawful = value.bits();
-        self.granules[granule_number(addr)] = value;
+        let place = (addr - RAM_BASE) as usize;
+        put_bytes(&mut self.bytes, place, 16, value.bits());
+        put_tag(&mut self.tags, granule_number(addr), value.tag());
     }
 
     /// Replaces the granule at `addr`, tag and all, and gives what it had.

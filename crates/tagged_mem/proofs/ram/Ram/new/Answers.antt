@@ -1,9 +1,15 @@
-use Rattle.std.proofs.Common.{◌≡◌, rules}
-use Rattle.cheri_model.specs.Memory.{cleared_memory}
-use Rattle.tagged_mem.proofs.ClearedMemory.{IsMemory-cleared_memory}
+use Rattle.std.proofs.Common.{◌≡◌, ◌+◌, ◌*◌, ◌/◌, ◌≤◌, rules, arith}
+use Rattle.tagged_mem.proofs.ClearedMemory.{zeros, cleared_is, cleared_packed}
 use Rattle.tagged_mem.proofs.ram.Ram.new.Goals as goal
 
 pub invariant_of-result : goal.invariant_of-result
 invariant_of-result c =
-    let items : c.in_ok-granules.granules.items ≡ cleared_memory c.args.bytes = search rules in
-    rw items (IsMemory-cleared_memory c.args.bytes (search rules) (search rules) (search rules))
+    let bytes : c.in_ok-bytes.bytes.items ≡ zeros c.args.bytes = search rules in
+    let tags : c.in_ok-tags.tags.items ≡ zeros (c.args.bytes / 128 + 1) = search rules in
+    rw (bytes, tags) (cleared_packed c.args.bytes (c.args.bytes / 128 + 1) (search rules) (search rules) (search rules) (omega arith))
+
+pub returns-clause-cleared : goal.returns-clause-cleared
+returns-clause-cleared c =
+    let bytes : c.in_ok-bytes.bytes.items ≡ zeros c.args.bytes = search rules in
+    let tags : c.in_ok-tags.tags.items ≡ zeros (c.args.bytes / 128 + 1) = search rules in
+    rw (bytes, tags) (cleared_is c.args.bytes (c.args.bytes / 128 + 1))
