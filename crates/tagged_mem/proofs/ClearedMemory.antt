@@ -1,12 +1,12 @@
 -- RAM that was just made: zero bytes and no tag.
-use Rattle.std.proofs.Common.{◌≡◌, ℕ, zero, suc, ◌+◌, ◌*◌, ◌/◌, ◌%◌, ◌^◌, ◌<◌, ◌≤◌, Bool, true, false, List, [], ◌∷◌, inl, inr, length, arith, refl, lit<}
+use Rattle.std.proofs.Common.{◌≡◌, ℕ, zero, suc, ◌+◌, ◌*◌, ◌/◌, ◌%◌, ◌^◌, ◌≤◌, true, false, List, ◌∷◌, inl, inr, length, arith, refl, lit<}
 use Rattle.std.specs.Prelude.{slice_index_or, replicate}
 use Rattle.std.proofs.lemmas.Bool.{cases_lt, false≢true}
 use Rattle.std.proofs.lemmas.Bool.Decides.{nat_tests}
 use Rattle.std.proofs.lemmas.List.{length-replicate, get_or-replicate, get_or_past}
 use Rattle.cheri_model.specs.CapValue.{raw}
 use Rattle.cheri_model.specs.Memory.{cleared_memory, is_ram_size}
-use Rattle.tagged_mem.specs.Packed.{number_at, tag_at, packed_at, granules_from, unpacked_memory, IsPackedRam}
+use Rattle.tagged_mem.specs.Packed.{number_at, tag_at, granules_from, unpacked_memory, IsPackedRam}
 
 abbrev pub zeros : ℕ → List ℕ
 zeros n = replicate n 0

@@ -1,5 +1,4 @@
 pub mod ClearedMemory
-pub mod WordBytes
 pub mod Open
 pub mod PackedBytes
 pub mod PackedTags

@@ -1,15 +1,7 @@
 -- Short names for hints: each definition opens what its own line names.
 use Rattle.std.specs.Prelude.{ℕ, List}
 use Rattle.cheri_model.specs.CapValue.{CapValue}
-use Rattle.cheri_model.specs.Memory.{granule_at, bytes_at, with_bytes, load_data, store_data, store_capability}
-
-unfoldable pub read : ℕ → ℕ → ℕ → ℕ
-unfolding bytes_at
-read word offset bytes = bytes_at word offset bytes
-
-unfoldable pub written : ℕ → ℕ → ℕ → ℕ → ℕ
-unfolding with_bytes
-written word offset bytes number = with_bytes word offset bytes number
+use Rattle.cheri_model.specs.Memory.{granule_at, load_data, store_data, store_capability}
 
 unfoldable pub load : List CapValue → ℕ → ℕ → ℕ
 unfolding granule_at load_data

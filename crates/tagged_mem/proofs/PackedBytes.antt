@@ -1,13 +1,11 @@
 -- Numbers of several bytes, and granules that are read from bytes and bits.
-use Rattle.std.proofs.Common.{◌≡◌, ℕ, zero, suc, ◌+◌, ◌-◌, ◌*◌, ◌/◌, ◌%◌, ◌^◌, ◌<◌, ◌≤◌, ◌≢◌, ◌==◌, Bool, true, false, List, [], ◌∷◌, length, inl, inr, arith, ap, sym, ◌∙◌, refl}
+use Rattle.std.proofs.Common.{◌≡◌, ℕ, zero, suc, ◌+◌, ◌-◌, ◌*◌, ◌/◌, ◌%◌, ◌^◌, ◌<◌, ◌≤◌, ◌≢◌, List, ◌∷◌, length, arith, ap, sym, ◌∙◌, refl}
 use Rattle.std.specs.Prelude.{slice_index_or, slice_set}
 use Rattle.std.proofs.Math.Nat.{mul_assoc, mul_comm}
-use Rattle.std.proofs.lemmas.Bool.{cases_lt}
-use Rattle.std.proofs.lemmas.Nat.{pow-add, pow_pos, mod-pow-add, mod-mul-add, div-mul-add}
+use Rattle.std.proofs.lemmas.Nat.{pow-add, mod-pow-add, mod-mul-add, div-mul-add}
 use Rattle.std.proofs.lemmas.List.{length-set, get_or-set_same, get_or-set_other}
-use Rattle.cheri_model.specs.CapValue.{CapValue, value_at}
-use Rattle.cheri_model.specs.Memory.{bytes_at, with_bytes}
-use Rattle.tagged_mem.specs.Packed.{number_at, with_number, tag_at, packed_at, granules_from}
+use Rattle.cheri_model.specs.CapValue.{CapValue}
+use Rattle.tagged_mem.specs.Packed.{number_at, with_number, packed_at, granules_from}
 
 -- one byte more is eight bits more
 byte_more : (n : ℕ) → 2 ^ (8 * suc n) ≡ 256 * 2 ^ (8 * n)

@@ -1,5 +1,5 @@
 -- RAM as its bytes, in the order of their addresses, and a bitmap with one tag for each granule.
-use Rattle.std.specs.Prelude.{◌≡◌, ℕ, zero, suc, ◌+◌, ◌*◌, ◌/◌, ◌%◌, ◌^◌, ◌==◌, ◌<◌, ◌≤◌, Bool, true, List, [], ◌∷◌, length, slice_index_or, slice_set}
+use Rattle.std.specs.Prelude.{◌≡◌, ℕ, zero, suc, ◌+◌, ◌*◌, ◌/◌, ◌%◌, ◌==◌, ◌<◌, ◌≤◌, Bool, true, List, [], ◌∷◌, length, slice_index_or, slice_set}
 use Rattle.std.specs.Int.{bit_at}
 use Rattle.cheri_model.specs.CapValue.{CapValue, value_at, IsTaggedWord}
 use Rattle.cheri_model.specs.Memory.{is_ram_size}

@@ -1,4 +1,4 @@
-use Rattle.std.proofs.Common.{◌≡◌, ◌<◌, ◌≤◌, ◌+◌, ◌-◌, ◌*◌, ◌/◌, length, rules, arith, refl, sym, ◌∙◌}
+use Rattle.std.proofs.Common.{◌≡◌, length, rules, sym}
 use Rattle.tagged_mem.proofs.PackedRam.{length-unpacked, whole_granules, byte_unpacked}
 use Rattle.tagged_mem.proofs.ram.Ram.bytes.Goals as goal
 

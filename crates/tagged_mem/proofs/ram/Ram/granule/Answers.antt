@@ -1,4 +1,4 @@
-use Rattle.std.proofs.Common.{◌≡◌, ◌<◌, ◌≤◌, ◌+◌, ◌-◌, ◌*◌, ◌/◌, length, rules, arith, refl, sym, ◌∙◌}
+use Rattle.std.proofs.Common.{◌≡◌, length, rules, arith, sym}
 use Rattle.tagged_mem.proofs.PackedRam.{granule-unpacked, below_is, most_bytes}
 use Rattle.tagged_mem.proofs.ram.Ram.granule.Goals as goal
 

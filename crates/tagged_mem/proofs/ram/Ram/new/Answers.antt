@@ -1,4 +1,4 @@
-use Rattle.std.proofs.Common.{◌≡◌, ◌+◌, ◌*◌, ◌/◌, ◌≤◌, rules, arith}
+use Rattle.std.proofs.Common.{◌≡◌, ◌+◌, ◌/◌, rules, arith}
 use Rattle.tagged_mem.proofs.ClearedMemory.{zeros, cleared_is, cleared_packed}
 use Rattle.tagged_mem.proofs.ram.Ram.new.Goals as goal
 

@@ -1,4 +1,4 @@
-use Rattle.std.proofs.Common.{◌≡◌, ◌<◌, ◌≤◌, ◌+◌, ◌-◌, ◌*◌, ◌/◌, length, rules, arith, refl, sym, ◌∙◌}
+use Rattle.std.proofs.Common.{◌≡◌, ◌-◌, ◌*◌, length, rules, arith, ◌∙◌}
 use Rattle.cheri_model.specs.Memory.{granule_number, store_capability}
 use Rattle.tagged_mem.proofs.PackedBytes.{length-with_number}
 use Rattle.tagged_mem.proofs.PackedRam.{kept_whole, capability_packed, capability_stored, below_is, granule_aligned, granule_inside}

@@ -2,6 +2,7 @@ use Rattle.std.proofs.Common.{◌≡◌, ◌==◌, ◌∙◌, false, length, sym
 use Rattle.std.specs.Prelude.{ok_or}
 use Rattle.std.proofs.lemmas.Bool.Decides.{nat_tests}
 use Rattle.cheri_model.specs.Memory.{IsMemory}
+use Rattle.tagged_mem.proofs.PackedRam.{IsMemory-unpacked}
 use Rattle.texts.specs.declared.listing.fault.ListingFaultKind.TheVariants.{Size}
 use Rattle.texts.specs.ListingMeaning.{whole_fault}
 use Rattle.texts.proofs.ImageLemmas.{finished_image}
@@ -15,5 +16,5 @@ returns c =
     let some : (length d.harts.items == 0) ≡ false = grind (arith, nat_tests, test, same) in
     rw (← c.self.view_is)
     (finished_image (record { program = d.program.items; harts = d.harts.items; set = d.set; memory = d.ram; sized = d.sized })
-    c.size.result c.in_ok-granules.granules.items c.ok_or.result (subst IsMemory c.ram.view_is c.ram.invariant) c.self.invariant.0 c.self.invariant.1 some
+    c.size.result c.in_ok-granules.granules.items c.ok_or.result (subst IsMemory c.ram.view_is (IsMemory-unpacked _ _ c.ram.invariant)) c.self.invariant.0 c.self.invariant.1 some
     c.size.ensures c.in_ok-granules.ensures (c.ok_or.ensures.value ∙ ap (λ o. ok_or o (whole_fault Size)) c.new.ensures))
