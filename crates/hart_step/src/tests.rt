@@ -100,6 +100,12 @@ fn ram(rt: &impl Abort, alloc: Global, bytes: u32) -> Ram {
     Ram::new(alloc, bytes).expect(rt, "the size is one that RAM may have")
 }
 
+/// The first granule of a memory.
+fn first_granule(rt: &impl Abort, memory: &Ram) -> Cap {
+    assert!(rt; memory.fits(0x8000_0000, 16));
+    memory.load_cap(0x8000_0000)
+}
+
 /// What a step leaves: the hart, the one granule of a memory of 16 bytes, and the outcome.
 #[derive(Clone, Copy)]
 struct Stepped {
@@ -111,12 +117,13 @@ struct Stepped {
 /// One step of a program of one instruction.
 fn after(rt: &impl Abort, alloc: Global, instr: Instr, hart: Hart, granule: Cap) -> Stepped {
     let mut memory = ram(rt, alloc, 16);
+    assert!(rt; memory.fits(0x8000_0000, 16));
     memory.store_cap(0x8000_0000, granule);
     let mut hart = hart;
     let outcome = step(&[instr], &mut hart, &mut memory);
     Stepped {
         hart,
-        granule: memory.load_cap(0x8000_0000),
+        granule: first_granule(rt, &memory),
         outcome,
     }
 }

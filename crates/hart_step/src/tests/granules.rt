@@ -198,7 +198,7 @@ fn swapped(rt: &impl Abort, alloc: Global, first: Given, second: Given) -> (Cap,
     (
         first.register(cd),
         second.register(cd),
-        memory.load_cap(0x8000_0000),
+        first_granule(rt, &memory),
     )
 }
 
