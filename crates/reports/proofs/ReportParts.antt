@@ -1,5 +1,5 @@
 -- A report in parts, as a sink takes them.
-use Rattle.std.proofs.Common.{◌≡◌, ℕ, ◌+◌, ◌<◌, ◌≤◌, List, [], ◌∷◌, ◌++◌, Option, codes, length, drop, get_or, refl, append_assoc}
+use Rattle.std.proofs.Common.{◌≡◌, ℕ, ◌+◌, ◌<◌, ◌≤◌, List, ◌++◌, Option, codes, length, drop, get_or, refl, append_assoc}
 use Rattle.std.specs.Io.KnownBytes.{Appends}
 use Rattle.cheri_model.specs.declared.trace.Entry.{Entry}
 use Rattle.cheri_model.specs.Image.{ImageParts}

@@ -1,5 +1,5 @@
 -- What a sink has taken of a text, put by put.
-use Rattle.std.proofs.Common.{◌≡◌, ℕ, ◌+◌, List, [], ◌∷◌, ◌++◌, Option, take, drop, refl, sym, append_assoc, append-nil, take-append-drop, Result, Ok, Err, OnOk, arith}
+use Rattle.std.proofs.Common.{◌≡◌, ℕ, ◌+◌, List, [], ◌++◌, Option, take, drop, refl, append_assoc, append-nil, take-append-drop, Result, Ok, Err, OnOk, arith}
 use Rattle.std.specs.Io.KnownBytes.{Appends}
 use Rattle.std.proofs.KnownBytes.{Appends-nil, Appends-trans}
 use Rattle.reports.specs.Sinks.{TakesAllBut, TakesBeginning}

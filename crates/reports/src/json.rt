@@ -13,7 +13,6 @@ ghost use Rattle.serde_json.specs.Written.{compact_text};
 
 use crate::report::is_listed;
 use crate::report::text::{Hex, TypeText, Word, granule_address};
-use bitflags::Flags;
 use cap_ops::Cap;
 use cheri_model::{Entry, GRANULE_BYTES, Image, NoMemory, Outcome, RAM_BASE, Reg, Status, Trap};
 use hart_step::{Hart, View};
@@ -47,9 +46,9 @@ fn value_json(alloc: Global, held: Cap) -> Result<Value, NoMemory>
         return json!(in alloc; {"tag": false, "word": word});
     }
     let (base, top) = held.bounds();
-    let base = Hex::new(u128::from(base), 16).to_string(alloc)?;
-    let top = Hex::new(top, 17).to_string(alloc)?;
-    let perms = Hex::new(u128::from(held.perm().bits()), 5).to_string(alloc)?;
+    let base = Hex::of_word(base).to_string(alloc)?;
+    let top = Hex::of_top(top).to_string(alloc)?;
+    let perms = Hex::of_perms(held.perm()).to_string(alloc)?;
     let otype = TypeText(held.object_type()).to_string(alloc)?;
     capability_json(alloc, base, perms, top, otype, word)
 }
@@ -60,7 +59,7 @@ fn entry_json(alloc: Global, entry: &Entry) -> Result<Value, NoMemory>
     ensures { IfOk result (λ v. data_of v ≡ entry_data entry.now) }
 {
     let hart = entry.hart;
-    let pc = Hex::new(u128::from(entry.pc), 16).to_string(alloc)?;
+    let pc = Hex::of_word(entry.pc).to_string(alloc)?;
     match entry.outcome {
         Outcome::Done => json!(in alloc; {"hart": hart, "outcome": "done", "pc": pc}),
         Outcome::Halt => json!(in alloc; {"hart": hart, "outcome": "halt", "pc": pc}),

@@ -44,10 +44,7 @@ fn write_entry(out: &mut String, place: usize, entry: &Entry) -> Result<(), NoMe
     ensures { OnOk result (string_bytes out.new
         ≡ string_bytes out.old ++ entry_line place entry.now) }
 {
-    let pc = Hex {
-        number: u128::from(entry.pc),
-        width: 16,
-    };
+    let pc = Hex::of_word(entry.pc);
     writeln!(
         out,
         "{place} hart={} pc={pc} {}",

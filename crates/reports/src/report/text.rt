@@ -9,7 +9,9 @@ ghost use Rattle.cheri_model.specs.CapValue.{parts_of};
 
 use bitflags::Flags;
 use cap_ops::Cap;
-use cheri_model::{GRANULE_BYTES, OType, Outcome, RAM_BASE, Status, Trap};
+use cheri_model::{
+    GRANULE_BYTES, OType, Outcome, Perms, RAM_BASE, SENTRY_TYPE, Status, Trap, UNSEALED_TYPE,
+};
 use std::{fmt, str};
 
 /// The most hexadecimal digits that stand together in a report: those of the top of a capability.
@@ -24,6 +26,30 @@ pub struct Hex {
 }
 
 impl Hex {
+    /// All digits of a number of 64 bits, as an address is.
+    pub fn of_word(number: u64) -> Hex
+        ensures number { result.number ≡ number }
+        ensures width { result.width ≡ 16 }
+    {
+        Hex::new(u128::from(number), 16)
+    }
+
+    /// The digits of a top, which may be 2^64.
+    pub fn of_top(top: u128) -> Hex
+        ensures number { result.number ≡ top }
+        ensures width { result.width ≡ 17 }
+    {
+        Hex::new(top, MOST_DIGITS)
+    }
+
+    /// The digits of a permission set in CGetPerm's form.
+    pub fn of_perms(perms: Perms) -> Hex
+        ensures number { result.number ≡ perms.0 }
+        ensures width { result.width ≡ 5 }
+    {
+        Hex::new(u128::from(perms.bits()), 5)
+    }
+
     /// The lowest hexadecimal digits of a number, as many as `width` says: at most 17.
     pub fn new(number: u128, width: usize) -> Hex
         requires { width ≤ 17 }
@@ -134,8 +160,8 @@ impl fmt::Display for TypeText {
 
     fn fmt<W: fmt::Write>(&self, f: &mut fmt::Formatter<W>) -> fmt::Result {
         match self.0.number() {
-            0x3FFFF => f.write_str("unsealed"),
-            0x3FFFE => f.write_str("sentry"),
+            UNSEALED_TYPE => f.write_str("unsealed"),
+            SENTRY_TYPE => f.write_str("sentry"),
             number => write!(f, "{number}"),
         }
     }
@@ -149,14 +175,8 @@ impl fmt::Display for Word {
     ghost output = { λ w. Some (word_text w.0) };
 
     fn fmt<W: fmt::Write>(&self, f: &mut fmt::Formatter<W>) -> fmt::Result {
-        let upper = Hex {
-            number: self.0 >> 64,
-            width: 16,
-        };
-        let lower = Hex {
-            number: self.0 & 0xFFFF_FFFF_FFFF_FFFF,
-            width: 16,
-        };
+        let upper = Hex::new(self.0 >> 64, 16);
+        let lower = Hex::new(self.0 & u128::from(u64::MAX), 16);
         write!(f, "{upper}_{lower}")
     }
 }
@@ -170,18 +190,8 @@ impl fmt::Display for Parts {
 
     fn fmt<W: fmt::Write>(&self, f: &mut fmt::Formatter<W>) -> fmt::Result {
         let (base, top) = self.0.bounds();
-        let base = Hex {
-            number: u128::from(base),
-            width: 16,
-        };
-        let top = Hex {
-            number: top,
-            width: 17,
-        };
-        let perms = Hex {
-            number: u128::from(self.0.perm().bits()),
-            width: 5,
-        };
+        let (base, top) = (Hex::of_word(base), Hex::of_top(top));
+        let perms = Hex::of_perms(self.0.perm());
         let otype = TypeText(self.0.object_type());
         write!(f, "{base} {top} {perms} {otype}")
     }

@@ -1,7 +1,6 @@
 use Rattle.std.proofs.Common.{◌-◌, arith}
 use Rattle.serde_json.proofs.Views.{view-Object}
 use Rattle.reports.proofs.JsonLemmas.{register_put, registers_end}
-use Rattle.serde_json.specs.Data.{object}
 use Rattle.reports.proofs.json.registers_json.Goals as goal
 
 pub loop-number-preserved : goal.loop-number-preserved

@@ -1,4 +1,4 @@
-use Rattle.std.proofs.Common.{◌≡◌, drop, rules, arith}
+use Rattle.std.proofs.Common.{arith}
 use Rattle.std.proofs.lemmas.Grind.{common_steps}
 use Rattle.reports.proofs.SinkLemmas.{takes_more}
 use Rattle.reports.proofs.sink.put_whole.Goals as goal
