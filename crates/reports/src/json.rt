@@ -12,7 +12,7 @@ ghost use Rattle.serde_json.specs.View.{items_of, members_view, view as data_of}
 ghost use Rattle.serde_json.specs.Written.{compact_text};
 
 use crate::report::is_listed;
-use crate::report::text::{Hex, TypeText, Word, granule_address};
+use crate::report::text::{Hex, HexWord, TypeText, Word, granule_address};
 use cap_ops::Cap;
 use cheri_model::{Entry, GRANULE_BYTES, Image, NoMemory, Outcome, RAM_BASE, Reg, Status, Trap};
 use hart_step::{Hart, View};
@@ -46,7 +46,7 @@ fn value_json(alloc: Global, held: Cap) -> Result<Value, NoMemory>
         return json!(in alloc; {"tag": false, "word": word});
     }
     let (base, top) = held.bounds();
-    let base = Hex::of_word(base).to_string(alloc)?;
+    let base = HexWord(base).to_string(alloc)?;
     let top = Hex::of_top(top).to_string(alloc)?;
     let perms = Hex::of_perms(held.perm()).to_string(alloc)?;
     let otype = TypeText(held.object_type()).to_string(alloc)?;
@@ -59,7 +59,7 @@ fn entry_json(alloc: Global, entry: &Entry) -> Result<Value, NoMemory>
     ensures { IfOk result (λ v. data_of v ≡ entry_data entry.now) }
 {
     let hart = entry.hart;
-    let pc = Hex::of_word(entry.pc).to_string(alloc)?;
+    let pc = HexWord(entry.pc).to_string(alloc)?;
     match entry.outcome {
         Outcome::Done => json!(in alloc; {"hart": hart, "outcome": "done", "pc": pc}),
         Outcome::Halt => json!(in alloc; {"hart": hart, "outcome": "halt", "pc": pc}),

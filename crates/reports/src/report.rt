@@ -19,7 +19,7 @@ use cheri_model::{Entry, Image, NoMemory, Reg};
 use fault::ReportFault;
 use hart_step::{Hart, View};
 use std::alloc::Global;
-use text::{Hex, OutcomeText, StatusText, ValueText, granule_address};
+use text::{HexWord, OutcomeText, StatusText, ValueText, granule_address};
 
 /// Whether a value is tagged or not all 0: the others have no line in a report.
 pub(crate) fn is_listed(value: Cap) -> bool
@@ -44,7 +44,7 @@ fn write_entry(out: &mut String, place: usize, entry: &Entry) -> Result<(), NoMe
     ensures { OnOk result (string_bytes out.new
         ≡ string_bytes out.old ++ entry_line place entry.now) }
 {
-    let pc = Hex::of_word(entry.pc);
+    let pc = HexWord(entry.pc);
     writeln!(
         out,
         "{place} hart={} pc={pc} {}",

@@ -26,14 +26,6 @@ pub struct Hex {
 }
 
 impl Hex {
-    /// All digits of a number of 64 bits, as an address is.
-    pub fn of_word(number: u64) -> Hex
-        ensures number { result.number ≡ number }
-        ensures width { result.width ≡ 16 }
-    {
-        Hex::new(u128::from(number), 16)
-    }
-
     /// The digits of a top, which may be 2^64.
     pub fn of_top(top: u128) -> Hex
         ensures number { result.number ≡ top }
@@ -106,6 +98,33 @@ impl fmt::Display for Hex {
     }
 }
 
+/// The sixteen digits of a number of 64 bits.
+fn word_digits(number: u64) -> [u8; 16]
+    ensures { result ≡ hex_text 16 number }
+{
+    let mut digits = [b'0'; 16];
+    let mut left = number;
+    for place in (0..16).rev() {
+        digits[place] = hex_digit((left & 15) as u8);
+        left >>= 4;
+    }
+    digits
+}
+
+/// All sixteen hexadecimal digits of a number of 64 bits, as an address is, in lower case. It is
+/// written faster than a `Hex`, and most numbers of a report are such.
+#[derive(Clone, Copy)]
+pub struct HexWord(pub u64);
+
+impl fmt::Display for HexWord {
+    ghost output = { λ h. Some (hex_text 16 h.0) };
+
+    fn fmt<W: fmt::Write>(&self, f: &mut fmt::Formatter<W>) -> fmt::Result {
+        let digits = word_digits(self.0);
+        f.write_str(str::from_utf8(&digits).map_err(|_| fmt::Error)?)
+    }
+}
+
 /// A trap's cause and register.
 #[derive(Clone, Copy)]
 struct Cause(Trap);
@@ -175,8 +194,8 @@ impl fmt::Display for Word {
     ghost output = { λ w. Some (word_text w.0) };
 
     fn fmt<W: fmt::Write>(&self, f: &mut fmt::Formatter<W>) -> fmt::Result {
-        let upper = Hex::new(self.0 >> 64, 16);
-        let lower = Hex::new(self.0 & u128::from(u64::MAX), 16);
+        let upper = HexWord((self.0 >> 64) as u64);
+        let lower = HexWord((self.0 & u128::from(u64::MAX)) as u64);
         write!(f, "{upper}_{lower}")
     }
 }
@@ -190,7 +209,7 @@ impl fmt::Display for Parts {
 
     fn fmt<W: fmt::Write>(&self, f: &mut fmt::Formatter<W>) -> fmt::Result {
         let (base, top) = self.0.bounds();
-        let (base, top) = (Hex::of_word(base), Hex::of_top(top));
+        let (base, top) = (HexWord(base), Hex::of_top(top));
         let perms = Hex::of_perms(self.0.perm());
         let otype = TypeText(self.0.object_type());
         write!(f, "{base} {top} {perms} {otype}")
