@@ -1,15 +1,15 @@
 -- A fault of a text, as a fault of the program: whatever holds where memory runs out and at the text's own fault, holds.
 use Rattle.std.proofs.Common.{◌≡◌, sym, subst, ap, ℕ, List, Err, refl, inl, inr}
 use Rattle.std.specs.Prelude.{◌⊎◌}
-use Rattle.texts.specs.declared.listing.fault.ListingFault.{ListingFault}
-use Rattle.texts.specs.declared.listing.fault.ListingFaultKind.{ListingFaultKind}
-use Rattle.texts.specs.declared.listing.fault.ListingFaultKind.TheVariants as listing_kinds
-use Rattle.texts.specs.declared.orders.OrderFault.{OrderFault}
-use Rattle.texts.specs.declared.orders.OrderFaultKind.{OrderFaultKind}
-use Rattle.texts.specs.declared.orders.OrderFaultKind.TheVariants as order_kinds
-use Rattle.texts.specs.ListingFaults.{Gives}
-use Rattle.texts.specs.ListingMeaning.{listing_meaning}
-use Rattle.texts.specs.Orders.{GivesFault, order_of}
+use Rattle.listings.specs.declared.fault.ListingFault.{ListingFault}
+use Rattle.grammar.specs.declared.fault.ListingFaultKind.{ListingFaultKind}
+use Rattle.grammar.specs.declared.fault.ListingFaultKind.TheVariants as listing_kinds
+use Rattle.orders.specs.declared.fault.OrderFault.{OrderFault}
+use Rattle.orders.specs.declared.fault.OrderFaultKind.{OrderFaultKind}
+use Rattle.orders.specs.declared.fault.OrderFaultKind.TheVariants as order_kinds
+use Rattle.listings.specs.Faults.{Gives}
+use Rattle.listings.specs.Meaning.{listing_meaning}
+use Rattle.orders.specs.Orders.{GivesFault, order_of}
 use Rattle.cheri_sim.specs.declared.faults.Fault.{Fault}
 use Rattle.cheri_sim.specs.declared.faults.Fault.TheVariants as faults
 use Rattle.cheri_sim.specs.Faults.{listing_fault, listing_fault_of_kind, order_fault_of_kind}

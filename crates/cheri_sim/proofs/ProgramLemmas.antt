@@ -1,9 +1,9 @@
 -- Faults of the crates below as faults of the program: what they say is so.
 use Rattle.std.proofs.Common.{◌≡◌, ◌≢◌, subst, ℕ, List, Option, Some, None, Ok, Err, Result, refl, inl, inr}
 use Rattle.std.specs.Prelude.{OnOk, IfErr}
-use Rattle.texts.specs.declared.listing.fault.ListingFault.{ListingFault}
-use Rattle.texts.specs.ListingFaults.{Gives}
-use Rattle.texts.specs.ListingMeaning.{listing_meaning}
+use Rattle.listings.specs.declared.fault.ListingFault.{ListingFault}
+use Rattle.listings.specs.Faults.{Gives}
+use Rattle.listings.specs.Meaning.{listing_meaning}
 use Rattle.machine.specs.declared.faults.StepFault.{StepFault}
 use Rattle.command_line.specs.Requests.{Asked, Check, Run, Race, Bounds, Decode}
 use Rattle.command_line.specs.declared.requests.ReportForm.{ReportForm}

@@ -2,9 +2,9 @@
 use Rattle.std.proofs.Common.{◌≡◌, ℕ, List, Option, Ok, Err, Result, length, refl, inl, inr}
 use Rattle.std.specs.Prelude.{OnOk, IfErr}
 use Rattle.std.specs.Io.KnownBytes.{Appends}
-use Rattle.texts.specs.declared.listing.fault.ListingFault.{ListingFault}
-use Rattle.texts.specs.ListingFaults.{Gives}
-use Rattle.texts.specs.ListingMeaning.{listing_meaning}
+use Rattle.listings.specs.declared.fault.ListingFault.{ListingFault}
+use Rattle.listings.specs.Faults.{Gives}
+use Rattle.listings.specs.Meaning.{listing_meaning}
 use Rattle.cheri_model.specs.Image.{ImageParts}
 use Rattle.cheri_model.specs.Replay.{IsReplay}
 use Rattle.reports.specs.Report.{report}

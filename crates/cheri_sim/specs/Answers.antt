@@ -8,10 +8,10 @@ use Rattle.cheri_model.specs.CapValue.{CapValue, raw}
 use Rattle.cheri_model.specs.Image.{ImageParts}
 use Rattle.cheri_model.specs.Results.{is_exact, address_of, length_of}
 use Rattle.cheri_model.specs.Readings.{permissions_of, flags_of, object_type_of, high_of, base_of, top_of}
-use Rattle.texts.specs.declared.listing.fault.ListingFaultKind.{ListingFaultKind}
+use Rattle.grammar.specs.declared.fault.ListingFaultKind.{ListingFaultKind}
 use Rattle.cheri_sim.specs.declared.faults.Fault.{Fault}
 use Rattle.cheri_sim.specs.declared.faults.Fault.TheVariants.{BadNumber}
-use Rattle.texts.specs.ListingNumerals.{number_of}
+use Rattle.grammar.specs.Numerals.{number_of}
 use Rattle.reports.specs.Report.{line}
 use Rattle.reports.specs.ReportText.{◌+++◌, hex_text, type_text}
 

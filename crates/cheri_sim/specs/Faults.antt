@@ -4,14 +4,14 @@ use Rattle.cheri_sim.specs.declared.faults.Fault.{Fault}
 use Rattle.cheri_sim.specs.declared.faults.Fault.TheVariants.{Usage, NoMemory, BadNumber, CannotReadListing, CannotReadOrder, CannotWrite, CannotStart, ImageDiffers, Listing, Order, Step}
 use Rattle.command_line.specs.declared.faults.CommandFault.{CommandFault}
 use Rattle.command_line.specs.declared.faults.CommandFault.TheVariants as commands
-use Rattle.texts.specs.declared.listing.fault.ListingFault.{ListingFault}
-use Rattle.texts.specs.declared.listing.fault.ListingFaultKind.{ListingFaultKind}
-use Rattle.texts.specs.declared.listing.fault.ListingFaultKind.TheVariants as listing_kinds
-use Rattle.texts.specs.declared.orders.OrderFault.{OrderFault}
-use Rattle.texts.specs.declared.orders.OrderFaultKind.{OrderFaultKind}
-use Rattle.texts.specs.declared.orders.OrderFaultKind.TheVariants as order_kinds
-use Rattle.texts.specs.ListingFaults.{listing_fault_text}
-use Rattle.texts.specs.Orders.{order_fault_text}
+use Rattle.listings.specs.declared.fault.ListingFault.{ListingFault}
+use Rattle.grammar.specs.declared.fault.ListingFaultKind.{ListingFaultKind}
+use Rattle.grammar.specs.declared.fault.ListingFaultKind.TheVariants as listing_kinds
+use Rattle.orders.specs.declared.fault.OrderFault.{OrderFault}
+use Rattle.orders.specs.declared.fault.OrderFaultKind.{OrderFaultKind}
+use Rattle.orders.specs.declared.fault.OrderFaultKind.TheVariants as order_kinds
+use Rattle.grammar.specs.Faults.{listing_fault_text}
+use Rattle.orders.specs.Orders.{order_fault_text}
 use Rattle.reports.specs.declared.report.fault.ReportFault.{ReportFault}
 use Rattle.reports.specs.declared.report.fault.ReportFault.TheVariants as written
 use Rattle.machine.specs.Faults.{step_fault_text}

@@ -3,10 +3,10 @@ use Rattle.std.specs.Prelude.{◌≡◌, ℕ, List, ◌∷◌, map, codes, Optio
 use Rattle.std.specs.Global.{Global}
 use Rattle.cheri_model.specs.Image.{ImageParts}
 use Rattle.cheri_model.specs.declared.encoding.TheConstants.{ADDRESS_SPACE}
-use Rattle.texts.specs.declared.listing.fault.ListingFault.{ListingFault}
-use Rattle.texts.specs.declared.orders.OrderFault.{OrderFault}
-use Rattle.texts.specs.ListingMeaning.{listing_meaning}
-use Rattle.texts.specs.Orders.{order_of}
+use Rattle.listings.specs.declared.fault.ListingFault.{ListingFault}
+use Rattle.orders.specs.declared.fault.OrderFault.{OrderFault}
+use Rattle.listings.specs.Meaning.{listing_meaning}
+use Rattle.orders.specs.Orders.{order_of}
 use Rattle.machine.specs.declared.faults.StepFault.{StepFault}
 use Rattle.command_line.specs.declared.requests.ReportForm.{ReportForm}
 use Rattle.command_line.specs.Requests.{Asked, Check, Run, Race, Bounds, Decode}

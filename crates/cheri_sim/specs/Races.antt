@@ -2,7 +2,7 @@
 use Rattle.std.specs.Prelude.{◌≡◌, ℕ, List, length, Option, Ok, Err, ◌⊎◌, ⊤}
 use Rattle.cheri_model.specs.Image.{ImageParts}
 use Rattle.cheri_model.specs.Replay.{IsReplay}
-use Rattle.texts.specs.ListingMeaning.{listing_meaning}
+use Rattle.listings.specs.Meaning.{listing_meaning}
 use Rattle.reports.specs.Report.{report}
 use Rattle.machine.specs.Cores.{CoreParts}
 use Rattle.harts.specs.declared.workers.HartReport.{HartReport}

@@ -2,8 +2,8 @@
 use Rattle.std.specs.Prelude.{◌≡◌, ℕ, List, Option, Ok, Err, ◌⊎◌, ⊤}
 use Rattle.serde_json.specs.Written.{compact_text}
 use Rattle.cheri_model.specs.Image.{ImageParts}
-use Rattle.texts.specs.ListingMeaning.{listing_meaning}
-use Rattle.texts.specs.Orders.{order_of}
+use Rattle.listings.specs.Meaning.{listing_meaning}
+use Rattle.orders.specs.Orders.{order_of}
 use Rattle.reports.specs.Json.{json_report}
 use Rattle.reports.specs.Report.{line}
 use Rattle.reports.specs.Sinks.{TakesBeginning}

@@ -9,7 +9,9 @@ use machine::{SimFault, StepFault};
 use reports::ReportFault;
 use std::alloc::AllocError;
 use std::fmt;
-use texts::{ListingFault, ListingFaultKind, OrderFault, OrderFaultKind};
+use grammar::fault::ListingFaultKind;
+use listings::ListingFault;
+use orders::{OrderFault, OrderFaultKind};
 
 /// Why the program does not end with status 0.
 #[derive(Clone, Copy, Debug, PartialEq, Eq)]

@@ -3,7 +3,7 @@
 ghost use Rattle.std.specs.Prelude.{◌≡◌, ◌≢◌, ◌≤◌, ◌⊎◌, IfOk, IfErr, OnOk, Err, Some, None};
 ghost use Rattle.std.specs.Io.KnownBytes.{Appends};
 ghost use Rattle.command_line.specs.Requests.{Asked, asked, Check, Run, Race, Bounds, Decode};
-ghost use Rattle.texts.specs.ListingTokens.{texts};
+ghost use Rattle.grammar.specs.Tokens.{texts};
 ghost use Rattle.cheri_sim.specs.Answers.{number_given};
 ghost use Rattle.cheri_sim.specs.Faults.{fault_text, status_of};
 ghost use Rattle.cheri_sim.specs.Files.{AreBytesOf};
@@ -25,7 +25,8 @@ use std::alloc::Global;
 use std::io::{self, Write};
 use std::sync::Wait;
 use std::thread::Threads;
-use texts::{number_of, read_listing};
+use grammar::numerals::number_of;
+use listings::read_listing;
 
 /// The greatest address.
 const GREATEST_ADDRESS: u128 = ADDRESS_SPACE - 1;

@@ -12,7 +12,7 @@ use std::alloc::Global;
 use std::io::Write;
 use std::sync::Wait;
 use std::thread::Threads;
-use texts::read_listing;
+use listings::read_listing;
 
 /// A gate that every hart goes through in each of its turns.
 #[derive(Clone, Copy)]

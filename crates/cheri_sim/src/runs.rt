@@ -19,7 +19,8 @@ use machine::{GREATEST_TRACE_LIMIT, SimFault, StepFault, run_order, simulate};
 use reports::{ReportFault, ToWrite, report_json};
 use std::alloc::Global;
 use std::io::Write;
-use texts::{read_listing, read_order};
+use listings::read_listing;
+use orders::read_order;
 
 /// The JSON report of what a view shows, in one line.
 fn json_line(alloc: Global, view: View<'_>) -> Result<String, ReportFault>

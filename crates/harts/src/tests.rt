@@ -17,7 +17,7 @@ use std::process::Abort;
 use std::sync::Wait;
 use std::test::Fail;
 use std::thread::Threads;
-use texts::read_listing;
+use listings::read_listing;
 
 mod gates;
 

@@ -1,8 +1,8 @@
 -- The run of a listing in an order, from two texts to what a sink took.
 use Rattle.std.specs.Prelude.{◌≡◌, ℕ, List, Option, Result, Ok, Err, IsOk, ⊤, Bool, true, false, codes}
-use Rattle.texts.specs.ListingFaults.{Gives}
-use Rattle.texts.specs.ListingMeaning.{listing_meaning}
-use Rattle.texts.specs.Orders.{GivesFault, order_of}
+use Rattle.listings.specs.Faults.{Gives}
+use Rattle.listings.specs.Meaning.{listing_meaning}
+use Rattle.orders.specs.Orders.{GivesFault, order_of}
 use Rattle.cheri_model.specs.Image.{ImageParts}
 use Rattle.reports.specs.Report.{report}
 use Rattle.reports.specs.ReportFaults.{failures_of}

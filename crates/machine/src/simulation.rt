@@ -10,7 +10,8 @@ use crate::faults::{BootFault, StepFault};
 use crate::runs::run_order;
 use reports::{ReportFault, Sink, write_report};
 use std::alloc::Global;
-use texts::{ListingFault, OrderFault, read_listing, read_order};
+use listings::{ListingFault, read_listing};
+use orders::{OrderFault, read_order};
 
 /// Why a simulation was not shown, tried in this order.
 #[derive(Clone, Copy, Debug, PartialEq, Eq)]

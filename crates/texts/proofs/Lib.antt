@@ -1,14 +1,2 @@
-pub mod ChainLemmas
-pub mod GranuleLemmas
-pub mod HartNumbers
-pub mod ImageLemmas
-pub mod LabelLemmas
-pub mod LawfulTypes
-pub mod LineLemmas
-pub mod NumeralLemmas
-pub mod OperandLemmas
-pub mod PermissionTexts
-pub mod ReaderLemmas
-pub mod TokenLemmas
 pub mod WriterLemmas
 pub mod round_trip

@@ -4,7 +4,7 @@ use Rattle.std.specs.Prelude.{bit_and, codes}
 use Rattle.std.proofs.Math.ListN.{drop_of_length-le}
 use Rattle.std.proofs.lemmas.List.{append-nil}
 use Rattle.cheri_model.specs.CapValue.{CapValue}
-use Rattle.texts.specs.ListingCanon.{each, register_line, register_lines, joined_text}
+use Rattle.texts.specs.Canon.{each, register_line, register_lines, joined_text}
 
 -- the text so far and that of the items from a place on stay the same when the item there is written
 pub each_step : {X : Type 0} (text : X → List ℕ) (items : List X) (place : ℕ) (d item : X) (before after all : List ℕ)

@@ -10,7 +10,7 @@ use Rattle.cheri_model.specs.Capability.{IsLawful, unsealed_type}
 use Rattle.cheri_model.specs.CapValue.{CapValue, valid, raw}
 use Rattle.cheri_model.specs.Memory.{ram_base, is_ram_size}
 use Rattle.cheri_model.specs.Image.{ImageParts}
-use Rattle.texts.specs.ListingMeaning.{listed_from}
+use Rattle.listings.specs.Meaning.{listed_from}
 
 -- any untagged word, and each lawful capability whose flag is 0
 abbrev pub IsWritable : CapValue → Type 0

@@ -3,8 +3,8 @@
 ghost use Rattle.std.specs.Prelude.{◌≡◌, ◌≤◌, ℕ, List, length, Ok};
 ghost use Rattle.cheri_model.specs.Image.{ImageParts};
 ghost use Rattle.texts.specs.Listable.{IsListable};
-ghost use Rattle.texts.specs.ListingCanon.{canon};
-ghost use Rattle.texts.specs.ListingMeaning.{listing_limit, listing_meaning};
+ghost use Rattle.texts.specs.Canon.{canon};
+ghost use Rattle.listings.specs.Meaning.{listing_limit, listing_meaning};
 
 /// The canonical listing of an image that some listing means, where it is not longer than a listing
 /// may be, means that image again. Such images hold only what listings can write.

@@ -1,9 +1,11 @@
-//! The texts that the simulator reads: listings, which mean images and are written back, and orders of hart numbers.
+//! Listings written back: the canonical listing of an image, and that it means the image again.
 #![tactic(auto)]
 
+mod instructions;
 pub mod laws;
-mod listing;
-mod orders;
+mod writer;
 
-pub use listing::{ListingFault, ListingFaultKind, number_of, read_listing, write_listing};
-pub use orders::{OrderFault, OrderFaultKind, read_order};
+pub use writer::write_listing;
+
+#[cfg(test)]
+mod tests;

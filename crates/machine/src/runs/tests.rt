@@ -9,7 +9,7 @@ use cheri_model::{HartImage, Image, Instr, Outcome, Perms, Reg, Trap, Value};
 use std::alloc::Global;
 use std::process::Abort;
 use std::test::Fail;
-use texts::read_listing;
+use listings::read_listing;
 
 /// Two harts that may each run two instructions.
 const TWO_HARTS: &[u8] = b".hart 0x10000000 16 0x10000000 execute\n\

@@ -11,10 +11,10 @@ use Rattle.std.proofs.lemmas.Fmt.{digits_is_IsNumeral}
 use Rattle.std.proofs.Math.Nat.{pow-suc, div-div-eq-div-mul}
 use Rattle.hex.specs.Hex.{encode_with, lower_digits, encode_lower, decode_of, IsBytes}
 use Rattle.hex.proofs.HexLemmas.{decode_of-encode_lower}
-use Rattle.texts.specs.ListingTokens.{is_blank, is_filled}
-use Rattle.texts.specs.ListingNumerals.{number_of}
-use Rattle.texts.specs.ListingCanon.{memory_text, word_text}
-use Rattle.texts.proofs.PermissionTexts.{first, second}
+use Rattle.grammar.specs.Tokens.{is_blank, is_filled}
+use Rattle.grammar.specs.Numerals.{number_of}
+use Rattle.texts.specs.Canon.{memory_text, word_text}
+use Rattle.grammar.proofs.PermissionTexts.{first, second}
 use Rattle.texts.proofs.round_trip.Words.{is_open, is_word_byte, IsWord, both, all_joined, filled_cons}
 use Rattle.texts.proofs.round_trip.Numbers.{digit_bytes, number_where, after_0x, hex_word_of}
 use Rattle.texts.proofs.round_trip.Operands.{all_below, at_below}

@@ -7,17 +7,17 @@ use Rattle.std.proofs.lemmas.Slice.Eq.{bytes_eq-Decides}
 use Rattle.cheri_model.specs.Capability.{Capability, IsLawful, IsLawfulType, unsealed_type, sentry_type, last_sealable_type}
 use Rattle.cheri_model.specs.CapValue.{valid}
 use Rattle.cap_ops.proofs.MadeAgain.{made_again}
-use Rattle.texts.specs.declared.listing.fault.ListingFaultKind.TheVariants.{Operand}
-use Rattle.texts.specs.declared.listing.operands.TypeOperand.{TypeOperand}
-use Rattle.texts.specs.declared.listing.operands.TypeOperand.TheVariants.{Unsealed, Sentry, Number}
-use Rattle.texts.specs.declared.listing.capability.CapOperands.{CapOperands}
-use Rattle.texts.specs.declared.listing.capability.CapParts.{CapParts}
-use Rattle.texts.specs.ListingTokens.{token_at, is_blank}
-use Rattle.texts.specs.ListingNumerals.{number_of}
-use Rattle.texts.specs.ListingOperands.{type_operand_of, type_in_range}
-use Rattle.texts.specs.ListingPermissions.{set_of}
-use Rattle.texts.specs.ListingCapability.{cap_operands_of, cap_parts_of, capability_of}
-use Rattle.texts.specs.ListingCanon.{hex_number, perms_text, type_text, cap_text}
+use Rattle.grammar.specs.declared.fault.ListingFaultKind.TheVariants.{Operand}
+use Rattle.grammar.specs.declared.operands.TypeOperand.{TypeOperand}
+use Rattle.grammar.specs.declared.operands.TypeOperand.TheVariants.{Unsealed, Sentry, Number}
+use Rattle.grammar.specs.declared.capability.CapOperands.{CapOperands}
+use Rattle.grammar.specs.declared.capability.CapParts.{CapParts}
+use Rattle.grammar.specs.Tokens.{token_at, is_blank}
+use Rattle.grammar.specs.Numerals.{number_of}
+use Rattle.grammar.specs.Operands.{type_operand_of, type_in_range}
+use Rattle.grammar.specs.Permissions.{set_of}
+use Rattle.grammar.specs.Capability.{cap_operands_of, cap_parts_of, capability_of}
+use Rattle.texts.specs.Canon.{hex_number, perms_text, type_text, cap_text}
 use Rattle.texts.proofs.round_trip.Words.{is_open, is_word_byte, IsWord}
 use Rattle.texts.proofs.round_trip.Lines.{IsLine, last_word, then_space}
 use Rattle.texts.proofs.round_trip.Numbers.{decimal_reads, decimal_word, hex_reads, hex_word}

@@ -27,19 +27,19 @@ use Rattle.cap_ops.specs.Making.{made, capability_with}
 use Rattle.cap_ops.specs.declared.making.MakeFault.{MakeFault}
 use Rattle.cap_ops.specs.declared.making.MakeFault.TheVariants as refusal
 use Rattle.cap_ops.proofs.Makings.{makeable, made_result, unbounded}
-use Rattle.texts.specs.declared.listing.fault.ListingFaultKind.{ListingFaultKind}
-use Rattle.texts.specs.declared.listing.fault.ListingFaultKind.TheVariants as kind
-use Rattle.texts.specs.declared.listing.operands.TypeOperand.{TypeOperand}
-use Rattle.texts.specs.declared.listing.operands.TypeOperand.TheVariants.{Unsealed}
-use Rattle.texts.specs.declared.listing.capability.CapOperands.{CapOperands}
-use Rattle.texts.specs.declared.listing.capability.CapParts.{CapParts}
-use Rattle.texts.specs.ListingFaults.{◌>>=◌}
-use Rattle.texts.specs.ListingNumerals.{at_most}
-use Rattle.texts.specs.ListingOperands.{type_in_range}
-use Rattle.texts.specs.ListingCapability.{cap_parts_of, unless_refused, capability_of}
-use Rattle.texts.specs.ListingDraft.{DraftParts, legal_size, with_ram, hart_from, add_hart, with_hart, latest, with_latest, with_register, set_register, stored_bytes, with_bytes, with_capability, with_instruction, no_registers}
+use Rattle.grammar.specs.declared.fault.ListingFaultKind.{ListingFaultKind}
+use Rattle.grammar.specs.declared.fault.ListingFaultKind.TheVariants as kind
+use Rattle.grammar.specs.declared.operands.TypeOperand.{TypeOperand}
+use Rattle.grammar.specs.declared.operands.TypeOperand.TheVariants.{Unsealed}
+use Rattle.grammar.specs.declared.capability.CapOperands.{CapOperands}
+use Rattle.grammar.specs.declared.capability.CapParts.{CapParts}
+use Rattle.grammar.specs.Faults.{◌>>=◌}
+use Rattle.grammar.specs.Numerals.{at_most}
+use Rattle.grammar.specs.Operands.{type_in_range}
+use Rattle.grammar.specs.Capability.{cap_parts_of, unless_refused, capability_of}
+use Rattle.listings.specs.Draft.{DraftParts, legal_size, with_ram, hart_from, add_hart, with_hart, latest, with_latest, with_register, set_register, stored_bytes, with_bytes, with_capability, with_instruction, no_registers}
 use Rattle.texts.specs.Listable.{IsWritable, IsWritablePcc, IsWritableHart, IsReadable}
-use Rattle.texts.proofs.PermissionTexts.{second}
+use Rattle.grammar.proofs.PermissionTexts.{second}
 use Rattle.texts.proofs.round_trip.Ranges.{then_ok, test_true, test_false, at_most_ok, type_ok}
 
 not_false : (a : Bool) → not a ≡ false → a ≡ true

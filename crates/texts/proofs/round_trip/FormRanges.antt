@@ -11,14 +11,14 @@ use Rattle.cheri_model.specs.declared.form.UpperOp.{UpperOp}
 use Rattle.cheri_model.specs.declared.form.LoadOp.{LoadOp}
 use Rattle.cheri_model.specs.declared.form.StoreOp.{StoreOp}
 use Rattle.cheri_model.specs.declared.form.BranchOp.{BranchOp}
-use Rattle.texts.specs.declared.listing.fault.ListingFaultKind.{ListingFaultKind}
-use Rattle.texts.specs.declared.listing.mnemonics.Mnemonic.{Mnemonic}
-use Rattle.texts.specs.declared.listing.mnemonics.Mnemonic.TheVariants.{Three, Two, Immediate, Shift, WordShift, SetBoundsImm, Upper, Load, Store, Swap, Branch, Jump, Invoke, Alone}
-use Rattle.texts.specs.ListingFaults.{◌>>=◌}
-use Rattle.texts.specs.ListingTokens.{token_at}
-use Rattle.texts.specs.ListingOperands.{register_of, immediate_of, immediate_of_12_bits, immediate_up_to, memory_operand_of}
-use Rattle.texts.specs.ListingLabels.{PlaceParts, target_operand_of, target_of}
-use Rattle.texts.specs.ListingForms.{counted, three_form, two_form, immediate_form, shift_form, word_shift_form, set_bounds_form, upper_form, load_form, store_form, swap_form, branch_form, jump_form, invoke_form, alone_form, form_from}
+use Rattle.grammar.specs.declared.fault.ListingFaultKind.{ListingFaultKind}
+use Rattle.grammar.specs.declared.mnemonics.Mnemonic.{Mnemonic}
+use Rattle.grammar.specs.declared.mnemonics.Mnemonic.TheVariants.{Three, Two, Immediate, Shift, WordShift, SetBoundsImm, Upper, Load, Store, Swap, Branch, Jump, Invoke, Alone}
+use Rattle.grammar.specs.Faults.{◌>>=◌}
+use Rattle.grammar.specs.Tokens.{token_at}
+use Rattle.grammar.specs.Operands.{register_of, immediate_of, immediate_of_12_bits, immediate_up_to, memory_operand_of}
+use Rattle.grammar.specs.Labels.{PlaceParts, target_operand_of, target_of}
+use Rattle.grammar.specs.Forms.{counted, three_form, two_form, immediate_form, shift_form, word_shift_form, set_bounds_form, upper_form, load_form, store_form, swap_form, branch_form, jump_form, invoke_form, alone_form, form_from}
 use Rattle.texts.specs.Listable.{IsReadable}
 use Rattle.texts.proofs.round_trip.Ranges.{then_ok, register_ok, twelve_ok, up_to_ok, memory_ok, IsBounded, target_ok}
 

@@ -13,13 +13,13 @@ use Rattle.cheri_model.specs.declared.form.UpperOp.{UpperOp}
 use Rattle.cheri_model.specs.declared.form.LoadOp.{LoadOp}
 use Rattle.cheri_model.specs.declared.form.StoreOp.{StoreOp}
 use Rattle.cheri_model.specs.declared.form.BranchOp.{BranchOp}
-use Rattle.texts.specs.declared.listing.mnemonics.Mnemonic.{Mnemonic}
-use Rattle.texts.specs.declared.listing.mnemonics.Mnemonic.TheVariants as mnemonic
+use Rattle.grammar.specs.declared.mnemonics.Mnemonic.{Mnemonic}
+use Rattle.grammar.specs.declared.mnemonics.Mnemonic.TheVariants as mnemonic
 use Rattle.texts.specs.Listable.{Is12Bits, IsReadable}
-use Rattle.texts.specs.ListingTokens.{token_at}
-use Rattle.texts.specs.ListingLabels.{PlaceParts}
-use Rattle.texts.specs.ListingForms.{counted, three_form, two_form, immediate_form, shift_form, word_shift_form, set_bounds_form, upper_form, load_form, store_form, swap_form, branch_form, jump_form, invoke_form, alone_form, form_from}
-use Rattle.texts.specs.ListingInstructions.{form_text, three_name, two_name, immediate_name, shift_name, word_shift_name, upper_name, load_name, store_name, branch_name}
+use Rattle.grammar.specs.Tokens.{token_at}
+use Rattle.grammar.specs.Labels.{PlaceParts}
+use Rattle.grammar.specs.Forms.{counted, three_form, two_form, immediate_form, shift_form, word_shift_form, set_bounds_form, upper_form, load_form, store_form, swap_form, branch_form, jump_form, invoke_form, alone_form, form_from}
+use Rattle.texts.specs.Instructions.{form_text, three_name, two_name, immediate_name, shift_name, word_shift_name, upper_name, load_name, store_name, branch_name}
 use Rattle.texts.proofs.round_trip.Lines.{IsLine, last_word, then_space, then_comma}
 use Rattle.texts.proofs.round_trip.Numbers.{decimal_word}
 use Rattle.texts.proofs.round_trip.Operands.{reg_text, register_reads, register_word, signed_reads, signed_in_range, signed_word, plain_reads, up_to_reads, memory_text, memory_reads, memory_word, target_text, target_reads, target_in_range, target_word}

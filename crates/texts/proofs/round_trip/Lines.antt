@@ -4,9 +4,9 @@ use Rattle.std.specs.List.{list_all, slice_split, before_first, All}
 use Rattle.std.proofs.Math.Numerals.{one-add}
 use Rattle.std.proofs.lemmas.List.Elements.{All-nil, All-cons}
 use Rattle.std.proofs.lemmas.List.Splits.{slice_split_at, slice_split_none}
-use Rattle.texts.specs.ListingLines.{is_plain, lines_of}
-use Rattle.texts.specs.ListingTokens.{is_blank, is_filled, tokens_of}
-use Rattle.texts.proofs.PermissionTexts.{first, second}
+use Rattle.grammar.specs.Lines.{is_plain, lines_of}
+use Rattle.grammar.specs.Tokens.{is_blank, is_filled, tokens_of}
+use Rattle.grammar.proofs.PermissionTexts.{first, second}
 use Rattle.texts.proofs.round_trip.Words.{is_open, is_word_byte, IsWord, all_from, all_joined, open_byte, solid_byte, plain_byte, no_comment, no_newline}
 
 -- a line without a comment, which has these tokens

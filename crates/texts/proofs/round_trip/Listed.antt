@@ -20,34 +20,34 @@ use Rattle.cheri_model.specs.Form.{form_of, instr_of, three_instr, two_instr, im
 use Rattle.cheri_model.specs.CapValue.{CapValue, raw}
 use Rattle.cheri_model.specs.Memory.{ram_base}
 use Rattle.cheri_model.specs.Image.{ImageParts}
-use Rattle.texts.specs.declared.listing.fault.ListingFault.{ListingFault}
-use Rattle.texts.specs.declared.listing.fault.ListingFaultKind.{ListingFaultKind}
-use Rattle.texts.specs.declared.listing.fault.ListingFaultKind.TheVariants as kind
-use Rattle.texts.specs.declared.listing.directives.Directive.{Directive}
-use Rattle.texts.specs.declared.listing.directives.Directive.TheVariants as directive
-use Rattle.texts.specs.declared.listing.mnemonics.Mnemonic.{Mnemonic}
-use Rattle.texts.specs.declared.listing.labels.Place.{Place}
-use Rattle.texts.specs.declared.listing.operands.TypeOperand.TheVariants.{Unsealed}
-use Rattle.texts.specs.declared.listing.operands.TypeOperand.{TypeOperand}
-use Rattle.texts.specs.declared.listing.capability.CapOperands.{CapOperands}
-use Rattle.texts.specs.declared.listing.draft.Setting.{Setting}
-use Rattle.texts.specs.declared.listing.draft.Setting.TheVariants.{Word, Capability}
-use Rattle.texts.specs.ListingFaults.{◌>>=◌}
-use Rattle.texts.specs.ListingLines.{lines_of, is_plain}
-use Rattle.texts.specs.ListingTokens.{tokens_of, token_at}
-use Rattle.texts.specs.ListingNumerals.{number_of, at_most}
-use Rattle.texts.specs.ListingPermissions.{permissions_of}
-use Rattle.texts.specs.ListingCapability.{cap_operands_of, cap_tokens, cap_parts_of}
-use Rattle.texts.specs.ListingDirectives.{found_at, directive_of, directive_table}
-use Rattle.texts.specs.ListingMnemonics.{mnemonic_of, mnemonic_table, is_instruction}
-use Rattle.texts.specs.ListingForms.{counted, form_from}
-use Rattle.texts.specs.ListingLabels.{PlaceParts, is_label_token, label_name, label_of, label_fault, count_of, labels_from, instruction_lines, places_of}
-use Rattle.texts.specs.ListingPlaces.{first_place}
-use Rattle.texts.specs.ListingStatement.{ram_line, hart_line, settable_register_of, word_setting, capability_setting, setting_of, set_line, hex_bytes, bytes_line, cap_line, directive_line, instruction_line, label_line, other_line, line_from, tokens_meaning}
-use Rattle.texts.specs.ListingDraft.{DraftParts, empty_draft, with_ram, with_hart, value_of, with_set, set_register, with_bytes, with_capability, with_instruction}
-use Rattle.texts.specs.ListingMeaning.{line_meaning, at_line, lines_meaning, whole_fault, listed_from, finished, listing_limit, listing_meaning}
+use Rattle.listings.specs.declared.fault.ListingFault.{ListingFault}
+use Rattle.grammar.specs.declared.fault.ListingFaultKind.{ListingFaultKind}
+use Rattle.grammar.specs.declared.fault.ListingFaultKind.TheVariants as kind
+use Rattle.grammar.specs.declared.directives.Directive.{Directive}
+use Rattle.grammar.specs.declared.directives.Directive.TheVariants as directive
+use Rattle.grammar.specs.declared.mnemonics.Mnemonic.{Mnemonic}
+use Rattle.grammar.specs.declared.labels.Place.{Place}
+use Rattle.grammar.specs.declared.operands.TypeOperand.TheVariants.{Unsealed}
+use Rattle.grammar.specs.declared.operands.TypeOperand.{TypeOperand}
+use Rattle.grammar.specs.declared.capability.CapOperands.{CapOperands}
+use Rattle.listings.specs.declared.draft.Setting.{Setting}
+use Rattle.listings.specs.declared.draft.Setting.TheVariants.{Word, Capability}
+use Rattle.grammar.specs.Faults.{◌>>=◌}
+use Rattle.grammar.specs.Lines.{lines_of, is_plain}
+use Rattle.grammar.specs.Tokens.{tokens_of, token_at}
+use Rattle.grammar.specs.Numerals.{number_of, at_most}
+use Rattle.grammar.specs.Permissions.{permissions_of}
+use Rattle.grammar.specs.Capability.{cap_operands_of, cap_tokens, cap_parts_of}
+use Rattle.grammar.specs.Directives.{found_at, directive_of, directive_table}
+use Rattle.grammar.specs.Mnemonics.{mnemonic_of, mnemonic_table, is_instruction}
+use Rattle.grammar.specs.Forms.{counted, form_from}
+use Rattle.grammar.specs.Labels.{PlaceParts, is_label_token, label_name, label_of, label_fault, count_of, labels_from, instruction_lines, places_of}
+use Rattle.grammar.specs.Places.{first_place}
+use Rattle.listings.specs.Statement.{ram_line, hart_line, settable_register_of, word_setting, capability_setting, setting_of, set_line, hex_bytes, bytes_line, cap_line, directive_line, instruction_line, label_line, other_line, line_from, tokens_meaning}
+use Rattle.listings.specs.Draft.{DraftParts, empty_draft, with_ram, with_hart, value_of, with_set, set_register, with_bytes, with_capability, with_instruction}
+use Rattle.listings.specs.Meaning.{line_meaning, at_line, lines_meaning, whole_fault, listed_from, finished, listing_limit, listing_meaning}
 use Rattle.texts.specs.Listable.{IsWritable, IsWritableHart, IsReadable, IsListable}
-use Rattle.texts.proofs.LabelLemmas.{found-append}
+use Rattle.grammar.proofs.LabelLemmas.{found-append}
 use Rattle.texts.proofs.round_trip.Ranges.{then_ok, test_true, test_false, at_most_ok, IsBounded}
 use Rattle.texts.proofs.round_trip.FormRanges.{form_ok}
 use Rattle.texts.proofs.round_trip.Drafts.{ArePartsOf, parts_ok, capability_ok, writable, IsDraft, Goes, ram_ok, hart_ok, set_ok, bytes_ok, granule_ok, instruction_ok, same_ok}

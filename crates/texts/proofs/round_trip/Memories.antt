@@ -7,10 +7,10 @@ use Rattle.std.proofs.lemmas.List.{length-replicate}
 use Rattle.cheri_model.specs.Capability.{Capability, IsLawful}
 use Rattle.cheri_model.specs.CapValue.{CapValue, valid, raw}
 use Rattle.cheri_model.specs.Memory.{ram_base, is_in_ram, fits}
-use Rattle.texts.specs.ListingTokens.{is_blank}
-use Rattle.texts.specs.ListingDraft.{DraftParts, no_registers}
-use Rattle.texts.specs.ListingMeaning.{listed_from}
-use Rattle.texts.specs.ListingCanon.{each, hex_number, cap_text, memory_text, granule_line}
+use Rattle.grammar.specs.Tokens.{is_blank}
+use Rattle.listings.specs.Draft.{DraftParts, no_registers}
+use Rattle.listings.specs.Meaning.{listed_from}
+use Rattle.texts.specs.Canon.{each, hex_number, cap_text, memory_text, granule_line}
 use Rattle.texts.specs.Listable.{IsWritable}
 use Rattle.texts.proofs.round_trip.Words.{is_open, is_word_byte, IsWord, both}
 use Rattle.texts.proofs.round_trip.Lines.{IsLine, last_word, then_space}

@@ -19,12 +19,12 @@ use Rattle.cheri_model.specs.declared.form.StoreOp.{StoreOp}
 use Rattle.cheri_model.specs.declared.form.StoreOp.TheVariants as store_op
 use Rattle.cheri_model.specs.declared.form.BranchOp.{BranchOp}
 use Rattle.cheri_model.specs.declared.form.BranchOp.TheVariants as branch_op
-use Rattle.texts.specs.declared.listing.mnemonics.Mnemonic.{Mnemonic}
-use Rattle.texts.specs.declared.listing.mnemonics.Mnemonic.TheVariants.{Three, Two, Immediate, Shift, WordShift, SetBoundsImm, Upper, Load, Store, Swap, Branch, Jump, Invoke, Alone}
-use Rattle.texts.specs.ListingTokens.{is_blank}
-use Rattle.texts.specs.ListingDirectives.{found_at, directive_of}
-use Rattle.texts.specs.ListingMnemonics.{mnemonic_of, mnemonic_table}
-use Rattle.texts.specs.ListingInstructions.{three_name, two_name, immediate_name, shift_name, word_shift_name, upper_name, load_name, store_name, branch_name}
+use Rattle.grammar.specs.declared.mnemonics.Mnemonic.{Mnemonic}
+use Rattle.grammar.specs.declared.mnemonics.Mnemonic.TheVariants.{Three, Two, Immediate, Shift, WordShift, SetBoundsImm, Upper, Load, Store, Swap, Branch, Jump, Invoke, Alone}
+use Rattle.grammar.specs.Tokens.{is_blank}
+use Rattle.grammar.specs.Directives.{found_at, directive_of}
+use Rattle.grammar.specs.Mnemonics.{mnemonic_of, mnemonic_table}
+use Rattle.texts.specs.Instructions.{three_name, two_name, immediate_name, shift_name, word_shift_name, upper_name, load_name, store_name, branch_name}
 use Rattle.texts.proofs.round_trip.Words.{is_open, is_word_byte, IsWord}
 
 pub record IsName (name : List ℕ) (mnemonic : Mnemonic) : Type 0 where

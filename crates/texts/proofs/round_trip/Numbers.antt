@@ -7,8 +7,8 @@ use Rattle.std.specs.List.{list_all}
 use Rattle.std.specs.Str.Parse.{AllDigits, IsNumeral, digits_value}
 use Rattle.std.proofs.lemmas.Bool.Decides.{nat_tests}
 use Rattle.std.proofs.lemmas.Fmt.{digits_is_IsNumeral, decimal_is_IsNumeral_wide}
-use Rattle.texts.specs.ListingNumerals.{begins_hexadecimal, number_of_digits, number_of}
-use Rattle.texts.specs.ListingTokens.{is_filled, is_blank}
+use Rattle.grammar.specs.Numerals.{begins_hexadecimal, number_of_digits, number_of}
+use Rattle.grammar.specs.Tokens.{is_filled, is_blank}
 use Rattle.texts.proofs.round_trip.Words.{is_open, is_word_byte, IsWord, both, filled_where, filled_cons}
 
 test_lt : (a b : ℕ) → a < b → nat_lt a b ≡ true

@@ -8,15 +8,15 @@ use Rattle.std.specs.Str.Parse.{AllDigits}
 use Rattle.std.proofs.lemmas.Bool.Decides.{nat_tests}
 use Rattle.std.proofs.lemmas.Bool.{cases_lt}
 use Rattle.std.proofs.lemmas.Fmt.{decimal_is_IsNumeral_wide}
-use Rattle.texts.specs.declared.listing.fault.ListingFaultKind.{ListingFaultKind}
-use Rattle.texts.specs.declared.listing.operands.Immediate.{Immediate}
-use Rattle.texts.specs.declared.listing.labels.TargetOperand.TheVariants.{Number}
+use Rattle.grammar.specs.declared.fault.ListingFaultKind.{ListingFaultKind}
+use Rattle.grammar.specs.declared.operands.Immediate.{Immediate}
+use Rattle.grammar.specs.declared.labels.TargetOperand.TheVariants.{Number}
 use Rattle.texts.specs.Listable.{Is12Bits}
-use Rattle.texts.specs.ListingTokens.{is_blank}
-use Rattle.texts.specs.ListingNumerals.{number_of, at_most}
-use Rattle.texts.specs.ListingOperands.{register_of, immediate_of, immediate_of_12_bits, immediate_up_to, begins_minus, is_bracketed, between_brackets, before_bracket, memory_operand_from, memory_operand_of}
-use Rattle.texts.specs.ListingLabels.{PlaceParts, begins_at_sign, target_operand_of, target_of}
-use Rattle.texts.proofs.PermissionTexts.{first, second}
+use Rattle.grammar.specs.Tokens.{is_blank}
+use Rattle.grammar.specs.Numerals.{number_of, at_most}
+use Rattle.grammar.specs.Operands.{register_of, immediate_of, immediate_of_12_bits, immediate_up_to, begins_minus, is_bracketed, between_brackets, before_bracket, memory_operand_from, memory_operand_of}
+use Rattle.grammar.specs.Labels.{PlaceParts, begins_at_sign, target_operand_of, target_of}
+use Rattle.grammar.proofs.PermissionTexts.{first, second}
 use Rattle.texts.proofs.round_trip.Words.{is_open, is_word_byte, IsWord, both, filled_cons, all_joined, word_cons, longer}
 use Rattle.texts.proofs.round_trip.Lines.{before_at, dropped_start}
 use Rattle.texts.proofs.round_trip.Numbers.{decimal_reads, decimal_word, number_where}

@@ -13,10 +13,10 @@ use Rattle.cheri_model.specs.declared.perms.Perms.{Perms}
 use Rattle.cheri_model.specs.PermissionNames.{permission_table, all_permissions}
 use Rattle.cheri_model.specs.Capability.{IsPermissionSet}
 use Rattle.cheri_model.proofs.Results.PermissionSets.{set_drops_nothing}
-use Rattle.texts.specs.ListingTokens.{is_blank, is_filled}
-use Rattle.texts.specs.ListingPermissions.{permission_named, set_of, with_named, joined_names, permissions_of}
-use Rattle.texts.specs.ListingCanon.{joined_text, perms_text}
-use Rattle.texts.proofs.PermissionTexts.{first, second}
+use Rattle.grammar.specs.Tokens.{is_blank, is_filled}
+use Rattle.grammar.specs.Permissions.{permission_named, set_of, with_named, joined_names, permissions_of}
+use Rattle.texts.specs.Canon.{joined_text, perms_text}
+use Rattle.grammar.proofs.PermissionTexts.{first, second}
 use Rattle.texts.proofs.round_trip.Words.{is_open, is_word_byte, IsWord, negated, all_joined, filled_cons}
 use Rattle.texts.proofs.round_trip.Lines.{all_fail}
 

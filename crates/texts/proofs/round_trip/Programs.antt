@@ -14,13 +14,13 @@ use Rattle.cheri_model.proofs.Runs.Instructions.{instr_of-form_of}
 use Rattle.cheri_model.specs.Capability as capability
 use Rattle.cheri_model.specs.Capability.{IsLawful, unsealed_type}
 use Rattle.cheri_model.specs.CapValue.{CapValue, valid, raw}
-use Rattle.texts.specs.declared.listing.mnemonics.Mnemonic.{Mnemonic}
-use Rattle.texts.specs.ListingTokens.{is_blank, token_at}
-use Rattle.texts.specs.ListingMnemonics.{is_instruction}
-use Rattle.texts.specs.ListingLabels.{count_of}
-use Rattle.texts.specs.ListingDraft.{DraftParts, no_registers, hart_from}
-use Rattle.texts.specs.ListingInstructions.{form_text}
-use Rattle.texts.specs.ListingCanon.{each, cap_text, register_lines, hart_lines, program_line}
+use Rattle.grammar.specs.declared.mnemonics.Mnemonic.{Mnemonic}
+use Rattle.grammar.specs.Tokens.{is_blank, token_at}
+use Rattle.grammar.specs.Mnemonics.{is_instruction}
+use Rattle.grammar.specs.Labels.{count_of}
+use Rattle.listings.specs.Draft.{DraftParts, no_registers, hart_from}
+use Rattle.texts.specs.Instructions.{form_text}
+use Rattle.texts.specs.Canon.{each, cap_text, register_lines, hart_lines, program_line}
 use Rattle.texts.specs.Listable.{IsWritable, IsWritablePcc, IsWritableHart, IsReadable}
 use Rattle.texts.proofs.round_trip.Words.{is_open, is_word_byte, IsWord}
 use Rattle.texts.proofs.round_trip.Lines.{then_space}

@@ -3,19 +3,19 @@ use Rattle.std.proofs.Common.{◌≡◌, ℕ, zero, suc, ◌-◌, ◌<◌, ◌�
 use Rattle.std.specs.Prelude.{ℤ, pos, neg_ℤ, slice_index, option_map}
 use Rattle.std.proofs.lemmas.Bool.Decides.{nat_tests}
 use Rattle.cheri_model.specs.Capability.{unsealed_type, sentry_type, last_sealable_type, IsLawfulType}
-use Rattle.texts.specs.declared.listing.fault.ListingFaultKind.{ListingFaultKind}
-use Rattle.texts.specs.declared.listing.fault.ListingFaultKind.TheVariants as kind
-use Rattle.texts.specs.declared.listing.operands.Immediate.{Immediate}
-use Rattle.texts.specs.declared.listing.operands.MemoryOperand.{MemoryOperand}
-use Rattle.texts.specs.declared.listing.operands.TypeOperand.{TypeOperand}
-use Rattle.texts.specs.declared.listing.operands.TypeOperand.TheVariants.{Unsealed, Sentry, Number}
-use Rattle.texts.specs.declared.listing.labels.Place.{Place}
-use Rattle.texts.specs.declared.listing.labels.TargetOperand.{TargetOperand}
-use Rattle.texts.specs.declared.listing.labels.TargetOperand.TheVariants as target
-use Rattle.texts.specs.ListingFaults.{◌>>=◌}
-use Rattle.texts.specs.ListingNumerals.{number_of_digits, at_most}
-use Rattle.texts.specs.ListingOperands.{register_of, is_short_register, is_long_register, is_bracketed, immediate_of, immediate_of_12_bits, immediate_up_to, before_bracket, from_bracket, between_brackets, memory_operand_from, memory_operand_of, type_in_range}
-use Rattle.texts.specs.ListingLabels.{PlaceParts, begins_at_sign, is_label_name, target_operand_of, target_of}
+use Rattle.grammar.specs.declared.fault.ListingFaultKind.{ListingFaultKind}
+use Rattle.grammar.specs.declared.fault.ListingFaultKind.TheVariants as kind
+use Rattle.grammar.specs.declared.operands.Immediate.{Immediate}
+use Rattle.grammar.specs.declared.operands.MemoryOperand.{MemoryOperand}
+use Rattle.grammar.specs.declared.operands.TypeOperand.{TypeOperand}
+use Rattle.grammar.specs.declared.operands.TypeOperand.TheVariants.{Unsealed, Sentry, Number}
+use Rattle.grammar.specs.declared.labels.Place.{Place}
+use Rattle.grammar.specs.declared.labels.TargetOperand.{TargetOperand}
+use Rattle.grammar.specs.declared.labels.TargetOperand.TheVariants as target
+use Rattle.grammar.specs.Faults.{◌>>=◌}
+use Rattle.grammar.specs.Numerals.{number_of_digits, at_most}
+use Rattle.grammar.specs.Operands.{register_of, is_short_register, is_long_register, is_bracketed, immediate_of, immediate_of_12_bits, immediate_up_to, before_bracket, from_bracket, between_brackets, memory_operand_from, memory_operand_of, type_in_range}
+use Rattle.grammar.specs.Labels.{PlaceParts, begins_at_sign, is_label_name, target_operand_of, target_of}
 use Rattle.texts.specs.Listable.{Is12Bits}
 
 -- a chain of steps that ends well: each of its steps did

@@ -1,14 +1,14 @@
 -- Texts of whole lines, by what reading them makes of a draft, whatever follows them.
 use Rattle.std.proofs.Common.{◌≡◌, ℕ, suc, ◌+◌, ◌≤◌, ◌==◌, false, List, [], ◌∷◌, ◌++◌, length, Option, Ok, refl, ap, ◌∙◌, append_assoc, arith}
 use Rattle.std.proofs.lemmas.Bool.Decides.{nat_tests}
-use Rattle.texts.specs.declared.listing.directives.Directive.{Directive}
-use Rattle.texts.specs.ListingLines.{lines_of}
-use Rattle.texts.specs.ListingTokens.{token_at}
-use Rattle.texts.specs.ListingLabels.{PlaceParts, count_of, instruction_lines}
-use Rattle.texts.specs.ListingDirectives.{directive_of}
-use Rattle.texts.specs.ListingStatement.{tokens_meaning, line_from}
-use Rattle.texts.specs.ListingDraft.{DraftParts}
-use Rattle.texts.specs.ListingMeaning.{line_meaning, lines_meaning}
+use Rattle.grammar.specs.declared.directives.Directive.{Directive}
+use Rattle.grammar.specs.Lines.{lines_of}
+use Rattle.grammar.specs.Tokens.{token_at}
+use Rattle.grammar.specs.Labels.{PlaceParts, count_of, instruction_lines}
+use Rattle.grammar.specs.Directives.{directive_of}
+use Rattle.listings.specs.Statement.{tokens_meaning, line_from}
+use Rattle.listings.specs.Draft.{DraftParts}
+use Rattle.listings.specs.Meaning.{line_meaning, lines_meaning}
 use Rattle.texts.proofs.round_trip.Lines.{IsLine, tokens_of_line, plain_line, line_then}
 
 -- Reading the text first leads from one draft to another, wherever targets up to `enough` are in range. At least

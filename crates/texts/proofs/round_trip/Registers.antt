@@ -9,12 +9,12 @@ use Rattle.cheri_model.specs.Capability as capability
 use Rattle.cheri_model.specs.Capability.{IsLawful}
 use Rattle.cheri_model.specs.CapValue.{CapValue, valid, raw}
 use Rattle.cheri_model.specs.ImageForm.{is_listed}
-use Rattle.texts.specs.declared.listing.draft.Setting.{Setting}
-use Rattle.texts.specs.declared.listing.draft.Setting.TheVariants.{Word}
-use Rattle.texts.specs.ListingTokens.{is_blank}
-use Rattle.texts.specs.ListingStatement.{setting_of}
-use Rattle.texts.specs.ListingDraft.{DraftParts, value_of, latest, with_latest, with_register, hart_from}
-use Rattle.texts.specs.ListingCanon.{word_text, setting_text, register_line, register_lines}
+use Rattle.listings.specs.declared.draft.Setting.{Setting}
+use Rattle.listings.specs.declared.draft.Setting.TheVariants.{Word}
+use Rattle.grammar.specs.Tokens.{is_blank}
+use Rattle.listings.specs.Statement.{setting_of}
+use Rattle.listings.specs.Draft.{DraftParts, value_of, latest, with_latest, with_register, hart_from}
+use Rattle.texts.specs.Canon.{word_text, setting_text, register_line, register_lines}
 use Rattle.texts.specs.Listable.{IsWritable}
 use Rattle.texts.proofs.round_trip.Words.{is_open, is_word_byte, IsWord}
 use Rattle.texts.proofs.round_trip.Lines.{IsLine, last_word, then_space}

@@ -8,20 +8,20 @@ use Rattle.cheri_model.specs.Capability.{IsLawful, unsealed_type, sentry_type}
 use Rattle.cheri_model.specs.Capability as capability
 use Rattle.cheri_model.specs.CapValue.{CapValue, valid}
 use Rattle.cheri_model.specs.Memory.{cleared_memory, is_ram_size, is_in_ram, fits, store_capability}
-use Rattle.texts.specs.declared.listing.directives.Directive.TheVariants as directive
-use Rattle.texts.specs.declared.listing.operands.TypeOperand.TheVariants.{Unsealed}
-use Rattle.texts.specs.declared.listing.draft.Setting.{Setting}
-use Rattle.texts.specs.declared.listing.draft.Setting.TheVariants.{Word, Capability}
-use Rattle.texts.specs.declared.listing.mnemonics.Mnemonic.{Mnemonic}
-use Rattle.texts.specs.ListingTokens.{token_at}
-use Rattle.texts.specs.ListingDirectives.{found_at, directive_of}
-use Rattle.texts.specs.ListingLabels.{PlaceParts}
-use Rattle.texts.specs.ListingOperands.{type_operand_of, type_in_range}
-use Rattle.texts.specs.ListingCapability.{cap_operands_of, optional_type, cap_tokens, cap_parts_of}
-use Rattle.texts.specs.ListingForms.{counted, form_from}
-use Rattle.texts.specs.ListingStatement.{tokens_meaning, line_from, directive_line, other_line, instruction_line, ram_line, hart_line, set_line, settable_register_of, setting_of, word_setting, capability_setting, bytes_line, hex_bytes, cap_line}
-use Rattle.texts.specs.ListingDraft.{DraftParts, no_registers, hart_from, with_register, latest, with_latest, with_ram, add_hart, with_hart, value_of, with_set, set_register, with_bytes, stored_bytes, with_capability, with_instruction}
-use Rattle.texts.specs.ListingCanon.{hex_number, perms_text, memory_text, word_text}
+use Rattle.grammar.specs.declared.directives.Directive.TheVariants as directive
+use Rattle.grammar.specs.declared.operands.TypeOperand.TheVariants.{Unsealed}
+use Rattle.listings.specs.declared.draft.Setting.{Setting}
+use Rattle.listings.specs.declared.draft.Setting.TheVariants.{Word, Capability}
+use Rattle.grammar.specs.declared.mnemonics.Mnemonic.{Mnemonic}
+use Rattle.grammar.specs.Tokens.{token_at}
+use Rattle.grammar.specs.Directives.{found_at, directive_of}
+use Rattle.grammar.specs.Labels.{PlaceParts}
+use Rattle.grammar.specs.Operands.{type_operand_of, type_in_range}
+use Rattle.grammar.specs.Capability.{cap_operands_of, optional_type, cap_tokens, cap_parts_of}
+use Rattle.grammar.specs.Forms.{counted, form_from}
+use Rattle.listings.specs.Statement.{tokens_meaning, line_from, directive_line, other_line, instruction_line, ram_line, hart_line, set_line, settable_register_of, setting_of, word_setting, capability_setting, bytes_line, hex_bytes, cap_line}
+use Rattle.listings.specs.Draft.{DraftParts, no_registers, hart_from, with_register, latest, with_latest, with_ram, add_hart, with_hart, value_of, with_set, set_register, with_bytes, stored_bytes, with_capability, with_instruction}
+use Rattle.texts.specs.Canon.{hex_number, perms_text, memory_text, word_text}
 use Rattle.texts.proofs.round_trip.Words.{negated}
 use Rattle.texts.proofs.round_trip.Numbers.{decimal_reads, hex_reads}
 use Rattle.texts.proofs.round_trip.Operands.{reg_text, register_reads, in_range}

@@ -6,15 +6,15 @@ use Rattle.std.proofs.lemmas.List.{append-nil}
 use Rattle.cheri_model.specs.CapValue.{raw}
 use Rattle.cheri_model.specs.Memory.{ram_base, cleared_memory, is_ram_size}
 use Rattle.cheri_model.specs.Image.{ImageParts}
-use Rattle.texts.specs.ListingTokens.{is_blank, tokens_of}
-use Rattle.texts.specs.ListingLines.{lines_of}
-use Rattle.texts.specs.ListingLabels.{PlaceParts, places_of, instruction_lines}
-use Rattle.texts.specs.ListingStatement.{tokens_meaning}
-use Rattle.texts.specs.ListingDraft.{DraftParts, empty_draft, no_registers}
-use Rattle.texts.specs.ListingMeaning.{line_meaning, lines_meaning, listed_from, finished, listing_limit, listing_meaning}
-use Rattle.texts.specs.ListingCanon.{each, granule_line, hart_lines, program_line, canon}
+use Rattle.grammar.specs.Tokens.{is_blank, tokens_of}
+use Rattle.grammar.specs.Lines.{lines_of}
+use Rattle.grammar.specs.Labels.{PlaceParts, places_of, instruction_lines}
+use Rattle.listings.specs.Statement.{tokens_meaning}
+use Rattle.listings.specs.Draft.{DraftParts, empty_draft, no_registers}
+use Rattle.listings.specs.Meaning.{line_meaning, lines_meaning, listed_from, finished, listing_limit, listing_meaning}
+use Rattle.texts.specs.Canon.{each, granule_line, hart_lines, program_line, canon}
 use Rattle.texts.specs.Listable.{IsListable}
-use Rattle.texts.proofs.PermissionTexts.{first, second}
+use Rattle.grammar.proofs.PermissionTexts.{first, second}
 use Rattle.texts.proofs.round_trip.Words.{is_open, is_word_byte, IsWord}
 use Rattle.texts.proofs.round_trip.Lines.{last_word, then_space}
 use Rattle.texts.proofs.round_trip.Numbers.{decimal_word}

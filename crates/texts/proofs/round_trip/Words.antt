@@ -3,9 +3,9 @@ use Rattle.std.proofs.Common.{◌≡◌, ℕ, ◌<◌, ◌==◌, ◌&&◌, Bool,
 use Rattle.std.specs.List.{list_all}
 use Rattle.std.proofs.lemmas.Bool.Decides.{nat_tests}
 use Rattle.std.proofs.lemmas.List.Folds.{list_all-append}
-use Rattle.texts.specs.ListingLines.{is_plain}
-use Rattle.texts.specs.ListingTokens.{is_blank, is_filled}
-use Rattle.texts.proofs.PermissionTexts.{first, second}
+use Rattle.grammar.specs.Lines.{is_plain}
+use Rattle.grammar.specs.Tokens.{is_blank, is_filled}
+use Rattle.grammar.proofs.PermissionTexts.{first, second}
 
 -- a byte of a line without a comment, and a byte of a word
 unfoldable pub is_open : ℕ → Bool

@@ -1,0 +1,24 @@
+-- Reading a number digit by digit, with a limit of 128 bits, gives the number that the digits write.
+use Rattle.std.proofs.Common.{◌≡◌, ℕ, ◌+◌, ◌*◌, ◌^◌, ◌≤◌, List, [], ◌∷◌, Some, None, fold, nat_lt, cond, Bool, true, false, refl, ap, ◌∙◌, arith}
+use Rattle.std.proofs.lemmas.Bool.Decides.{nat_tests}
+use Rattle.std.specs.Char.{digit_value}
+use Rattle.std.specs.Str.Parse.{digits_value, digits_value_after}
+use Rattle.grammar.specs.Numerals.{within_128_bits, with_digit}
+
+module _ (base : ℕ) (positive : 1 ≤ base) where
+  grows : (n d : ℕ) → 2 ^ 128 ≤ n → 2 ^ 128 ≤ n * base + d
+  grows n d h = grind arith
+
+  more_where : (small : Bool) (n b : ℕ) → (small ≡ nat_lt n (2 ^ 128)) → with_digit base (cond small (Some n) None) b ≡ within_128_bits (n * base + digit_value b)
+  more_where true n b e = refl
+  more_where false n b e = let h : 2 ^ 128 ≤ n = grind (arith, nat_tests) in let g = grows n (digit_value b) h in grind (arith, nat_tests)
+
+  folded : (digits : List ℕ) (n : ℕ) → fold (with_digit base) (within_128_bits n) digits ≡ within_128_bits (digits_value_after base n digits)
+  folded [] n = refl
+  folded (b ∷ digits) n =
+      ap (λ start. fold (with_digit base) start digits) (more_where (nat_lt n (2 ^ 128)) n b refl)
+      ∙ folded digits (n * base + digit_value b)
+
+  -- the fold over the digits is the number that they write
+  pub digits_folded : (digits : List ℕ) → fold (with_digit base) (Some 0) digits ≡ within_128_bits (digits_value base digits)
+  digits_folded digits = folded digits 0

@@ -1,0 +1,168 @@
+-- The operands of instructions, by their form: first their count and shapes, then their ranges, then labels.
+use Rattle.std.specs.Prelude.{ℕ, ◌-◌, ◌^◌, ◌==◌, if◌then◌else◌, List, length, Result, Ok, Err}
+use Rattle.cheri_model.specs.declared.form.Form.{Form}
+use Rattle.cheri_model.specs.declared.form.Form.TheVariants as form
+use Rattle.cheri_model.specs.declared.form.ThreeOp.{ThreeOp}
+use Rattle.cheri_model.specs.declared.form.TwoOp.{TwoOp}
+use Rattle.cheri_model.specs.declared.form.ImmediateOp.{ImmediateOp}
+use Rattle.cheri_model.specs.declared.form.ShiftOp.{ShiftOp}
+use Rattle.cheri_model.specs.declared.form.WordShiftOp.{WordShiftOp}
+use Rattle.cheri_model.specs.declared.form.UpperOp.{UpperOp}
+use Rattle.cheri_model.specs.declared.form.LoadOp.{LoadOp}
+use Rattle.cheri_model.specs.declared.form.StoreOp.{StoreOp}
+use Rattle.cheri_model.specs.declared.form.BranchOp.{BranchOp}
+use Rattle.grammar.specs.declared.fault.ListingFaultKind.{ListingFaultKind}
+use Rattle.grammar.specs.declared.fault.ListingFaultKind.TheVariants.{Operand}
+use Rattle.grammar.specs.declared.mnemonics.Mnemonic.{Mnemonic}
+use Rattle.grammar.specs.declared.mnemonics.Mnemonic.TheVariants.{Three, Two, Immediate, Shift, WordShift, SetBoundsImm, Upper, Load, Store, Swap, Branch, Jump, Invoke, Alone}
+use Rattle.grammar.specs.Faults.{◌>>=◌}
+use Rattle.grammar.specs.Tokens.{token_at}
+use Rattle.grammar.specs.Operands.{register_of, immediate_of, immediate_of_12_bits, immediate_up_to, memory_operand_of}
+use Rattle.grammar.specs.Labels.{PlaceParts, target_operand_of, target_of}
+
+-- a line of just this many tokens
+unfoldable pub counted : ℕ → List (List ℕ) → Result (Unit {0}) ListingFaultKind
+counted count tokens = if length tokens == count then Ok tt else Err Operand
+
+-- `cd, c1, c2`
+unfoldable pub three_form : ThreeOp → List (List ℕ) → Result Form ListingFaultKind
+three_form op tokens = do
+  count ← counted 4 tokens
+  cd ← register_of (token_at tokens 1)
+  c1 ← register_of (token_at tokens 2)
+  c2 ← register_of (token_at tokens 3)
+  Ok (form.Three op cd c1 c2)
+
+-- `cd, c1`
+unfoldable pub two_form : TwoOp → List (List ℕ) → Result Form ListingFaultKind
+two_form op tokens = do
+  count ← counted 3 tokens
+  cd ← register_of (token_at tokens 1)
+  c1 ← register_of (token_at tokens 2)
+  Ok (form.Two op cd c1)
+
+-- `cd, c1, i`, from -2,048 to 2,047
+unfoldable pub immediate_form : ImmediateOp → List (List ℕ) → Result Form ListingFaultKind
+immediate_form op tokens = do
+  count ← counted 4 tokens
+  cd ← register_of (token_at tokens 1)
+  c1 ← register_of (token_at tokens 2)
+  imm ← immediate_of (token_at tokens 3)
+  imm ← immediate_of_12_bits imm
+  Ok (form.Immediate op cd c1 imm)
+
+-- `cd, c1, n`, from 0 to 63
+unfoldable pub shift_form : ShiftOp → List (List ℕ) → Result Form ListingFaultKind
+shift_form op tokens = do
+  count ← counted 4 tokens
+  cd ← register_of (token_at tokens 1)
+  c1 ← register_of (token_at tokens 2)
+  imm ← immediate_of (token_at tokens 3)
+  amount ← immediate_up_to 63 imm
+  Ok (form.Shift op cd c1 amount)
+
+-- `cd, c1, n`, from 0 to 31
+unfoldable pub word_shift_form : WordShiftOp → List (List ℕ) → Result Form ListingFaultKind
+word_shift_form op tokens = do
+  count ← counted 4 tokens
+  cd ← register_of (token_at tokens 1)
+  c1 ← register_of (token_at tokens 2)
+  imm ← immediate_of (token_at tokens 3)
+  amount ← immediate_up_to 31 imm
+  Ok (form.WordShift op cd c1 amount)
+
+-- `cd, c1, i`, from 0 to 4,095
+unfoldable pub set_bounds_form : List (List ℕ) → Result Form ListingFaultKind
+set_bounds_form tokens = do
+  count ← counted 4 tokens
+  cd ← register_of (token_at tokens 1)
+  c1 ← register_of (token_at tokens 2)
+  imm ← immediate_of (token_at tokens 3)
+  len ← immediate_up_to 4095 imm
+  Ok (form.SetBoundsImm cd c1 len)
+
+-- `cd, i`, from 0 to 2^20 - 1
+unfoldable pub upper_form : UpperOp → List (List ℕ) → Result Form ListingFaultKind
+upper_form op tokens = do
+  count ← counted 3 tokens
+  cd ← register_of (token_at tokens 1)
+  imm ← immediate_of (token_at tokens 2)
+  imm ← immediate_up_to (2 ^ 20 - 1) imm
+  Ok (form.Upper op cd imm)
+
+-- `cd, i(c1)`
+unfoldable pub load_form : LoadOp → List (List ℕ) → Result Form ListingFaultKind
+load_form op tokens = do
+  count ← counted 3 tokens
+  cd ← register_of (token_at tokens 1)
+  operand ← memory_operand_of (token_at tokens 2)
+  imm ← immediate_of_12_bits operand.imm
+  Ok (form.Load op cd operand.c1 imm)
+
+-- `c2, i(c1)`
+unfoldable pub store_form : StoreOp → List (List ℕ) → Result Form ListingFaultKind
+store_form op tokens = do
+  count ← counted 3 tokens
+  c2 ← register_of (token_at tokens 1)
+  operand ← memory_operand_of (token_at tokens 2)
+  imm ← immediate_of_12_bits operand.imm
+  Ok (form.Store op c2 operand.c1 imm)
+
+-- `cd, c2, c1`
+unfoldable pub swap_form : List (List ℕ) → Result Form ListingFaultKind
+swap_form tokens = do
+  count ← counted 4 tokens
+  cd ← register_of (token_at tokens 1)
+  c2 ← register_of (token_at tokens 2)
+  c1 ← register_of (token_at tokens 3)
+  Ok (form.Swap cd c2 c1)
+
+-- `c1, c2, target`
+unfoldable pub branch_form : PlaceParts → BranchOp → List (List ℕ) → Result Form ListingFaultKind
+branch_form places op tokens = do
+  count ← counted 4 tokens
+  c1 ← register_of (token_at tokens 1)
+  c2 ← register_of (token_at tokens 2)
+  operand ← target_operand_of places (token_at tokens 3)
+  target ← target_of places operand
+  Ok (form.Branch op c1 c2 target)
+
+-- `cd, target`
+unfoldable pub jump_form : PlaceParts → List (List ℕ) → Result Form ListingFaultKind
+jump_form places tokens = do
+  count ← counted 3 tokens
+  cd ← register_of (token_at tokens 1)
+  operand ← target_operand_of places (token_at tokens 2)
+  target ← target_of places operand
+  Ok (form.Jump cd target)
+
+-- `c1, c2`
+unfoldable pub invoke_form : List (List ℕ) → Result Form ListingFaultKind
+invoke_form tokens = do
+  count ← counted 3 tokens
+  c1 ← register_of (token_at tokens 1)
+  c2 ← register_of (token_at tokens 2)
+  Ok (form.Invoke c1 c2)
+
+-- no operands
+unfoldable pub alone_form : List (List ℕ) → Result Form ListingFaultKind
+alone_form tokens = do
+  count ← counted 1 tokens
+  Ok form.Alone
+
+-- the operands of an instruction's line
+unfoldable pub form_from : PlaceParts → Mnemonic → List (List ℕ) → Result Form ListingFaultKind
+form_from places (Three op) tokens = three_form op tokens
+form_from places (Two op) tokens = two_form op tokens
+form_from places (Immediate op) tokens = immediate_form op tokens
+form_from places (Shift op) tokens = shift_form op tokens
+form_from places (WordShift op) tokens = word_shift_form op tokens
+form_from places SetBoundsImm tokens = set_bounds_form tokens
+form_from places (Upper op) tokens = upper_form op tokens
+form_from places (Load op) tokens = load_form op tokens
+form_from places (Store op) tokens = store_form op tokens
+form_from places Swap tokens = swap_form tokens
+form_from places (Branch op) tokens = branch_form places op tokens
+form_from places Jump tokens = jump_form places tokens
+form_from places Invoke tokens = invoke_form tokens
+form_from places Alone tokens = alone_form tokens

@@ -1,0 +1,12 @@
+pub mod Faults
+pub mod Lines
+pub mod Tokens
+pub mod Numerals
+pub mod Permissions
+pub mod Operands
+pub mod Directives
+pub mod Mnemonics
+pub mod Labels
+pub mod Places
+pub mod Forms
+pub mod Capability

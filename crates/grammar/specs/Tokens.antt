@@ -1,0 +1,24 @@
+-- The tokens of a listing's line (this project's own format).
+use Rattle.std.specs.Prelude.{ℕ, ◌==◌, Bool, not, ◌||◌, List, [], length, map, filter, slice_index_or}
+use Rattle.std.specs.List.{slice_split}
+use Rattle.std.specs.Borrow.{Bor}
+use Rattle.grammar.specs.Lines.{before_comment}
+
+-- a space, a tab or a comma
+unfoldable pub is_blank : ℕ → Bool
+is_blank b = (b == 0x20) || (b == 0x09) || (b == 0x2C)
+
+abbrev pub is_filled : List ℕ → Bool
+is_filled part = not (length part == 0)
+
+-- tokens are the longest runs of other bytes, before the comment
+unfoldable pub tokens_of : List ℕ → List (List ℕ)
+tokens_of line = filter is_filled (slice_split is_blank (before_comment line))
+
+-- the texts of tokens in memory
+abbrev pub texts : List (Bor (List ℕ)) → List (List ℕ)
+texts tokens = map (λ token. token.now) tokens
+
+-- the token at a place, and an empty one where there is none
+unfoldable pub token_at : List (List ℕ) → ℕ → List ℕ
+token_at tokens place = slice_index_or tokens place []

@@ -1,0 +1,237 @@
+//! The labels of a listing, and the targets of its jumps.
+
+ghost use Rattle.std.specs.Prelude.{
+  ◌≡◌,
+  ◌<◌,
+  ◌^◌,
+  ℕ,
+  List,
+  IfOk,
+  OnOk,
+  if◌then◌else◌,
+  Some,
+  None,
+  bytes_eq,
+  length,
+};
+ghost use Rattle.std.specs.List.{list_all};
+ghost use Rattle.grammar.specs.Labels.{
+  is_name_byte,
+  is_label_name,
+  is_label_token,
+  label_name,
+  label_of,
+  count_of,
+  places_of,
+  target_operand_of,
+  target_of,
+  label_fault,
+};
+ghost use Rattle.grammar.specs.Directives.{found_at};
+ghost use Rattle.grammar.specs.Places.{shown, named_in, first_place};
+
+use crate::fault::ListingFaultKind;
+use crate::mnemonics::is_instruction;
+use crate::numerals::{at_most, number_of_digits};
+use crate::tokens::{read_tokens, token_at};
+use cheri_model::Target;
+use std::alloc::{AllocError, AllocFailed, Global};
+use std::collections::HashMap;
+
+/// Where a name is defined: the line's number, from 1 on, and how many instruction lines are before it.
+#[derive(Clone, Copy)]
+pub struct Place {
+    pub line: usize,
+    pub instructions: u32,
+}
+
+/// What the jumps of a listing may name.
+#[derive(Drop)]
+pub struct Places<'a> {
+    labels: HashMap<&'a [u8], Place>,
+    instructions: u32,
+}
+
+/// A target as a token writes it: an instruction's number, or what a name stands for, if a line defines it.
+#[derive(Clone, Copy)]
+pub enum TargetOperand {
+    Number(Option<u128>),
+    Named(Option<u32>),
+}
+
+/// Whether a byte may be part of a label's name.
+fn is_name_byte(byte: u8) -> bool
+    ensures { result ≡ is_name_byte byte }
+{
+    matches!(byte, b'0'..=b'9' | b'A'..=b'Z' | b'_' | b'a'..=b'z')
+}
+
+/// Whether each byte may be.
+fn are_name_bytes(name: &[u8]) -> bool
+    ensures { result ≡ list_all is_name_byte name.now }
+{
+    name.iter().all(|byte| is_name_byte(*byte))
+}
+
+/// Whether a name is 1 to 32 letters, digits and `_`, the first not a digit.
+#[tactic(auto, unfolding(crate::specs::Labels::is_label_name))]
+fn is_label_name(name: &[u8]) -> bool
+    ensures { result ≡ is_label_name name.now }
+{
+    match name {
+        [b'0'..=b'9', ..] | [] => false,
+        _ => name.len() <= 32 && are_name_bytes(name),
+    }
+}
+
+/// Whether a line that begins with this token is a label's.
+#[tactic(auto, unfolding(crate::specs::Labels::is_label_token))]
+pub fn is_label_token(token: &[u8]) -> bool
+    ensures { result ≡ is_label_token token.now }
+{
+    !token.is_empty() && token[token.len() - 1] == b':'
+}
+
+/// The name that such a token defines.
+pub fn label_name(token: &[u8]) -> &[u8]
+    ensures { result.now ≡ label_name token.now }
+{
+    &token[..token.len().saturating_sub(1)]
+}
+
+/// Defines a name, unless it is defined already.
+fn define<'a>(
+    labels: &mut HashMap<&'a [u8], Place>,
+    name: &'a [u8],
+    place: Place,
+) -> Result<(), AllocFailed<(&'a [u8], Place)>>
+    ensures { OnOk result ((q : List ℕ) → named_in labels.new q ≡ first_place (named_in labels.old q)
+        (if bytes_eq name.now q then Some place else None)) }
+{
+    if labels.contains_key(name) {
+        return Ok(());
+    }
+    labels.insert(name, place)?;
+    Ok(())
+}
+
+/// Defines the name of a line that begins with this token, if the line is a label's.
+fn define_label<'a>(
+    labels: &mut HashMap<&'a [u8], Place>,
+    token: &'a [u8],
+    place: Place,
+) -> Result<(), AllocFailed<(&'a [u8], Place)>>
+    ensures { OnOk result ((q : List ℕ) → named_in labels.new q
+        ≡ first_place (named_in labels.old q) (found_at (label_of token.now place) q)) }
+{
+    if is_instruction(token) {
+        return Ok(());
+    }
+    if !is_label_token(token) {
+        return Ok(());
+    }
+    define(labels, label_name(token), place)?;
+    Ok(())
+}
+
+/// What a line that begins with this token counts.
+#[tactic(auto, unfolding(crate::specs::Labels::count_of))]
+fn count_of(token: &[u8]) -> u32
+    ensures { result ≡ count_of token.now }
+{
+    if is_instruction(token) { 1 } else { 0 }
+}
+
+/// What the jumps of a listing may name: the first pass over its lines.
+pub fn places_of<'a>(alloc: Global, text: &'a [u8]) -> Result<Places<'a>, AllocError>
+    requires { length text.now < 2 ^ 31 }
+    ensures { IfOk result (λ places. shown places ≡ places_of text.now) }
+{
+    let mut labels = HashMap::new(alloc);
+    let mut tokens = Vec::new(alloc);
+    let mut number = 1;
+    let mut instructions = 0;
+    for line in text.split(|byte| *byte == b'\n') {
+        read_tokens(line, &mut tokens)?;
+        let first = token_at(tokens.as_slice(), 0);
+        define_label(
+            &mut labels,
+            first,
+            Place {
+                line: number,
+                instructions,
+            },
+        )?;
+        instructions += count_of(first);
+        number += 1;
+    }
+    Ok(Places {
+        labels,
+        instructions,
+    })
+}
+
+impl Places<'_> {
+    /// Where a name is first defined.
+    #[tactic(auto, unfolding(crate::specs::Places::shown))]
+    fn label(&self, name: &[u8]) -> Option<Place>
+        ensures { result ≡ (shown self.now).label name.now }
+    {
+        self.labels.get(name).copied()
+    }
+
+    /// How many instruction lines there are.
+    #[tactic(auto, unfolding(crate::specs::Places::shown))]
+    fn instructions(&self) -> u32
+        ensures { result ≡ (shown self.now).instructions }
+    {
+        self.instructions
+    }
+}
+
+/// The target that a token writes: `@` and decimal digits, or a label's name.
+#[tactic(auto, unfolding(crate::specs::Labels::target_operand_of))]
+pub fn target_operand_of(
+    places: &Places<'_>,
+    token: &[u8],
+) -> Result<TargetOperand, ListingFaultKind>
+    ensures { result ≡ target_operand_of (shown places.now) token.now }
+{
+    match token {
+        [b'@', digits @ ..] => Ok(TargetOperand::Number(number_of_digits(10, digits)?)),
+        _ if is_label_name(token) => {
+            let place = places.label(token);
+            Ok(TargetOperand::Named(place.map(|place| place.instructions)))
+        }
+        _ => Err(ListingFaultKind::Operand),
+    }
+}
+
+/// The instruction that a target names. The place after the last instruction line may be named.
+#[tactic(auto, unfolding(crate::specs::Labels::target_of))]
+pub fn target_of(places: &Places<'_>, operand: TargetOperand) -> Result<Target, ListingFaultKind>
+    ensures { result ≡ target_of (shown places.now) operand }
+{
+    match operand {
+        TargetOperand::Number(number) => {
+            let number = at_most(u128::from(places.instructions()), number)?;
+            Ok(Target::new(number as u32))
+        }
+        TargetOperand::Named(Some(number)) => Ok(Target::new(number)),
+        TargetOperand::Named(None) => Err(ListingFaultKind::Label),
+    }
+}
+
+/// Refuses a name that is malformed, or that a line before this one defines.
+#[tactic(auto, unfolding(crate::specs::Labels::label_fault))]
+pub fn label_fault(places: &Places<'_>, number: usize, name: &[u8]) -> Result<(), ListingFaultKind>
+    ensures { result ≡ label_fault (shown places.now) number name.now }
+{
+    if !is_label_name(name) {
+        return Err(ListingFaultKind::Label);
+    }
+    match places.label(name) {
+        Some(place) if place.line < number => Err(ListingFaultKind::Twice),
+        _ => Ok(()),
+    }
+}

@@ -1,0 +1,95 @@
+//! The numbers of a listing.
+
+ghost use Rattle.std.specs.Prelude.{◌≡◌, ◌<◌, ◌≤◌, ◌^◌, nat_lt, fold};
+ghost use Rattle.std.specs.List.{list_all};
+ghost use Rattle.std.specs.Char.{digit_value};
+ghost use Rattle.std.specs.Str.Parse.{digits_value};
+ghost use Rattle.grammar.specs.Numerals.{are_digits, within_128_bits, with_digit, number_of_digits, number_of, at_most};
+
+use crate::fault::ListingFaultKind;
+
+/// What a digit of either case stands for: 10 for `a`, 35 for `z`, and 36 for what is no digit.
+fn digit_value(byte: u8) -> u8
+    ensures { result ≡ digit_value byte }
+{
+    match byte {
+        b'0'..=b'9' => byte - b'0',
+        b'A'..=b'Z' => byte - b'A' + 10,
+        b'a'..=b'z' => byte - b'a' + 10,
+        _ => 36,
+    }
+}
+
+/// Whether each byte is a digit of the base.
+fn all_digits(base: u8, token: &[u8]) -> bool
+    ensures { result ≡ list_all (λ b. nat_lt (digit_value b) base) token.now }
+{
+    token.iter().all(|byte| digit_value(*byte) < base)
+}
+
+/// Whether a token is one digit of the base or more, and nothing else.
+fn are_digits(base: u8, token: &[u8]) -> bool
+    ensures { result ≡ are_digits base token.now }
+{
+    !token.is_empty() && all_digits(base, token)
+}
+
+/// The number with one more digit behind it; none from 2^128 on.
+fn with_digit(base: u8, number: Option<u128>, byte: u8) -> Option<u128>
+    ensures { result ≡ with_digit base number byte }
+{
+    number?
+        .checked_mul(u128::from(base))?
+        .checked_add(u128::from(digit_value(byte)))
+}
+
+/// The number of one digit after another.
+fn with_digits(base: u8, token: &[u8]) -> Option<u128>
+    ensures { result ≡ fold (with_digit base) (Some 0) token.now }
+{
+    token
+        .iter()
+        .fold(Some(0), |number, byte| with_digit(base, number, *byte))
+}
+
+/// The number that digits of a base write; none from 2^128 on.
+#[tactic(auto, using(crate::proofs::NumeralLemmas::digits_folded))]
+fn digits_value(base: u8, token: &[u8]) -> Option<u128>
+    requires { 1 ≤ base }
+    ensures { result ≡ within_128_bits (digits_value base token.now) }
+{
+    with_digits(base, token)
+}
+
+/// The number that a token of such digits writes; none from 2^128 on.
+pub fn number_of_digits(base: u8, token: &[u8]) -> Result<Option<u128>, ListingFaultKind>
+    requires { 1 ≤ base }
+    ensures { result ≡ number_of_digits base token.now }
+{
+    if are_digits(base, token) {
+        Ok(digits_value(base, token))
+    } else {
+        Err(ListingFaultKind::Operand)
+    }
+}
+
+/// The number that a token writes, in decimal or behind `0x` in hexadecimal; none from 2^128 on.
+#[tactic(auto, unfolding(crate::specs::Numerals::number_of))]
+pub fn number_of(token: &[u8]) -> Result<Option<u128>, ListingFaultKind>
+    ensures { result ≡ number_of token.now }
+{
+    match token {
+        [b'0', b'x', digits @ ..] => number_of_digits(16, digits),
+        _ => number_of_digits(10, token),
+    }
+}
+
+/// A number in its range.
+pub fn at_most(limit: u128, number: Option<u128>) -> Result<u128, ListingFaultKind>
+    ensures { result ≡ at_most limit number }
+{
+    match number {
+        Some(number) if number <= limit => Ok(number),
+        _ => Err(ListingFaultKind::Range),
+    }
+}

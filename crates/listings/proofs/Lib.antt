@@ -1,0 +1,3 @@
+pub mod GranuleLemmas
+pub mod ImageLemmas
+pub mod ReaderLemmas

@@ -1,0 +1,4 @@
+pub mod Faults
+pub mod Draft
+pub mod Statement
+pub mod Meaning

@@ -1,0 +1,14 @@
+//! Listings: texts that say what a machine holds before its first step.
+#![tactic(auto)]
+
+mod draft;
+mod fault;
+mod granules;
+mod reader;
+mod statement;
+
+pub use fault::ListingFault;
+pub use reader::read_listing;
+
+#[cfg(test)]
+mod tests;

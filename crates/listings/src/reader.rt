@@ -1,0 +1,78 @@
+//! Reading a listing.
+
+ghost use Rattle.std.specs.Prelude.{◌≡◌, ◌≤◌, ◌<◌, ◌^◌, length};
+ghost use Rattle.listings.specs.Faults.{Gives, GivesLine};
+ghost use Rattle.grammar.specs.Lines.{lines_of};
+ghost use Rattle.grammar.specs.Places.{shown};
+ghost use Rattle.listings.specs.Draft.{empty_draft};
+ghost use Rattle.listings.specs.Meaning.{line_meaning, lines_meaning, listing_meaning};
+
+use crate::draft::Draft;
+use crate::fault::{LineFault, ListingFault};
+use crate::statement::with_line;
+use cheri_model::Image;
+use grammar::fault::ListingFaultKind;
+use grammar::labels::{Places, places_of};
+use grammar::lines::is_plain;
+use grammar::tokens::read_tokens;
+use std::alloc::Global;
+
+/// The most bytes of a listing.
+const LISTING_LIMIT: usize = 1_048_576;
+
+/// What a line of this number makes of what the lines before it made. `tokens` is a buffer, whose
+/// content does not count.
+#[tactic(auto, unfolding(crate::specs::Meaning::line_meaning))]
+fn read_line<'a>(
+    alloc: Global,
+    places: &Places<'_>,
+    number: usize,
+    draft: Draft,
+    line: &'a [u8],
+    tokens: &mut Vec<&'a [u8]>,
+) -> Result<Draft, LineFault>
+    ensures { GivesLine result (line_meaning (shown places.now) number draft line.now) }
+{
+    if !is_plain(line) {
+        return Err(LineFault::Kind(ListingFaultKind::NotAscii));
+    }
+    read_tokens(line, tokens)?;
+    with_line(alloc, places, number, draft, tokens.as_slice())
+}
+
+/// What lines make one after another, up to the first fault.
+fn read_lines(alloc: Global, places: &Places<'_>, text: &[u8]) -> Result<Draft, ListingFault>
+    requires { length text.now < 2 ^ 32 }
+    ensures { Gives result (lines_meaning (shown places.now) 1 empty_draft (lines_of text.now)) }
+{
+    let mut draft = Draft::new(alloc)?;
+    let mut tokens = Vec::new(alloc);
+    let mut number = 1;
+    for line in text.split(|byte| *byte == b'\n') {
+        draft = match read_line(alloc, places, number, draft, line, &mut tokens) {
+            Ok(next) => next,
+            Err(fault) => return Err(fault.at(number)),
+        };
+        number += 1;
+    }
+    Ok(draft)
+}
+
+/// The image that a listing describes: what its lines say, one after another, or the first faulty
+/// line's fault. Of a faulty line's kinds the least is reported. A listing above 1,048,576 bytes is
+/// refused by its size, before any line is read; after the last line, one without a hart and then one
+/// without an instruction are. Running out of memory says nothing of the listing.
+#[tactic(auto, unfolding(crate::specs::Meaning::listing_meaning))]
+pub fn read_listing(alloc: Global, text: &[u8]) -> Result<Image, ListingFault>
+    ensures { Gives result (listing_meaning text.now) }
+{
+    if text.len() > LISTING_LIMIT {
+        return Err(ListingFault {
+            line: 0,
+            kind: ListingFaultKind::Size,
+        });
+    }
+    let places = places_of(alloc, text)?;
+    let draft = read_lines(alloc, &places, text)?;
+    draft.finish(alloc)
+}

@@ -1,0 +1,8 @@
+//! Orders: texts of digits, each of which asks for one step of that hart.
+#![tactic(auto)]
+
+mod fault;
+mod reader;
+
+pub use fault::{OrderFault, OrderFaultKind};
+pub use reader::read_order;

@@ -1,9 +1,0 @@
-use Rattle.std.proofs.Common.{◌≡◌, ◌+◌, ◌*◌, ◌++◌, drop}
-use Rattle.cheri_model.specs.Memory.{ram_base}
-use Rattle.texts.specs.ListingMeaning.{listed_from}
-use Rattle.texts.proofs.listing.granules.listed_granules.Given as goal
-
--- those so far, and then those from here on, are all
-abbrev pub invariant-loop-number : goal.invariant-loop-number
-invariant-loop-number l =
-    l.granules.items ++ listed_from (ram_base + 16 * l.number) (drop l.number l.ram) ≡ listed_from ram_base l.ram

@@ -1,0 +1,10 @@
+-- The names so far, followed by those of the other permissions, are those of all.
+use Rattle.std.proofs.Common.{◌≡◌, ◌++◌, false, map, drop, string_bytes}
+use Rattle.cheri_model.specs.PermissionNames.{permission_table}
+use Rattle.texts.specs.Canon.{joined_text}
+use Rattle.texts.proofs.writer.write_names.Given as goal
+
+abbrev pub invariant-loop-flag : goal.invariant-loop-flag
+invariant-loop-flag l =
+    string_bytes l.out ++ joined_text l.begun l.perms.0 (map (λ f. (f.name.now, f.value.0)) (drop l.flag-index l.flag-items))
+    ≡ string_bytes l.initial.out ++ joined_text false l.perms.0 permission_table
