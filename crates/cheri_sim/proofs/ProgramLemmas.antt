@@ -91,16 +91,16 @@ run_no_usage listing order fault old new is usage = absurd (subst (IsUnprinted l
 pub ruleset run_answers = (nothing_printed, run_answers_for, run_stops, run_fails, run_no_usage)
 
 -- what was printed of a race answers for its file
-pub race_answers_for : {E : Type 0} (files : KnownFiles) (listing bytes : List ℕ) (result : Result (Unit {0}) E)
-    (old new : Option (List ℕ)) → AreBytesOf (files listing) bytes → OnOk result (Prints (IsRace bytes) old new) →
-    OnOk result (Prints (IsRaceAnswer files listing) old new)
-race_answers_for files listing bytes (Ok done) old new are printed =
+pub race_answers_for : {E : Type 0} (files : KnownFiles) (listing : List ℕ) (turns : ℕ) (bytes : List ℕ) (result : Result (Unit {0}) E)
+    (old new : Option (List ℕ)) → AreBytesOf (files listing) bytes → OnOk result (Prints (IsRace bytes turns) old new) →
+    OnOk result (Prints (IsRaceAnswer files listing turns) old new)
+race_answers_for files listing turns bytes (Ok done) old new are printed =
     (printed.0, record { bytes = bytes; bytes_are = are; race = printed.1 }, printed.2)
-race_answers_for files listing bytes (Err fault) old new are printed = tt
+race_answers_for files listing turns bytes (Err fault) old new are printed = tt
 
 -- a race that was not printed whole
 race_fails_for : (files : KnownFiles) (listing : List ℕ) (turns : ℕ) (bytes : List ℕ) (fault : Fault) (old new : Option (List ℕ)) →
-    AreBytesOf (files listing) bytes → IsUnraced bytes old new fault → Fails files (Some (Race listing turns)) fault old new
+    AreBytesOf (files listing) bytes → IsUnraced bytes turns old new fault → Fails files (Some (Race listing turns)) fault old new
 unfolding Begins
 race_fails_for files listing turns bytes faults.NoMemory old new are (inl same) = inl same
 race_fails_for files listing turns bytes faults.NoMemory old new are (inr begun) =
@@ -117,15 +117,15 @@ race_fails_for files listing turns bytes (faults.Order fault) old new are is = a
 race_fails_for files listing turns bytes (faults.Step place fault) old new are is = absurd is
 
 pub race_fails : {T : Type 0} (files : KnownFiles) (listing : List ℕ) (turns : ℕ) (bytes : List ℕ) (result : Result T Fault)
-    (old new : Option (List ℕ)) → AreBytesOf (files listing) bytes → IfErr result (λ fault. IsUnraced bytes old new fault) →
+    (old new : Option (List ℕ)) → AreBytesOf (files listing) bytes → IfErr result (λ fault. IsUnraced bytes turns old new fault) →
     IfErr result (λ fault. Fails files (Some (Race listing turns)) fault old new)
 race_fails files listing turns bytes (Ok done) old new are is = tt
 race_fails files listing turns bytes (Err fault) old new are is = race_fails_for files listing turns bytes fault old new are is
 
-pub race_no_usage : {T : Type 0} (bytes : List ℕ) (result : Result T Fault) (old new : Option (List ℕ)) →
-    IfErr result (λ fault. IsUnraced bytes old new fault) → result ≢ Err faults.Usage
-race_no_usage {T} bytes result old new is usage =
-    absurd (subst (λ (r : Result T Fault). IfErr r (λ fault. IsUnraced bytes old new fault)) usage is)
+pub race_no_usage : {T : Type 0} (bytes : List ℕ) (turns : ℕ) (result : Result T Fault) (old new : Option (List ℕ)) →
+    IfErr result (λ fault. IsUnraced bytes turns old new fault) → result ≢ Err faults.Usage
+race_no_usage {T} bytes turns result old new is usage =
+    absurd (subst (λ (r : Result T Fault). IfErr r (λ fault. IsUnraced bytes turns old new fault)) usage is)
 
 pub ruleset race_answers = (nothing_printed, race_answers_for, race_fails, race_no_usage)
 

@@ -21,24 +21,24 @@ use Rattle.cheri_sim.specs.Races.{IsRace, IsUnraced}
 use Rattle.cheri_sim.proofs.FaultLemmas.{listing_refused}
 
 -- a race whose listing is refused
-pub race_unread : (listing : List ℕ) (fault : ListingFault) (old : Option (List ℕ)) →
-    Gives (Err fault) (listing_meaning listing) → IsUnraced listing old old (listing_fault fault)
-race_unread listing fault old gives =
-    listing_refused (IsUnraced listing old old) listing fault (inl refl) (λ meaning. (meaning, refl)) gives
+pub race_unread : (listing : List ℕ) (turns : ℕ) (fault : ListingFault) (old : Option (List ℕ)) →
+    Gives (Err fault) (listing_meaning listing) → IsUnraced listing turns old old (listing_fault fault)
+race_unread listing turns fault old gives =
+    listing_refused (IsUnraced listing turns old old) listing fault (inl refl) (λ meaning. (meaning, refl)) gives
 
 -- a race that has no result
-pub race_unrun : (listing : List ℕ) (refused : RunFault) (old : Option (List ℕ)) →
-    IsUnraced listing old old (race_fault refused)
-race_unrun listing (race.Boot fault) old = inl refl
-race_unrun listing race.NoMemory old = inl refl
-race_unrun listing race.Spawn old = refl
-race_unrun listing race.ImageDiffers old = refl
+pub race_unrun : (listing : List ℕ) (turns : ℕ) (refused : RunFault) (old : Option (List ℕ)) →
+    IsUnraced listing turns old old (race_fault refused)
+race_unrun listing turns (race.Boot fault) old = inl refl
+race_unrun listing turns race.NoMemory old = inl refl
+race_unrun listing turns race.Spawn old = refl
+race_unrun listing turns race.ImageDiffers old = refl
 
 -- the text of a race
-race_of : (listing : List ℕ) (image : ImageParts) (core : CoreParts) (reports : List HartReport) (text : List ℕ) →
+race_of : (listing : List ℕ) (turns : ℕ) (image : ImageParts) (core : CoreParts) (reports : List HartReport) (text : List ℕ) →
     listing_meaning listing ≡ Ok image → core.image ≡ image → IsReplay core.image core.trace core.state →
-    AreReports core.trace (length image.harts) reports → text ≡ report core.image core.trace core.state → IsRace listing text
-race_of listing image core reports text meaning same replay are is = record {
+    AreReports turns core.trace (length image.harts) reports → text ≡ report core.image core.trace core.state → IsRace listing turns text
+race_of listing turns image core reports text meaning same replay are is = record {
   image = image;
   core = core;
   reports = reports;
@@ -50,37 +50,37 @@ race_of listing image core reports text meaning same replay are is = record {
 }
 
 -- its report was printed
-pub race_printed : {E : Type 0} (listing : List ℕ) (image : ImageParts) (core : CoreParts) (reports : List HartReport)
+pub race_printed : {E : Type 0} (listing : List ℕ) (turns : ℕ) (image : ImageParts) (core : CoreParts) (reports : List HartReport)
     (text : List ℕ) (result : Result (Unit {0}) E) (old new : Option (List ℕ)) →
     listing_meaning listing ≡ Ok image → core.image ≡ image → IsReplay core.image core.trace core.state →
-    AreReports core.trace (length image.harts) reports → text ≡ report core.image core.trace core.state →
-    OnOk result (Appends old new text) → OnOk result (Prints (IsRace listing) old new)
-race_printed listing image core reports text (Ok done) old new meaning same replay are is grown =
-    (text, race_of listing image core reports text meaning same replay are is, grown)
-race_printed listing image core reports text (Err fault) old new meaning same replay are is grown = tt
+    AreReports turns core.trace (length image.harts) reports → text ≡ report core.image core.trace core.state →
+    OnOk result (Appends old new text) → OnOk result (Prints (IsRace listing turns) old new)
+race_printed listing turns image core reports text (Ok done) old new meaning same replay are is grown =
+    (text, race_of listing turns image core reports text meaning same replay are is, grown)
+race_printed listing turns image core reports text (Err fault) old new meaning same replay are is grown = tt
 
 -- or was not
-race_fault_printed : (listing : List ℕ) (text : List ℕ) (fault : Fault) (old new : Option (List ℕ)) →
-    IsRace listing text → IsUnwritten old new text fault → IsUnraced listing old new fault
-race_fault_printed listing text faults.NoMemory old new shown begun = inr (text, shown, begun)
-race_fault_printed listing text faults.CannotWrite old new shown begun = tt
-race_fault_printed listing text faults.Usage old new shown begun = absurd begun
-race_fault_printed listing text faults.BadNumber old new shown begun = absurd begun
-race_fault_printed listing text faults.CannotReadListing old new shown begun = absurd begun
-race_fault_printed listing text faults.CannotReadOrder old new shown begun = absurd begun
-race_fault_printed listing text faults.CannotStart old new shown begun = absurd begun
-race_fault_printed listing text faults.ImageDiffers old new shown begun = absurd begun
-race_fault_printed listing text (faults.Listing fault) old new shown begun = absurd begun
-race_fault_printed listing text (faults.Order fault) old new shown begun = absurd begun
-race_fault_printed listing text (faults.Step place fault) old new shown begun = absurd begun
+race_fault_printed : (listing : List ℕ) (turns : ℕ) (text : List ℕ) (fault : Fault) (old new : Option (List ℕ)) →
+    IsRace listing turns text → IsUnwritten old new text fault → IsUnraced listing turns old new fault
+race_fault_printed listing turns text faults.NoMemory old new shown begun = inr (text, shown, begun)
+race_fault_printed listing turns text faults.CannotWrite old new shown begun = tt
+race_fault_printed listing turns text faults.Usage old new shown begun = absurd begun
+race_fault_printed listing turns text faults.BadNumber old new shown begun = absurd begun
+race_fault_printed listing turns text faults.CannotReadListing old new shown begun = absurd begun
+race_fault_printed listing turns text faults.CannotReadOrder old new shown begun = absurd begun
+race_fault_printed listing turns text faults.CannotStart old new shown begun = absurd begun
+race_fault_printed listing turns text faults.ImageDiffers old new shown begun = absurd begun
+race_fault_printed listing turns text (faults.Listing fault) old new shown begun = absurd begun
+race_fault_printed listing turns text (faults.Order fault) old new shown begun = absurd begun
+race_fault_printed listing turns text (faults.Step place fault) old new shown begun = absurd begun
 
-pub race_unprinted : {T : Type 0} (listing : List ℕ) (image : ImageParts) (core : CoreParts) (reports : List HartReport)
+pub race_unprinted : {T : Type 0} (listing : List ℕ) (turns : ℕ) (image : ImageParts) (core : CoreParts) (reports : List HartReport)
     (text : List ℕ) (result : Result T Fault) (old new : Option (List ℕ)) →
     listing_meaning listing ≡ Ok image → core.image ≡ image → IsReplay core.image core.trace core.state →
-    AreReports core.trace (length image.harts) reports → text ≡ report core.image core.trace core.state →
-    IfErr result (λ fault. IsUnwritten old new text fault) → IfErr result (λ fault. IsUnraced listing old new fault)
-race_unprinted listing image core reports text (Ok done) old new meaning same replay are is begun = tt
-race_unprinted listing image core reports text (Err fault) old new meaning same replay are is begun =
-    race_fault_printed listing text fault old new (race_of listing image core reports text meaning same replay are is) begun
+    AreReports turns core.trace (length image.harts) reports → text ≡ report core.image core.trace core.state →
+    IfErr result (λ fault. IsUnwritten old new text fault) → IfErr result (λ fault. IsUnraced listing turns old new fault)
+race_unprinted listing turns image core reports text (Ok done) old new meaning same replay are is begun = tt
+race_unprinted listing turns image core reports text (Err fault) old new meaning same replay are is begun =
+    race_fault_printed listing turns text fault old new (race_of listing turns image core reports text meaning same replay are is) begun
 
 pub ruleset races = (race_unread, race_unrun, race_printed, race_unprinted)

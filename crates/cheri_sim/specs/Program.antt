@@ -41,10 +41,10 @@ pub record IsRunAnswer (files : KnownFiles) (listing order : List ℕ) (form : R
   pub shown : IsShown form listing_bytes order_bytes text end
 
 -- `race`: the report of a race of the listing in the file
-pub record IsRaceAnswer (files : KnownFiles) (listing : List ℕ) (text : List ℕ) : Type 0 where
+pub record IsRaceAnswer (files : KnownFiles) (listing : List ℕ) (turns : ℕ) (text : List ℕ) : Type 0 where
   pub bytes : List ℕ
   pub bytes_are : AreBytesOf (files listing) bytes
-  pub race : IsRace bytes text
+  pub race : IsRace bytes turns text
 
 -- `bounds`: both words are numbers in their ranges, and this is the line of that range
 pub record IsBoundsAnswer (base len : List ℕ) (text : List ℕ) : Type 0 where
@@ -64,7 +64,7 @@ pub record IsDecodeAnswer (word : List ℕ) (text : List ℕ) : Type 0 where
 abbrev pub IsAnswer : KnownFiles → Asked → List ℕ → Type 0
 IsAnswer files (Check listing) text = IsCheckAnswer files listing text
 IsAnswer files (Run listing order form) text = IsRunAnswer files listing order form None text
-IsAnswer files (Race listing turns) text = IsRaceAnswer files listing text
+IsAnswer files (Race listing turns) text = IsRaceAnswer files listing turns text
 IsAnswer files (Bounds base len) text = IsBoundsAnswer base len text
 IsAnswer files (Decode word) text = IsDecodeAnswer word text
 
@@ -123,7 +123,7 @@ OfFiles files listing order IsSo =
 unfoldable pub Begins : KnownFiles → Option Asked → Option (List ℕ) → Option (List ℕ) → Type 0
 Begins files (Some (Run listing order form)) old new =
     (new ≡ old) ⊎ OfFiles files listing order (λ first second. BeginsRun first second old new)
-Begins files (Some (Race listing turns)) old new = (new ≡ old) ⊎ PrintsBeginning (IsRaceAnswer files listing) old new
+Begins files (Some (Race listing turns)) old new = (new ≡ old) ⊎ PrintsBeginning (IsRaceAnswer files listing turns) old new
 Begins files _ old new = new ≡ old
 
 -- whether a race was asked for

@@ -12,22 +12,22 @@ use Rattle.cheri_sim.specs.declared.faults.Fault.TheVariants.{NoMemory, CannotWr
 use Rattle.cheri_sim.specs.Printing.{PrintsBeginning}
 
 -- A text shows a race: it is the report of a machine that began as the image which the listing means, and whose state
--- is the replay of its trace, in which each hart's steps are those that its worker reported.
-pub record IsRace (listing : List ℕ) (text : List ℕ) : Type 0 where
+-- is the replay of its trace, in which each hart's steps are those that its worker reported, and at most these turns.
+pub record IsRace (listing : List ℕ) (turns : ℕ) (text : List ℕ) : Type 0 where
   pub image : ImageParts
   pub core : CoreParts
   pub reports : List HartReport
   pub listing_is : listing_meaning listing ≡ Ok image
   pub image_is : core.image ≡ image
   pub replay : IsReplay core.image core.trace core.state
-  pub reports_are : AreReports core.trace (length image.harts) reports
+  pub reports_are : AreReports turns core.trace (length image.harts) reports
   pub text_is : text ≡ report core.image core.trace core.state
 
 -- A race was not printed whole: for this fault, which left the writer's known bytes so.
-abbrev pub IsUnraced : List ℕ → Option (List ℕ) → Option (List ℕ) → Fault → Type 0
-IsUnraced listing old new NoMemory = (new ≡ old) ⊎ PrintsBeginning (IsRace listing) old new
-IsUnraced listing old new CannotWrite = ⊤
-IsUnraced listing old new CannotStart = new ≡ old
-IsUnraced listing old new ImageDiffers = new ≡ old
-IsUnraced listing old new (Listing fault) = (listing_meaning listing ≡ Err fault) × (new ≡ old)
-IsUnraced listing old new _ = ⊥
+abbrev pub IsUnraced : List ℕ → ℕ → Option (List ℕ) → Option (List ℕ) → Fault → Type 0
+IsUnraced listing turns old new NoMemory = (new ≡ old) ⊎ PrintsBeginning (IsRace listing turns) old new
+IsUnraced listing turns old new CannotWrite = ⊤
+IsUnraced listing turns old new CannotStart = new ≡ old
+IsUnraced listing turns old new ImageDiffers = new ≡ old
+IsUnraced listing turns old new (Listing fault) = (listing_meaning listing ≡ Err fault) × (new ≡ old)
+IsUnraced listing turns old new _ = ⊥

@@ -4,14 +4,14 @@ ghost use Rattle.std.specs.Prelude.{◌≡◌};
 ghost use Rattle.cheri_sim.specs.Faults.{fault_text, status_of};
 
 use command_line::CommandFault;
+use grammar::fault::ListingFaultKind;
 use harts::RunFault;
+use listings::ListingFault;
 use machine::{SimFault, StepFault};
+use orders::{OrderFault, OrderFaultKind};
 use reports::ReportFault;
 use std::alloc::AllocError;
 use std::fmt;
-use grammar::fault::ListingFaultKind;
-use listings::ListingFault;
-use orders::{OrderFault, OrderFaultKind};
 
 /// Why the program does not end with status 0.
 #[derive(Clone, Copy, Debug, PartialEq, Eq)]

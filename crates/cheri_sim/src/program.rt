@@ -21,12 +21,12 @@ use crate::races::print_race;
 use crate::runs::print_run;
 use cheri_model::{ADDRESS_SPACE, NoMemory};
 use command_line::{ReportForm, Request, parse};
+use grammar::numerals::number_of;
+use listings::read_listing;
 use std::alloc::Global;
 use std::io::{self, Write};
 use std::sync::Wait;
 use std::thread::Threads;
-use grammar::numerals::number_of;
-use listings::read_listing;
 
 /// The greatest address.
 const GREATEST_ADDRESS: u128 = ADDRESS_SPACE - 1;
@@ -111,7 +111,7 @@ fn race<F: Files, O: Write, R: Threads + Wait + Sync>(
     files: &mut F,
     out: &mut O,
 ) -> Result<(), Fault>
-    ensures printed { OnOk result (Prints (IsRaceAnswer (F.bytes_of files.old) listing.now)
+    ensures printed { OnOk result (Prints (IsRaceAnswer (F.bytes_of files.old) listing.now turns)
         (O.contents out.old) (O.contents out.new)) }
     ensures failed { IfErr result (λ fault.
         Fails (F.bytes_of files.old) (Some (Race listing.now turns)) fault

@@ -7,12 +7,12 @@ ghost use Rattle.cheri_sim.specs.Races.{IsRace, IsUnraced};
 use crate::faults::Fault;
 use crate::printing::print_report;
 use harts::{Gate, Turn, run_harts};
+use listings::read_listing;
 use machine::GREATEST_TRACE_LIMIT;
 use std::alloc::Global;
 use std::io::Write;
 use std::sync::Wait;
 use std::thread::Threads;
-use listings::read_listing;
 
 /// A gate that every hart goes through in each of its turns.
 #[derive(Clone, Copy)]
@@ -36,10 +36,10 @@ pub fn print_race<O: Write, R: Threads + Wait + Sync>(
     turns: u32,
     out: &mut O,
 ) -> Result<(), Fault>
-    ensures printed { OnOk result (Prints (IsRace listing.now)
+    ensures printed { OnOk result (Prints (IsRace listing.now turns)
         (O.contents out.old) (O.contents out.new)) }
     ensures failed { IfErr result (λ fault.
-        IsUnraced listing.now (O.contents out.old) (O.contents out.new) fault) }
+        IsUnraced listing.now turns (O.contents out.old) (O.contents out.new) fault) }
 {
     let image = read_listing(alloc, listing)?;
     let (core, _reports) = run_harts(rt, alloc, image, turns, GREATEST_TRACE_LIMIT, &OpenGate)?;

@@ -15,12 +15,12 @@ use crate::faults::Fault;
 use crate::printing::{flush, print};
 use command_line::ReportForm;
 use hart_step::View;
+use listings::read_listing;
 use machine::{GREATEST_TRACE_LIMIT, SimFault, StepFault, run_order, simulate};
+use orders::read_order;
 use reports::{ReportFault, ToWrite, report_json};
 use std::alloc::Global;
 use std::io::Write;
-use listings::read_listing;
-use orders::read_order;
 
 /// The JSON report of what a view shows, in one line.
 fn json_line(alloc: Global, view: View<'_>) -> Result<String, ReportFault>

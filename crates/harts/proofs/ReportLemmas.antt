@@ -7,7 +7,7 @@ use Rattle.cheri_model.specs.declared.trace.Entry.{Entry}
 use Rattle.cheri_model.specs.Replay.{step_count}
 use Rattle.machine.specs.Shares.{ShareParts, share_at, shares_of}
 use Rattle.harts.specs.declared.workers.HartReport.{HartReport}
-use Rattle.harts.specs.Reports.{AreReports}
+use Rattle.harts.specs.Reports.{AreReports, KeepsTurns}
 
 -- the shares of a machine that has not stepped have counted nothing
 pub nothing_counted : (harts : ℕ) → All (λ (s : ShareParts). s.amount ≡ 0) (shares_of [] harts)
@@ -23,6 +23,10 @@ pub harts_in_order : (trace : List Entry) (harts : ℕ) → map (λ (s : SharePa
 unfolding shares_of
 harts_in_order trace harts = harts_of_list trace (range_with_len 0 harts)
 
+-- a share that has counted just the steps of a report
+abbrev pub share_of : HartReport → ShareParts
+share_of report = record { hart = report.hart; amount = report.steps }
+
 -- what workers hand back, of whatever type: a report and a share that has counted just its steps
 module _ {W : Type 0} (report : W → HartReport) (share : W → ShareParts) where
   abbrev pub IsWork : W → Type 0
@@ -31,6 +35,24 @@ module _ {W : Type 0} (report : W → HartReport) (share : W → ShareParts) whe
   hart_by_report : (ws : List W) → map (λ (r : HartReport). r.hart) (map report ws) ≡ map (λ w. (report w).hart) ws
   hart_by_report [] = refl
   hart_by_report (w ∷ ws) = ap (λ (ns : List ℕ). (report w).hart ∷ ns) (hart_by_report ws)
+
+  pub harts_of_work : (reports : List HartReport) (ws : List W) → reports ≡ map report ws →
+      map (λ (r : HartReport). r.hart) reports ≡ map (λ w. (report w).hart) ws
+  harts_of_work reports ws made = ap (map (λ (r : HartReport). r.hart)) made ∙ hart_by_report ws
+
+  shares_by_report : (ws : List W) → All IsWork ws → map share ws ≡ map share_of (map report ws)
+  shares_by_report [] work = refl
+  shares_by_report (w ∷ ws) work =
+      ap (λ (s : ShareParts). s ∷ map share ws) (All-head IsWork w ws work)
+      ∙ ap (λ (ss : List ShareParts). share_of (report w) ∷ ss) (shares_by_report ws (All-tail IsWork w ws work))
+
+  pub shares_of_work : (reports : List HartReport) (back : List ShareParts) (ws : List W) → reports ≡ map report ws → back ≡ map share ws →
+      All IsWork ws → back ≡ map share_of reports
+  shares_of_work reports back ws made shares work = shares ∙ (shares_by_report ws work ∙ sym (ap (map share_of) made))
+
+  pub turns_of_work : (turns : ℕ) (reports : List HartReport) (ws : List W) → reports ≡ map report ws →
+      All (λ w. KeepsTurns turns (report w)) ws → All (KeepsTurns turns) reports
+  turns_of_work turns reports ws made work = rw made (All-map (KeepsTurns turns) report ws work)
 
   exact : (trace : List Entry) (ws : List W) → All IsWork ws →
       All (λ (s : ShareParts). s.amount ≡ step_count trace s.hart) (map share ws) →
@@ -43,12 +65,26 @@ module _ {W : Type 0} (report : W → HartReport) (share : W → ShareParts) whe
       (subst (λ (s : ShareParts). s.amount ≡ step_count trace s.hart) (All-head IsWork w ws work) here)
       (exact trace ws (All-tail IsWork w ws work) rest)
 
-  pub reports_made : (trace : List Entry) (harts : ℕ) (opened back : List ShareParts) (reports : List HartReport) (ws : List W) →
+  pub reports_made : (turns : ℕ) (trace : List Entry) (harts : ℕ) (opened back : List ShareParts) (reports : List HartReport) (ws : List W) →
       opened ≡ shares_of [] harts → map (λ w. (report w).hart) ws ≡ map (λ (s : ShareParts). s.hart) opened → All IsWork ws →
       reports ≡ map report ws → back ≡ map share ws → All (λ (s : ShareParts). s.amount ≡ step_count trace s.hart) back →
-      AreReports trace harts reports
-  reports_made trace harts opened back reports ws start order work made shares counted = record {
+      All (KeepsTurns turns) reports → AreReports turns trace harts reports
+  reports_made turns trace harts opened back reports ws start order work made shares counted turned = record {
     in_order = ap (map (λ (r : HartReport). r.hart)) made ∙ hart_by_report ws ∙ order
         ∙ ap (map (λ (s : ShareParts). s.hart)) start ∙ harts_in_order [] harts;
     exact = rw made (exact trace ws work (rw shares at counted));
+    turned = turned;
   }
+
+same_reports : (reports : List HartReport) → reports ≡ map (λ (r : HartReport). r) reports
+same_reports [] = refl
+same_reports (r ∷ reports) = ap (λ (rs : List HartReport). r ∷ rs) (same_reports reports)
+
+-- reports whose shares have counted just their steps
+pub reports_raced : (turns : ℕ) (trace : List Entry) (harts : ℕ) (opened back : List ShareParts) (reports : List HartReport) →
+    opened ≡ shares_of [] harts → map (λ (r : HartReport). r.hart) reports ≡ map (λ (s : ShareParts). s.hart) opened →
+    back ≡ map share_of reports → All (λ (s : ShareParts). s.amount ≡ step_count trace s.hart) back →
+    All (KeepsTurns turns) reports → AreReports turns trace harts reports
+reports_raced turns trace harts opened back reports start order shares counted turned =
+    reports_made {W = HartReport} (λ (r : HartReport). r) share_of turns trace harts opened back reports reports start order
+    (λ k d inside. refl) (same_reports reports) shares counted turned

@@ -5,12 +5,14 @@ mod faults;
 mod gates;
 mod lock;
 mod races;
+mod viewers;
 mod workers;
 
 pub use faults::RunFault;
 pub use gates::{Gate, Turn};
 pub use lock::Shared;
-pub use races::run_harts;
+pub use races::{run_harts, run_watched};
+pub use viewers::Viewer;
 pub use workers::{HartReport, Why, hart_loop};
 
 #[cfg(test)]

@@ -4,7 +4,7 @@ ghost use Rattle.std.specs.Prelude.{◌≡◌};
 ghost use Rattle.std.specs.Sync.Mutex.{mutex_guard_value};
 ghost use Rattle.machine.specs.Cores.{IsCore};
 
-use machine::{Machine, Naming};
+use machine::{Machine, Naming, Watch, WatchFault};
 use std::marker::Model;
 use std::sync::{Mutex, MutexGuard, Wait};
 
@@ -44,6 +44,11 @@ impl<J: Naming> Shared<J> {
         // what the contracts of a core say of every core
         let _refusal = guard.core().refusal(0);
         guard
+    }
+
+    /// Waits for the lock, and gives a watch of the machine, which needs it no more.
+    pub fn watch<R: Wait>(&self, rt: &R) -> Result<Watch<J>, WatchFault> {
+        self.lock(rt).watch()
     }
 
     /// The machine, once no thread shares it.

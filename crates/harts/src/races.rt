@@ -3,11 +3,12 @@
 ghost use Rattle.std.specs.Prelude.{◌≡◌, ◌≢◌, ◌↔◌, [], length, map, All, false, IfOk, Err, vec_len};
 ghost use Rattle.cheri_model.specs.Replay.{IsReplay};
 ghost use Rattle.machine.specs.Cores.{is_limit};
-ghost use Rattle.harts.specs.Reports.{AreReports};
+ghost use Rattle.harts.specs.Reports.{AreReports, KeepsTurns};
 
 use crate::faults::RunFault;
 use crate::gates::Gate;
 use crate::lock::Shared;
+use crate::viewers::{Nobody, Onlooker, Viewer};
 use crate::workers::{HartReport, hart_loop};
 use cheri_model::{Image, NoMemory};
 use machine::{Blanks, BootFault, Core, Machine, Naming, Share};
@@ -35,21 +36,43 @@ pub fn run_harts<G: Gate + Sync, R: Threads + Wait + Sync>(
     ensures image { IfOk result (λ run. run.0.image ≡ image) }
     ensures replay { IfOk result (λ run. IsReplay run.0.image run.0.trace run.0.state) }
     ensures reports { IfOk result (λ run.
-        AreReports run.0.trace (length image.harts) run.1.items) }
+        AreReports turns run.0.trace (length image.harts) run.1.items) }
+{
+    run_watched(rt, alloc, image, turns, limit, gate, &mut Nobody)
+}
+
+/// Runs the harts of an image as `run_harts` does, while the calling thread has the viewer look on
+/// once, from when the workers are started until it gives its watch back. Where no watch is given,
+/// the viewer is not called.
+pub fn run_watched<G: Gate + Sync, V: Viewer, R: Threads + Wait + Sync>(
+    rt: &R,
+    alloc: Global,
+    image: Image,
+    turns: u32,
+    limit: u32,
+    gate: &G,
+    viewer: &mut V,
+) -> Result<(Core, Vec<HartReport>), RunFault>
+    ensures limit { (result ≡ Err (RunFault.Boot BootFault.Limit)) ↔ (is_limit limit ≡ false) }
+    ensures image { IfOk result (λ run. run.0.image ≡ image) }
+    ensures replay { IfOk result (λ run. IsReplay run.0.image run.0.trace run.0.state) }
+    ensures reports { IfOk result (λ run.
+        AreReports turns run.0.trace (length image.harts) run.1.items) }
 {
     let core = Core::boot(alloc, image, limit)?;
     let given = core.view().image.copy(alloc)?;
-    race::<Brand, G, R>(rt, alloc, core, given, turns, gate, Blanks::new())
+    race::<Brand, G, V, R>(rt, alloc, core, given, turns, gate, viewer, Blanks::new())
 }
 
 /// Races the harts of a core that was just booted from an image that is given, too.
-fn race<J: Naming + Send + Sync, G: Gate + Sync, R: Threads + Wait + Sync>(
+fn race<J: Naming + Send + Sync, G: Gate + Sync, V: Viewer, R: Threads + Wait + Sync>(
     rt: &R,
     alloc: Global,
     core: Core,
     given: Image,
     turns: u32,
     gate: &G,
+    viewer: &mut V,
     blanks: Blanks,
 ) -> Result<(Core, Vec<HartReport>), RunFault>
     requires names { blanks ≡ J.names }
@@ -59,24 +82,55 @@ fn race<J: Naming + Send + Sync, G: Gate + Sync, R: Threads + Wait + Sync>(
     ensures image { IfOk result (λ run. run.0.image ≡ J.image) }
     ensures replay { IfOk result (λ run. IsReplay run.0.image run.0.trace run.0.state) }
     ensures reports { IfOk result (λ run.
-        AreReports run.0.trace (length J.image.harts) run.1.items) }
+        AreReports turns run.0.trace (length J.image.harts) run.1.items) }
 {
-    let (machine, shares) = Machine::<J>::open(alloc, core, blanks)?;
+    let (machine, shares) = Machine::<J>::open(rt, alloc, core, blanks)?;
     let shared = Shared::new(machine);
     let work = Work {
         rt,
         shared: &shared,
         gate,
-        turns,
     };
-    let worked = work_all(&work, alloc, shares)?;
+    let onlooker = Onlooker {
+        viewer,
+        watch: shared.watch(rt).ok(),
+    };
+    let raced = race_all(&work, alloc, turns, shares, onlooker);
+    match raced {
+        Err(fault) => {
+            let _core = shared.into_machine().close(rt, Vec::new(alloc));
+            Err(fault)
+        }
+        Ok((reports, shares)) => {
+            let core = shared.into_machine().close(rt, shares);
+            if core.view().image != &given {
+                return Err(RunFault::ImageDiffers);
+            }
+            Ok((core, reports))
+        }
+    }
+}
+
+/// The reports and the shares of workers for each of these shares, which have counted nothing yet.
+fn race_all<J: Naming + Send + Sync, G: Gate + Sync, V: Viewer, R: Threads + Wait + Sync>(
+    work: &Work<'_, J, G, R>,
+    alloc: Global,
+    turns: u32,
+    shares: Vec<Share<J>>,
+    onlooker: Onlooker<'_, J, V>,
+) -> Result<(Vec<HartReport>, Vec<Share<J>>), RunFault>
+    requires { All (λ share. share.amount ≡ 0) shares.items }
+    ensures fault { result ≢ Err (RunFault.Boot BootFault.Limit) }
+    ensures harts { IfOk result (λ all.
+        map (λ r. r.hart) all.0.items ≡ map (λ s. s.hart) shares.items) }
+    ensures counted { IfOk result (λ all.
+        all.1.items ≡ map (λ r. record { hart = r.hart; amount = r.steps }) all.0.items) }
+    ensures turned { IfOk result (λ all. All (KeepsTurns turns) all.0.items) }
+{
+    let worked = work_all(work, alloc, turns, shares, onlooker)?;
     let reports = reports_of(alloc, worked.as_slice())?;
     let shares = shares_back(alloc, worked)?;
-    let core = shared.into_machine().close(shares);
-    if core.view().image != &given {
-        return Err(RunFault::ImageDiffers);
-    }
-    Ok((core, reports))
+    Ok((reports, shares))
 }
 
 /// What every worker of a race is lent.
@@ -85,7 +139,6 @@ struct Work<'a, J: Naming, G, R> {
     rt: &'a R,
     shared: &'a Shared<J>,
     gate: &'a G,
-    turns: u32,
 }
 
 /// What a worker hands back.
@@ -95,23 +148,30 @@ struct Worked<J: Naming> {
     share: Share<J>,
 }
 
-/// The promise that a worker's report and share are of this hart, and that the share has counted
-/// just the steps of the report.
+/// The promise that a worker's report and share are of this hart, that the share has counted just
+/// the steps of the report, and that the hart had this many turns.
 #[derive(Clone, Copy)]
-struct OfHart(u8);
+struct OfHart {
+    hart: u8,
+    turns: u32,
+}
 
 impl<J: Naming> Promise<Worked<J>> for OfHart {
     ghost use Rattle.std.specs.Prelude.{◌≡◌};
+    ghost use Rattle.harts.specs.Reports.{KeepsTurns};
 
-    ghost kept_by = { λ p w. (w.report.hart ≡ p.0)
-        × (w.share ≡ record { hart = p.0; amount = w.report.steps }) };
+    ghost kept_by = { λ p w. (w.report.hart ≡ p.hart)
+        × (w.share ≡ record { hart = p.hart; amount = w.report.steps })
+        × KeepsTurns p.turns w.report };
 }
 
 /// Starts a worker for each of these shares, which have counted nothing yet, and joins them all.
-fn work_all<J: Naming + Send + Sync, G: Gate + Sync, R: Threads + Wait + Sync>(
+fn work_all<J: Naming + Send + Sync, G: Gate + Sync, V: Viewer, R: Threads + Wait + Sync>(
     work: &Work<'_, J, G, R>,
     alloc: Global,
+    turns: u32,
     shares: Vec<Share<J>>,
+    onlooker: Onlooker<'_, J, V>,
 ) -> Result<Vec<Worked<J>>, RunFault>
     requires { All (λ share. share.amount ≡ 0) shares.items }
     ensures fault { result ≢ Err (RunFault.Boot BootFault.Limit) }
@@ -119,12 +179,13 @@ fn work_all<J: Naming + Send + Sync, G: Gate + Sync, R: Threads + Wait + Sync>(
         map (λ w. w.report.hart) all.items ≡ map (λ s. s.hart) shares.items) }
     ensures counted { IfOk result (λ all. All
         (λ w. w.share ≡ record { hart = w.report.hart; amount = w.report.steps }) all.items) }
+    ensures turned { IfOk result (λ all. All (λ w. KeepsTurns turns w.report) all.items) }
 {
     let done = Vec::with_capacity(alloc, shares.len())?;
     thread::scope(
         thread::scope_env(),
         work.rt,
-        |scope| -> Result<Vec<Worked<J>>, RunFault>
+        move |scope| -> Result<Vec<Worked<J>>, RunFault>
             requires none { All (λ share. share.amount ≡ 0) shares.items }
             requires done { done.items ≡ [] }
             ensures fault { result ≢ Err (RunFault.Boot BootFault.Limit) }
@@ -133,17 +194,20 @@ fn work_all<J: Naming + Send + Sync, G: Gate + Sync, R: Threads + Wait + Sync>(
             ensures counted { IfOk result (λ all. All
                 (λ w. w.share ≡ record { hart = w.report.hart; amount = w.report.steps })
                 all.items) }
-        { work_rest(scope, work, shares, done) },
+            ensures turned { IfOk result (λ all. All (λ w. KeepsTurns turns w.report) all.items) }
+        { work_rest(scope, work, turns, shares, done, onlooker) },
     )
 }
 
-/// Starts a worker for the last of these shares, then those for the others, and joins them in hart
-/// order.
-fn work_rest<'s, E, J: Naming + Send + Sync, G: Gate + Sync, R: Threads + Wait + Sync>(
+/// Starts a worker for the last of these shares, then those for the others, has the viewer look on,
+/// and joins the workers in hart order.
+fn work_rest<'s, E, J: Naming + Send + Sync, G: Gate + Sync, V: Viewer, R: Threads + Wait + Sync>(
     scope: &Scope<'s, E>,
     work: &'s Work<'_, J, G, R>,
+    turns: u32,
     shares: Vec<Share<J>>,
     done: Vec<Worked<J>>,
+    onlooker: Onlooker<'_, J, V>,
 ) -> Result<Vec<Worked<J>>, RunFault>
     requires none { All (λ share. share.amount ≡ 0) shares.items }
     requires done { done.items ≡ [] }
@@ -152,22 +216,26 @@ fn work_rest<'s, E, J: Naming + Send + Sync, G: Gate + Sync, R: Threads + Wait +
         map (λ w. w.report.hart) all.items ≡ map (λ s. s.hart) shares.items) }
     ensures counted { IfOk result (λ all. All
         (λ w. w.share ≡ record { hart = w.report.hart; amount = w.report.steps }) all.items) }
+    ensures turned { IfOk result (λ all. All (λ w. KeepsTurns turns w.report) all.items) }
 {
     let mut shares = shares;
     let Some(share) = shares.pop() else {
+        onlooker.look_on();
         return Ok(done);
     };
-    let promise = OfHart(share.hart());
+    let hart = share.hart();
+    let promise = OfHart { hart, turns };
     let job = move || -> Worked<J>
         requires { share.amount ≡ 0 }
         ensures hart { result.report.hart ≡ share.hart }
         ensures share { result.share
             ≡ record { hart = share.hart; amount = result.report.steps } }
-    { work_one(work, share) };
+        ensures turned { KeepsTurns turns result.report }
+    { work_one(work, turns, share) };
     let Ok(worker) = scope.spawn_with(promise, job) else {
         return Err(RunFault::Spawn);
     };
-    let mut all = work_rest(scope, work, shares, done)?;
+    let mut all = work_rest(scope, work, turns, shares, done, onlooker)?;
     let Ok(()) = all.push(worker.join(work.rt)) else {
         return Err(RunFault::NoMemory);
     };
@@ -175,12 +243,18 @@ fn work_rest<'s, E, J: Naming + Send + Sync, G: Gate + Sync, R: Threads + Wait +
 }
 
 /// The loop of one hart, whose share has counted nothing yet.
-fn work_one<J: Naming, G: Gate, R: Wait>(work: &Work<'_, J, G, R>, share: Share<J>) -> Worked<J>
+#[tactic(auto, unfolding(crate::specs::Reports::KeepsTurns))]
+fn work_one<J: Naming, G: Gate, R: Wait>(
+    work: &Work<'_, J, G, R>,
+    turns: u32,
+    share: Share<J>,
+) -> Worked<J>
     requires { share.amount ≡ 0 }
     ensures hart { result.report.hart ≡ share.hart }
     ensures share { result.share ≡ record { hart = share.hart; amount = result.report.steps } }
+    ensures turned { KeepsTurns turns result.report }
 {
-    let (report, share) = hart_loop(work.rt, work.shared, work.turns, work.gate, share);
+    let (report, share) = hart_loop(work.rt, work.shared, turns, work.gate, share);
     Worked { report, share }
 }
 

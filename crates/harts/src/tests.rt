@@ -10,6 +10,7 @@ use crate::races::run_harts;
 use crate::workers::{HartReport, Why, hart_loop};
 use cheri_model::{Image, Reg};
 use gates::{EndsAt, Meeting};
+use listings::read_listing;
 use machine::{Blanks, BootFault, Core, Machine, Naming, StepFault, run_order};
 use std::alloc::Global;
 use std::marker::Brand;
@@ -17,9 +18,10 @@ use std::process::Abort;
 use std::sync::Wait;
 use std::test::Fail;
 use std::thread::Threads;
-use listings::read_listing;
 
 mod gates;
+mod viewers;
+mod watching;
 
 /// Two harts that swap a value of their own with the same granule: hart 0 the integer 1, hart 1 a
 /// capability.
@@ -90,7 +92,7 @@ fn looped<J: Naming, G: Gate, R: Abort + Wait>(
     requires names { blanks ≡ J.names }
     requires image { core.image ≡ J.image }
 {
-    let (machine, shares) = Machine::<J>::open(alloc, core, blanks).expect(rt, "it opens");
+    let (machine, shares) = Machine::<J>::open(rt, alloc, core, blanks).expect(rt, "it opens");
     let shared = Shared::new(machine);
     let mut reports = Vec::new(alloc);
     let mut back = Vec::new(alloc);
@@ -99,7 +101,7 @@ fn looped<J: Naming, G: Gate, R: Abort + Wait>(
         reports.push(report).expect(rt, "there is memory");
         back.push(share).expect(rt, "there is memory");
     }
-    (shared.into_machine().close(back), reports)
+    (shared.into_machine().close(rt, back), reports)
 }
 
 /// Compares a core with the run of its own trace's order on one thread.

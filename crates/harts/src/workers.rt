@@ -86,5 +86,5 @@ fn step_once<J: Naming, R: Wait>(
         ≡ record { hart = share.old.hart; amount = share.old.amount + 1 }) }
     ensures kept { OnErr result (share.new ≡ share.old) }
 {
-    shared.lock(rt).step(share)
+    shared.lock(rt).step(rt, share)
 }

@@ -1,3 +1,4 @@
 pub mod CoreLemmas
+pub mod CopyLemmas
 pub mod RunLemmas
 pub mod ShareLemmas

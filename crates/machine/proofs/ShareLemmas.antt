@@ -1,5 +1,5 @@
 -- The books of a machine as its shares are drawn, and after a step.
-use Rattle.std.proofs.Common.{◌≡◌, ◌≢◌, ℕ, ◌+◌, ◌<◌, ◌≤◌, ◌⊎◌, inl, inr, Bool, true, false, ◌==◌, List, [], ◌∷◌, ◌++◌, length, map, replicate, get_or, set, refl, sym, ap, subst, ◌∙◌, arith, get_or-set_same, get_or-set_other, length-set}
+use Rattle.std.proofs.Common.{◌≡◌, ◌≢◌, ℕ, zero, suc, ◌+◌, ◌<◌, ◌≤◌, ◌⊎◌, inl, inr, Bool, true, false, ◌==◌, List, [], ◌∷◌, ◌++◌, length, map, replicate, get_or, set, refl, sym, ap, subst, ◌∙◌, arith, get_or-set_same, get_or-set_other, length-set}
 use Rattle.std.specs.Prelude.{slice_set, slice_index, count_by, cond, Some, None}
 use Rattle.std.specs.List.{range_with_len}
 use Rattle.std.proofs.lemmas.Bool.Decides.{nat_tests}
@@ -108,3 +108,28 @@ unfolding core_after entry_of
 counted_after books core after hart harts room is counted =
     subst (λ (k : CoreParts). IsCounted (slice_set books hart (slice_index books hart + 1)) k.trace harts) (sym is)
     (counted_more books core.trace harts (entry_of core.image core.state (step_of hart)) room counted)
+
+-- one more share has counted the entries of its hart
+pub audited_more : (items : List ShareParts) (trace : List Entry) (place : ℕ) (share : ShareParts) → place < length items →
+    share.amount ≡ step_count trace share.hart →
+    ((k : ℕ) (d : ShareParts) → k < place → (get_or items k d).amount ≡ step_count trace (get_or items k d).hart) →
+    (k : ℕ) (d : ShareParts) → k < place + 1 → (get_or (set items place share) k d).amount ≡ step_count trace (get_or (set items place share) k d).hart
+audited_more items trace place share inside counted before k d below = by_place (k == place) refl
+  where
+    Counts : ShareParts → Type 0
+    Counts s = s.amount ≡ step_count trace s.hart
+
+    by_place : (b : Bool) → (k == place) ≡ b → Counts (get_or (set items place share) k d)
+    by_place true e =
+        let same : k ≡ place = grind (arith, nat_tests) in
+        subst Counts (sym (ap (λ n. get_or (set items place share) n d) same ∙ get_or-set_same items place share d inside)) counted
+    by_place false e =
+        let other : k ≢ place = grind (arith, nat_tests) in
+        let less : k < place = omega (arith, other, below) in
+        subst Counts (sym (get_or-set_other items place k share d other)) (before k d less)
+
+-- writing what was read changes nothing
+pub set_read : (items : List ShareParts) (place : ℕ) (x : ShareParts) → x ≡ get_or items place x → set items place x ≡ items
+set_read [] place x is = refl
+set_read (y ∷ ys) zero x is = ap (λ (z : ShareParts). z ∷ ys) is
+set_read (y ∷ ys) (suc place) x is = ap (λ (zs : List ShareParts). y ∷ zs) (set_read ys place x is)

@@ -1,4 +1,4 @@
--- The numbers and the texts of the refusals of booting, opening and stepping.
+-- The numbers of the refusals of booting, opening, stepping and watching, and the texts of those that are printed.
 use Rattle.std.specs.Prelude.{ℕ, List, ◌++◌, codes, decimal}
 use Rattle.machine.specs.declared.faults.BootFault.{BootFault}
 use Rattle.machine.specs.declared.faults.BootFault.TheVariants as boot
@@ -6,6 +6,8 @@ use Rattle.machine.specs.declared.faults.OpenFault.{OpenFault}
 use Rattle.machine.specs.declared.faults.OpenFault.TheVariants as opening
 use Rattle.machine.specs.declared.faults.StepFault.{StepFault}
 use Rattle.machine.specs.declared.faults.StepFault.TheVariants as step
+use Rattle.machine.specs.declared.faults.WatchFault.{WatchFault}
+use Rattle.machine.specs.declared.faults.WatchFault.TheVariants as watching
 
 abbrev pub boot_fault_number : BootFault → ℕ
 boot_fault_number boot.Limit = 1
@@ -20,6 +22,10 @@ boot_fault_text fault = decimal (boot_fault_number fault) ++ (codes " " ++ boot_
 
 abbrev pub open_fault_number : OpenFault → ℕ
 open_fault_number opening.NoMemory = 1
+
+abbrev pub watch_fault_number : WatchFault → ℕ
+watch_fault_number watching.NoPlace = 1
+watch_fault_number watching.NoMemory = 2
 
 abbrev pub step_fault_number : StepFault → ℕ
 step_fault_number step.NoSuchHart = 1

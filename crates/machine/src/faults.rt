@@ -130,3 +130,23 @@ impl From<AllocError> for OpenFault {
         OpenFault::NoMemory
     }
 }
+
+/// Why a watch cannot be had.
+#[derive(Clone, Copy, Debug, PartialEq, Eq)]
+pub enum WatchFault {
+    /// Each place for a watch is in use.
+    NoPlace = 1,
+    /// Out of memory.
+    NoMemory = 2,
+}
+
+impl WatchFault {
+    ghost use Rattle.machine.specs.Faults.{watch_fault_number};
+
+    /// The number of the refusal.
+    pub fn number(self) -> u8
+        ensures { result ≡ watch_fault_number self }
+    {
+        self as u8
+    }
+}

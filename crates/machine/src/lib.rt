@@ -2,17 +2,22 @@
 //! run of two texts.
 #![tactic(auto)]
 
+mod copies;
 mod cores;
 mod faults;
 mod machines;
 mod opening;
 mod runs;
 mod shares;
+mod shown;
 mod simulation;
+mod watched;
+mod watches;
 
 pub use cores::{Core, GREATEST_TRACE_LIMIT};
-pub use faults::{BootFault, OpenFault, StepFault};
+pub use faults::{BootFault, OpenFault, StepFault, WatchFault};
 pub use machines::Machine;
 pub use runs::run_order;
 pub use shares::{Blanks, Lane, Naming, Share};
 pub use simulation::{SimFault, simulate};
+pub use watches::{Look, Receipt, Watch};

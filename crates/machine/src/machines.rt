@@ -1,24 +1,31 @@
-//! The machine that threads share: a core, and books that count the entries of each hart.
+//! The machine that threads share: a core that watchers read, and books that count the entries of
+//! each hart.
 
-ghost use Rattle.std.specs.Prelude.{◌≡◌, ◌≢◌, ◌+◌, ◌<◌, ◌≤◌, length, All};
-ghost use Rattle.std.specs.Prelude.{slice_index, slice_set, replicate, IfOk, OnOk, OnErr, Err};
+ghost use Rattle.std.specs.Prelude.{◌≡◌, ◌≢◌, ◌+◌, ◌<◌, ◌≤◌, ◌++◌, ◌∷◌, [], List, length, All};
+ghost use Rattle.std.specs.Prelude.{slice_index, slice_set, replicate, IfOk, OnOk, OnErr, Err, None};
 ghost use Rattle.cheri_model.specs.Machine.{step_of};
 ghost use Rattle.cheri_model.specs.Replay.{step_count};
-ghost use Rattle.machine.specs.Cores.{answered, applied};
+ghost use Rattle.machine.specs.Cores.{answered, applied, refused};
 ghost use Rattle.machine.specs.Shares.{share_at, shares_of, IsCounted};
+ghost use Rattle.machine.specs.Watches.{watch_of};
+ghost use Rattle.cheri_model.specs.declared.trace.Entry.{Entry};
 
 use crate::cores::Core;
-use crate::faults::{OpenFault, StepFault};
+use crate::faults::{OpenFault, StepFault, WatchFault};
 use crate::shares::{Blanks, Books, Naming, Share, Tokens};
+use crate::watched::Watched;
+use crate::watches::{Receipt, Watch};
 use cheri_model::{Entry, Image, NoMemory};
+use history::Operation;
 use std::alloc::Global;
 use std::marker::Model;
+use std::sync::Wait;
 
 /// A core that threads may share under a lock, each stepping the hart of its share. At every moment
 /// its books have counted the entries of each hart in the trace. Contracts see its core.
 #[derive(Drop)]
 pub struct Machine<J: Naming> {
-    core: Core,
+    watched: Watched<J>,
     books: Books<J>,
 }
 
@@ -30,16 +37,17 @@ impl<J: Naming> Model for Machine<J> {
     ghost use Rattle.std.specs.Prelude.{◌≡◌, length};
     ghost use Rattle.machine.specs.Shares.{IsCounted};
 
-    ghost view = { λ m. m.core };
+    ghost view = { λ m. m.watched };
 
     ghost invariant = { λ m.
-        IsCounted m.books m.core.trace (length J.image.harts) × (m.core.image ≡ J.image) };
+        IsCounted m.books m.watched.trace (length J.image.harts) × (m.watched.image ≡ J.image) };
 }
 
 impl<J: Naming> Machine<J> {
     /// The machine of a core and its shares, one for each hart, in hart order, which have counted
     /// what the trace holds. Fails only when out of memory, and then the core is given up.
-    pub fn open(
+    pub fn open<R: Wait>(
+        rt: &R,
         alloc: Global,
         core: Core,
         blanks: Blanks,
@@ -50,31 +58,56 @@ impl<J: Naming> Machine<J> {
         ensures shares { IfOk result (λ opened.
             opened.1.items ≡ shares_of core.trace (length J.image.harts)) }
     {
-        let (mut books, tokens) = blanks.open::<J>();
+        let (mut books, tokens, order) = blanks.open::<J>();
         let view = core.view();
         let harts = hart_count(view.image);
         let shares = draw_shares(alloc, &mut books, tokens, view.entries, harts)?;
-        Ok((Machine { core, books }, shares))
+        let watched = Watched::<J>::open(rt, alloc, core, order)?;
+        Ok((Machine { watched, books }, shares))
     }
 
-    /// One step of the share's hart. It is refused exactly where the core refuses it, and then
-    /// machine and share are unchanged; otherwise the trace grows by the entry that is answered,
-    /// and the share counts it.
-    pub fn step(&mut self, share: &mut Share<J>) -> Result<Entry, StepFault>
-        ensures answered { result ≡ answered self.old (step_of share.old.hart) }
+    /// One step of the share's hart. It is refused exactly where the core refuses it, or when out
+    /// of memory, and then machine and share are unchanged; otherwise the trace grows by the entry
+    /// that is answered, and the share counts it. Waits for a watcher that still looks at what was
+    /// shown before.
+    pub fn step<R: Wait>(&mut self, rt: &R, share: &mut Share<J>) -> Result<Entry, StepFault>
+        ensures answered { result ≢ Err StepFault.NoMemory
+            → result ≡ answered self.old (step_of share.old.hart) }
+        ensures memory { result ≡ Err StepFault.NoMemory
+            → refused self.old (step_of share.old.hart) ≡ None }
         ensures there { result ≢ Err StepFault.NoSuchHart }
-        ensures applied { self.new ≡ applied self.old (step_of share.old.hart) }
+        ensures applied { OnOk result (self.new ≡ applied self.old (step_of share.old.hart)) }
         ensures counted { OnOk result (share.new
             ≡ record { hart = share.old.hart; amount = share.old.amount + 1 }) }
         ensures kept { OnErr result ((self.new ≡ self.old) × (share.new ≡ share.old)) }
     {
-        match self.core.step(share.hart()) {
-            Err(fault) => Err(fault),
-            Ok(entry) => {
-                self.books.add(share, 1);
-                Ok(entry)
-            }
+        let hart = share.hart();
+        match self.watched.core().refusal(hart) {
+            Some(fault) => return Err(fault),
+            None => {}
         }
+        let Ok(()) = self.watched.take(rt, Operation::Step(hart)) else {
+            return Err(StepFault::NoMemory);
+        };
+        self.books.add(share, 1);
+        Ok(newest(self.watched.core()))
+    }
+
+    /// A watch of the machine, which has seen its trace of now. There are places for eight watches
+    /// at once; it may find none free a little earlier, while watches come and go.
+    pub fn watch(&mut self) -> Result<Watch<J>, WatchFault>
+        ensures watch { IfOk result (λ watch. watch ≡ watch_of self.old.image self.old.trace) }
+        ensures same { self.new ≡ self.old }
+    {
+        self.watched.watch()
+    }
+
+    /// A receipt for the machine's trace of now, which a watch may learn.
+    pub fn receipt(&mut self) -> Receipt<J>
+        ensures receipt { result ≡ self.old.trace }
+        ensures same { self.new ≡ self.old }
+    {
+        self.watched.receipt()
     }
 
     /// The machine's core.
@@ -82,23 +115,43 @@ impl<J: Naming> Machine<J> {
         ensures core { result.now ≡ self.now }
         ensures image { self.now.image ≡ J.image }
     {
-        &self.core
+        self.watched.core()
     }
 
     /// The machine's core. Each share has counted the entries of its hart in the core's trace.
-    pub fn close(self, shares: Vec<Share<J>>) -> Core
+    /// Waits for watchers that still look.
+    pub fn close<R: Wait>(self, rt: &R, shares: Vec<Share<J>>) -> Core
         ensures core { result ≡ self }
         ensures image { self.image ≡ J.image }
         ensures counts { All
             (λ share. share.amount ≡ step_count self.trace share.hart) shares.items }
     {
-        let Machine { core, mut books } = self;
+        self.audited(shares).close(rt)
+    }
+
+    /// The core that is watched. Each share has counted the entries of its hart in its trace.
+    fn audited(self, shares: Vec<Share<J>>) -> Watched<J>
+        ensures core { result ≡ self }
+        ensures counts { All
+            (λ share. share.amount ≡ step_count self.trace share.hart) shares.items }
+    {
+        let Machine { watched, mut books } = self;
         let mut shares = shares;
         for place in 0..shares.len() {
             books.audit(&mut shares[place]);
         }
-        core
+        watched
     }
+}
+
+/// The newest entry of a core's trace.
+fn newest(core: &Core) -> Entry
+    requires { 0 < length core.now.trace }
+    ensures { (before : List Entry) (entry : Entry) → core.now.trace ≡ before ++ entry ∷ []
+        → result ≡ entry }
+{
+    let entries = core.view().entries;
+    entries[entries.len() - 1]
 }
 
 /// The number of harts of an image, which is at most 8.

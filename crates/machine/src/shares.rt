@@ -4,13 +4,14 @@
 ghost use Rattle.std.specs.Prelude.{◌≡◌, ◌+◌, ◌<◌, length, slice_index, slice_set};
 ghost use Rattle.std.specs.Prelude.{List, ℕ, [], replicate};
 ghost use Rattle.cheri_model.specs.Image.{ImageParts};
+ghost use Rattle.machine.specs.Names.{order_named};
 
 use std::marker::{Brand, Model, PhantomData};
 use std::sync::ledger;
 use std::sync::ledger::{Blank, Book, Ledger};
 
-/// The type parameter that names one machine: the ledgers that its shares are of, and how many
-/// harts it has.
+/// The type parameter that names one machine: the ledgers that its shares are of and its order of
+/// operations, and its image.
 pub trait Naming {
     ghost names: { List ℕ };
 
@@ -34,7 +35,8 @@ impl<J: Naming, const HART: u8> Ledger for Lane<J, HART> {
     ghost parts = { 1 };
 }
 
-/// Ledgers that are of no machine yet, one for each of eight harts. Contracts see their names.
+/// Ledgers that are of no machine yet, one for each of eight harts, and an order of operations.
+/// Contracts see their names.
 #[derive(Drop)]
 pub struct Blanks {
     hart0: Blank,
@@ -45,6 +47,7 @@ pub struct Blanks {
     hart5: Blank,
     hart6: Blank,
     hart7: Blank,
+    order: history::Blank,
 }
 
 impl Model for Blanks {
@@ -55,7 +58,9 @@ impl Model for Blanks {
     ghost use Rattle.std.specs.Prelude.{[], ◌∷◌, ◌≡◌};
 
     ghost view = { λ b. b.hart0.name ∷ b.hart1.name ∷ b.hart2.name ∷ b.hart3.name
-        ∷ b.hart4.name ∷ b.hart5.name ∷ b.hart6.name ∷ b.hart7.name ∷ [] };
+        ∷ b.hart4.name ∷ b.hart5.name ∷ b.hart6.name ∷ b.hart7.name
+        ∷ b.order.book.number ∷ b.order.book.log_name ∷ b.order.book.cells_name ∷ b.order.first
+        ∷ [] };
 
     ghost invariant = { λ b. (b.hart0.parts ≡ 1)
         × (b.hart1.parts ≡ 1)
@@ -68,9 +73,9 @@ impl Model for Blanks {
 }
 
 impl Blanks {
-    /// Eight new ledgers, with a name for each.
+    /// Eight new ledgers with a name for each, and a new order of operations.
     pub fn new() -> Blanks
-        ensures { length result ≡ 8 }
+        ensures { length result ≡ 12 }
     {
         Blanks {
             hart0: Blank::new(1),
@@ -81,15 +86,17 @@ impl Blanks {
             hart5: Blank::new(1),
             hart6: Blank::new(1),
             hart7: Blank::new(1),
+            order: history::Blank::new(),
         }
     }
 
-    /// The books and the tokens of these ledgers, nothing counted.
-    pub fn open<J: Naming>(self) -> (Books<J>, Tokens<J>)
+    /// The books and the tokens of these ledgers, nothing counted, and the order.
+    pub fn open<J: Naming>(self) -> (Books<J>, Tokens<J>, history::Blank)
         requires { self ≡ J.names }
         ensures books { result.0 ≡ replicate 8 0 }
         ensures parts { result.1.parts ≡ replicate 8 1 }
         ensures amounts { result.1.amounts ≡ replicate 8 0 }
+        ensures order { result.2 ≡ order_named J.names }
     {
         let Blanks {
             hart0,
@@ -100,6 +107,7 @@ impl Blanks {
             hart5,
             hart6,
             hart7,
+            order,
         } = self;
         let (book0, token0) = hart0.open::<Lane<J, 0>>();
         let (book1, token1) = hart1.open::<Lane<J, 1>>();
@@ -129,7 +137,7 @@ impl Blanks {
             hart6: token6,
             hart7: token7,
         };
-        (books, tokens)
+        (books, tokens, order)
     }
 }
 

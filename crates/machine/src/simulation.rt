@@ -8,10 +8,10 @@ ghost use Rattle.machine.specs.Simulation.{is_reported, failures_of_run};
 
 use crate::faults::{BootFault, StepFault};
 use crate::runs::run_order;
-use reports::{ReportFault, Sink, write_report};
-use std::alloc::Global;
 use listings::{ListingFault, read_listing};
 use orders::{OrderFault, read_order};
+use reports::{ReportFault, Sink, write_report};
+use std::alloc::Global;
 
 /// Why a simulation was not shown, tried in this order.
 #[derive(Clone, Copy, Debug, PartialEq, Eq)]

@@ -13,11 +13,11 @@ const LOOKS: u32 = 1_000_000;
 pub struct Flag(AtomicBool);
 
 impl Flag {
-    fn new() -> Flag {
+    pub fn new() -> Flag {
         Flag(AtomicBool::new(false))
     }
 
-    fn set(&self) {
+    pub fn set(&self) {
         self.0.store(true, Ordering::SeqCst);
     }
 
@@ -26,7 +26,7 @@ impl Flag {
     }
 
     /// Waits until the flag is set, and gives up after a number of looks.
-    fn comes(&self) -> bool {
+    pub fn comes(&self) -> bool {
         for _ in 0..LOOKS {
             if self.is_set() {
                 return true;

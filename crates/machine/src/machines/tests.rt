@@ -8,11 +8,12 @@ use crate::cores::Core;
 use crate::faults::{BootFault, OpenFault, StepFault};
 use crate::runs::run_order;
 use crate::shares::{Blanks, Naming};
+use listings::read_listing;
 use std::alloc::Global;
 use std::marker::Brand;
 use std::process::Abort;
+use std::sync::Wait;
 use std::test::Fail;
-use listings::read_listing;
 
 /// Two harts that may each run two instructions.
 const TWO_HARTS: &[u8] = b".hart 0x10000000 16 0x10000000 execute\n\
@@ -28,8 +29,8 @@ fn core_after(rt: &impl Abort, alloc: Global, order: &[u8], limit: u32) -> Core 
 
 /// Opens a machine, steps its two harts in this order, until its trace is full, and closes it. A
 /// step that memory was refused is tried once more.
-fn stepped<J: Naming>(
-    rt: &impl Abort,
+fn stepped<J: Naming, R: Wait + Abort>(
+    rt: &R,
     alloc: Global,
     core: Core,
     blanks: Blanks,
@@ -38,28 +39,28 @@ fn stepped<J: Naming>(
     requires names { blanks ≡ J.names }
     requires image { core.image ≡ J.image }
 {
-    let (mut machine, mut shares) = Machine::<J>::open(alloc, core, blanks)?;
+    let (mut machine, mut shares) = Machine::<J>::open(rt, alloc, core, blanks)?;
     assert_eq!(rt; shares.len(), 2);
     for hart in order {
         assert!(rt; *hart < shares.len());
         let before = machine.core().view().entries.len();
-        let mut taken = machine.step(&mut shares[*hart]);
+        let mut taken = machine.step(rt, &mut shares[*hart]);
         if taken == Err(StepFault::NoMemory) {
-            taken = machine.step(&mut shares[*hart]);
+            taken = machine.step(rt, &mut shares[*hart]);
         }
         let entry = taken.expect(rt, "the step is taken");
         assert_eq!(rt; usize::from(entry.hart), *hart);
         assert_eq!(rt; machine.core().view().entries.len(), before + 1);
     }
-    let refused = machine.step(&mut shares[0]);
+    let refused = machine.step(rt, &mut shares[0]);
     assert!(rt; refused == Err(StepFault::TraceFull));
-    Ok(machine.close(shares))
+    Ok(machine.close(rt, shares))
 }
 
 #[test]
 fn a_machine_steps_the_hart_of_a_share(rt: HostRuntime) -> Result<(), Fail> {
     let core = core_after(&rt, rt.alloc(), &[1], 4);
-    let left = stepped::<Brand>(&rt, rt.alloc(), core, Blanks::new(), &[0, 1, 0])?;
+    let left = stepped::<Brand, _>(&rt, rt.alloc(), core, Blanks::new(), &[0, 1, 0])?;
     let whole = core_after(&rt, rt.alloc(), &[1, 0, 1, 0], 4);
     assert!(rt; left.view().entries == whole.view().entries);
     assert!(rt; left.view().harts == whole.view().harts);
@@ -79,7 +80,7 @@ fn refused_memory_is_reported(rt: HostRuntime) -> Result<(), Fail> {
         }
     };
     assert!(rt; refused.is_none());
-    match stepped::<Brand>(&rt, rt.alloc(), core, Blanks::new(), &[0, 1, 0]) {
+    match stepped::<Brand, _>(&rt, rt.alloc(), core, Blanks::new(), &[0, 1, 0]) {
         Ok(left) => assert_eq!(rt; left.view().entries.len(), 4),
         Err(fault) => assert_eq!(rt; fault.number(), 1),
     }

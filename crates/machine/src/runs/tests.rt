@@ -6,10 +6,10 @@ use crate::cores::{Core, GREATEST_TRACE_LIMIT};
 use crate::faults::{BootFault, StepFault};
 use cap_ops::Cap;
 use cheri_model::{HartImage, Image, Instr, Outcome, Perms, Reg, Trap, Value};
+use listings::read_listing;
 use std::alloc::Global;
 use std::process::Abort;
 use std::test::Fail;
-use listings::read_listing;
 
 /// Two harts that may each run two instructions.
 const TWO_HARTS: &[u8] = b".hart 0x10000000 16 0x10000000 execute\n\

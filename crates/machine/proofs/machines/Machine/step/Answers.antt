@@ -1,22 +1,63 @@
 -- A step that is taken is counted for its hart, and a share's hart is one of the machine's.
-use Rattle.std.proofs.Common.{sym, ap, length, ◌∙◌}
+use Rattle.std.proofs.Common.{◌≡◌, sym, ap, length, ◌∙◌}
+use Rattle.std.specs.Prelude.{None}
 use Rattle.cheri_model.specs.Image.{ImageParts}
 use Rattle.cheri_model.specs.Machine.{step_of}
-use Rattle.machine.specs.Cores.{CoreParts, core_after}
+use Rattle.history.specs.declared.links.Operation.TheVariants.{Step}
+use Rattle.machine.specs.Cores.{CoreParts, applied, core_after, refused}
 use Rattle.machine.proofs.CoreLemmas.{hart_is_there}
+use Rattle.machine.proofs.CopyLemmas.{after_some, applied_after, refused_answered, refused_for_another, taken_answered}
 use Rattle.machine.proofs.ShareLemmas.{counted_after}
 use Rattle.machine.proofs.machines.Machine.step.Goals as goal
 
-pub returns-in-Err-clause-there : goal.returns-in-Err-clause-there
-returns-in-Err-clause-there g c = λ missing.
-    hart_is_there c.self.inside.core c.step.new.self c.hart.result _ _ c.step.ensures.core c.in-Err.ensures.err
-    (ap (λ (image : ImageParts). length image.harts) c.self.invariant.1) c.hart.ensures.below
-    (sym c.in-Err.is ∙ c.step.ensures.answered) (cc)
+pub returns-in-Some-clause-answered : goal.returns-in-Some-clause-answered
+returns-in-Some-clause-answered g c = λ other.
+    refused_answered c.args.self.now c.args.share.now.hart c.in-Some.fault
+    (c.in-Some.ensures.value ∙ (λ i. refused ((c.core.ensures.core ∙ c.self.view_is) i) (step_of (c.hart-hart.ensures.hart i))))
 
-pub invariant_of-self-in-Ok : goal.invariant_of-self-in-Ok
+pub returns-in-Some-clause-there : goal.returns-in-Some-clause-there
+returns-in-Some-clause-there g c = λ missing.
+    hart_is_there c.self.inside.watched c.core.result.now c.hart-hart.result _ c.in-Some.fault c.refusal.ensures.core c.core.ensures.core
+    (ap (λ (image : ImageParts). length image.harts) c.self.invariant.1) c.hart-hart.ensures.below
+    (refused_answered c.self.inside.watched c.hart-hart.result c.in-Some.fault
+    (c.in-Some.ensures.value ∙ ap (λ (k : CoreParts). refused k (step_of c.hart-hart.result)) c.core.ensures.core)) (cc)
+
+pub returns-in-Some-clause-memory : goal.returns-in-Some-clause-memory
+returns-in-Some-clause-memory g c = λ memory. absurd
+    (refused_for_another c.core.result.now c.hart-hart.result c.in-Some.fault c.in-Some.ensures.value (cc))
+
+pub newest-requires : goal.newest-requires
+newest-requires g c =
+    after_some c.self.inside.watched c.core-2.result.now c.hart-hart.result (c.core-2.ensures.core ∙ c.in-Ok.ensures.ok)
+
+pub invariant_of-self-2 : goal.invariant_of-self-2
 unfolding core_after
-invariant_of-self-in-Ok g c =
-    let after = c.in-Ok.ensures.ok ∙ ap (λ n. core_after c.self.inside.core (step_of n)) c.hart.ensures.hart in (
-      rw c.add.ensures.books (counted_after c.self.inside.books c.self.inside.core c.step.new.self c.args.share.now.hart _ c.add.ensures.inside after c.self.invariant.0),
+invariant_of-self-2 g c =
+    let hart = c.args.share.now.hart in
+    let after : c.take.new.self ≡ core_after c.self.inside.watched (step_of hart) =
+    c.in-Ok.ensures.ok ∙ ap (λ n. core_after c.self.inside.watched (step_of n)) c.hart-hart.ensures.hart in (
+      rw c.add.ensures.books (counted_after c.self.inside.books c.self.inside.watched c.take.new.self hart _ c.add.ensures.inside after c.self.invariant.0),
       ap (λ (k : CoreParts). k.image) after ∙ c.self.invariant.1,
     )
+
+pub returns-clause-answered : goal.returns-clause-answered
+returns-clause-answered g c =
+    let hart = c.args.share.now.hart in
+    let after : c.take.new.self ≡ core_after c.self.inside.watched (step_of hart) =
+    c.in-Ok.ensures.ok ∙ ap (λ n. core_after c.self.inside.watched (step_of n)) c.hart-hart.ensures.hart in
+    let none : refused c.self.inside.watched (step_of hart) ≡ None =
+    sym (c.in-None.ensures.value ∙ (λ i. refused (c.core.ensures.core i) (step_of (c.hart-hart.ensures.hart i)))) in
+    λ other. taken_answered c.args.self.now c.core-2.result.now hart c.newest.result
+    (ap (λ (k : CoreParts). refused k (step_of hart)) (sym c.self.view_is) ∙ none)
+    (c.core-2.ensures.core ∙ (after ∙ ap (λ (k : CoreParts). core_after k (step_of hart)) c.self.view_is))
+    c.newest.ensures
+
+pub returns-clause-applied : goal.returns-clause-applied
+returns-clause-applied g c =
+    let hart = c.args.share.now.hart in
+    let after : c.take.new.self ≡ core_after c.self.inside.watched (step_of hart) =
+    c.in-Ok.ensures.ok ∙ ap (λ n. core_after c.self.inside.watched (step_of n)) c.hart-hart.ensures.hart in
+    let none : refused c.self.inside.watched (step_of hart) ≡ None =
+    sym (c.in-None.ensures.value ∙ (λ i. refused (c.core.ensures.core i) (step_of (c.hart-hart.ensures.hart i)))) in
+    after ∙ (sym (applied_after c.self.inside.watched (Step hart) none)
+    ∙ ap (λ (k : CoreParts). applied k (step_of hart)) c.self.view_is)

@@ -3,12 +3,12 @@ use Rattle.std.proofs.Common.{◌≡◌, ℕ, ◌<◌}
 use Rattle.std.specs.Prelude.{slice_index_or}
 use Rattle.cheri_model.specs.Replay.{step_count}
 use Rattle.machine.specs.Shares.{ShareParts}
-use Rattle.machine.proofs.machines.Machine.close.Given as goal
+use Rattle.machine.proofs.machines.Machine.audited.Given as goal
 
 abbrev pub invariant-loop-place : goal.invariant-loop-place
 invariant-loop-place g l = record {
   books : l.books ≡ l.initial.books;
   shares : l.shares.items ≡ l.initial.shares.items;
   counts : (k : ℕ) (d : ShareParts) → k < l.place →
-      (slice_index_or l.shares.items k d).amount ≡ step_count l.core.trace (slice_index_or l.shares.items k d).hart;
+      (slice_index_or l.shares.items k d).amount ≡ step_count l.watched.trace (slice_index_or l.shares.items k d).hart;
 }

@@ -1,0 +1,3 @@
+pub mod Prefixes
+pub mod Chains
+pub mod StepsTaken

@@ -1,0 +1,14 @@
+-- Which order of operations is a machine's.
+use Rattle.std.specs.Prelude.{ℕ, List, slice_index}
+use Rattle.history.specs.Orders.{OrderName}
+
+-- A machine's names are those of eight ledgers, and then the four of its order.
+abbrev pub order_named : List ℕ → OrderName
+order_named names = record {
+  book = record {
+    number = slice_index names 8;
+    log_name = slice_index names 9;
+    cells_name = slice_index names 10;
+  };
+  first = slice_index names 11;
+}

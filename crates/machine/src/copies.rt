@@ -1,0 +1,112 @@
+//! The two copies of a machine that watchers read, and the rule that they keep.
+
+ghost use Rattle.std.specs.Prelude.{◌≡◌, ◌++◌, ◌∷◌, ◌⊎◌, [], drop, fold, true, IfOk};
+ghost use Rattle.machine.specs.Copies.{IsShown, shown_after};
+ghost use Rattle.machine.specs.Names.{order_named};
+ghost use Rattle.machine.specs.declared.shown.Ticket.TheVariants.{Tell};
+
+use crate::shares::Naming;
+use crate::shown::{Shown, Ticket};
+use cheri_model::NoMemory;
+use crossbeam_utils::rule::{Outcome, Protocol};
+use history::{Order, Token};
+use left_right::reader::{Reader, Reading};
+use left_right::writer::Writer;
+use std::alloc::AllocError;
+use std::marker::PhantomData;
+use std::sync::Wait;
+
+/// The order of a machine's operations.
+pub struct OrderOf<J: Naming> {
+    machine: PhantomData<J>,
+}
+
+impl<J: Naming> Order for OrderOf<J> {
+    ghost use Rattle.machine.specs.Names.{order_named};
+
+    ghost name = { order_named J.names };
+}
+
+/// The rule of a machine's copies: each is a core of its image, and knows its order.
+pub struct Shows<J: Naming> {
+    machine: PhantomData<J>,
+}
+
+impl<J: Naming> Protocol<Shown, ()> for Shows<J> {
+    ghost use Rattle.machine.specs.Copies.{IsShown};
+    ghost use Rattle.machine.specs.Names.{order_named};
+
+    ghost holds = { λ shown views. IsShown J.image (order_named J.names) shown };
+
+    ghost first = { tt };
+}
+
+/// What publishing and entering tell: the rule.
+pub struct Sees<J: Naming> {
+    machine: PhantomData<J>,
+}
+
+impl<J: Naming> Outcome<Shown, ()> for Sees<J> {
+    ghost use Rattle.machine.specs.Copies.{IsShown};
+    ghost use Rattle.machine.specs.Names.{order_named};
+
+    ghost then = { λ view before after now. IsShown J.image (order_named J.names) after };
+}
+
+pub type Copies<J> = Writer<Shown, Ticket, (), Shows<J>>;
+
+pub type CopyReader<J> = Reader<Shown, (), Shows<J>>;
+
+pub type CopyReading<J> = Reading<Shown, (), Shows<J>>;
+
+/// Shows watchers what is pending, once nobody reads the other copy.
+pub fn publish<J: Naming, R: Wait>(copies: Copies<J>, rt: &R) -> (Copies<J>, ())
+    requires { IsShown J.image (order_named J.names) copies.desk.shown.value
+        → IsShown J.image (order_named J.names)
+        (fold shown_after copies.desk.shown.value (drop copies.behind copies.log.items)) }
+    ensures shown { result.0.desk.shown.value
+        ≡ fold shown_after copies.desk.shown.value (drop copies.behind copies.log.items) }
+    ensures pending { drop result.0.behind result.0.log.items ≡ [] }
+{
+    let (copies, _published) = copies.publish_as::<Sees<J>, R>(rt);
+    (copies, ())
+}
+
+/// Lets both copies know what was seen of the order, where there is memory for it. Where there is
+/// none, watchers get no look until a later operation tells.
+pub fn tell<J: Naming>(copies: &mut Copies<J>, token: Token)
+    ensures shown { copies.new.desk ≡ copies.old.desk }
+    ensures pending { (drop copies.new.behind copies.new.log.items ≡ drop copies.old.behind copies.old.log.items)
+        ⊎ (drop copies.new.behind copies.new.log.items
+        ≡ drop copies.old.behind copies.old.log.items ++ Tell token ∷ []) }
+{
+    let _told = copies.append(Ticket::Tell(token));
+}
+
+/// Makes room for two tickets more.
+pub fn with_room<J: Naming, R: Wait>(
+    rt: &R,
+    copies: Copies<J>,
+    token: &Token,
+) -> Result<Copies<J>, NoMemory>
+    requires none { drop copies.behind copies.log.items ≡ [] }
+    requires told { copies.desk.shown.value.told ≡ true }
+    requires token { copies.desk.shown.value.token ≡ token.now }
+    ensures shown { IfOk result (λ now. now.desk.shown.value ≡ copies.desk.shown.value) }
+    ensures pending { IfOk result (λ now. drop now.behind now.log.items ≡ []) }
+{
+    let mut copies = copies;
+    let Ok(()) = copies.append(Ticket::Tell(token.again())) else {
+        return Err(give_up(rt, copies));
+    };
+    let Ok(()) = copies.append(Ticket::Tell(token.again())) else {
+        return Err(give_up(rt, copies));
+    };
+    Ok(publish(copies, rt).0)
+}
+
+/// Frees both copies where there is no memory for a ticket.
+fn give_up<J: Naming, R: Wait>(rt: &R, copies: Copies<J>) -> NoMemory {
+    drop(copies.take(rt));
+    AllocError
+}
