@@ -5,6 +5,7 @@
 #   racing   eight harts, 12,500 turns each, in threads
 #   replay   the order that one of those races took, on one thread
 #   listing  a check of a listing of 1,048,576 bytes
+#   labels   the same with 16,384 jumps by 16,000 labels and long comments
 #   bounds   one line: what starting the program costs
 set -euo pipefail
 top=$(cd "$(dirname "$0")/.." && pwd)
@@ -28,8 +29,16 @@ harts() {
 printf '01234567%.0s' $(seq 12500) >"$work/steps.txt"
 {
   cat "$work/large.lst"
-  yes '# a comment that fills the listing to the greatest size that it may have' | head -c 1048576
-} | head -c 1048576 >"$work/listing.lst"
+  yes '# a comment that fills the listing to the greatest size that it may have' | head -c 1048576 || true
+} | head -c 1048576 >"$work/listing.lst" || true
+awk 'BEGIN {
+  print ".hart 0x10000000 65536 0x10000000 execute"
+  for (i = 0; i < 16384; i++) {
+    if (i < 16000) printf "label_%05d:\n", i
+    printf "cjal c1, label_%05d # a comment after the jump\n", (i * 7919) % 16000
+  }
+  for (i = 0; i < 1048576; i++) printf "#"
+}' | head -c 1048576 >"$work/labels.lst" || true
 
 # measure NAME WORD..: the median of fifteen wall times, in microseconds, and the peak memory
 measure() {
@@ -56,5 +65,6 @@ sed -n 's/^[0-9]* hart=\([0-7]\) .*/\1/p' "$work/raced.txt" | tr -d '\n' >"$work
 "$program" run "$work/large.lst" --order "$work/raced_order.txt" | cmp - "$work/raced.txt"
 measure replay run "$work/large.lst" --order "$work/raced_order.txt"
 measure listing check "$work/listing.lst"
+measure labels check "$work/labels.lst"
 echo "a step and its line: $(((steps - empty) / 100)) ns"
 echo "a race to its replay: $((racing * 100 / replay)) percent"

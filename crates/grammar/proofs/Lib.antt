@@ -2,7 +2,9 @@ pub mod ChainLemmas
 pub mod LabelLemmas
 pub mod LawfulTypes
 pub mod LineLemmas
+pub mod Names
 pub mod NumeralLemmas
+pub mod Open
 pub mod OperandLemmas
 pub mod PermissionTexts
 pub mod TokenLemmas

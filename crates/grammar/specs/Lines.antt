@@ -2,7 +2,7 @@
 use Rattle.std.specs.Prelude.{ℕ, ◌==◌, nat_le, Bool, ◌&&◌, ◌||◌, List}
 use Rattle.std.specs.List.{slice_split, before_first}
 
--- lines are parted by newlines
+-- newlines separate lines
 abbrev pub lines_of : List ℕ → List (List ℕ)
 lines_of text = slice_split (λ b. b == 0x0A) text
 

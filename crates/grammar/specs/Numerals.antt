@@ -15,7 +15,7 @@ are_digits base token = not (length token == 0) && list_all (λ b. nat_lt (digit
 abbrev pub within_128_bits : ℕ → Option ℕ
 within_128_bits n = if nat_lt n (2 ^ 128) then Some n else None
 
--- a number with one more digit behind it
+-- a number with one more digit after it
 abbrev pub with_digit : ℕ → Option ℕ → ℕ → Option ℕ
 with_digit base (Some n) b = within_128_bits (n * base + digit_value b)
 with_digit base None b = None

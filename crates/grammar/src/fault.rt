@@ -4,14 +4,14 @@ ghost use Rattle.std.specs.Prelude.{◌≡◌};
 
 use std::fmt;
 
-/// What is wrong with a line of a listing. Of several kinds that hold of one line the least is reported.
+/// What is wrong with a line of a listing. Where several kinds hold of one line, the least is reported.
 #[derive(Clone, Copy, Debug, PartialEq, Eq)]
 pub enum ListingFaultKind {
     /// A byte of the line, its comment included, is neither a tab nor from 0x20 to 0x7E.
     NotAscii = 1,
     /// The first word is no directive and no instruction.
     Word,
-    /// The count of words is wrong, or a word has not its operand's shape.
+    /// The count of words is wrong, or a word does not have its operand's shape.
     Operand,
     /// A number is outside its range.
     Range,

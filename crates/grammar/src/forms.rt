@@ -34,7 +34,7 @@ use cheri_model::form::{
 };
 
 /// Refuses a line of more or fewer tokens.
-#[tactic(auto, using(crate::proofs::TokenLemmas::length_of_texts), unfolding(crate::specs::Forms::counted))]
+#[tactic(auto, using(crate::proofs::Names::count), unfolding(crate::specs::Forms::counted))]
 pub fn counted(count: usize, tokens: &[&[u8]]) -> Result<(), ListingFaultKind>
     ensures { result ≡ counted count (texts tokens.now) }
 {

@@ -38,7 +38,7 @@ use cheri_model::Target;
 use std::alloc::{AllocError, AllocFailed, Global};
 use std::collections::HashMap;
 
-/// Where a name is defined: the line's number, from 1 on, and how many instruction lines are before it.
+/// Where a name is defined: the line's number, from 1 on, and how many instruction lines precede it.
 #[derive(Clone, Copy)]
 pub struct Place {
     pub line: usize,
@@ -52,7 +52,7 @@ pub struct Places<'a> {
     instructions: u32,
 }
 
-/// A target as a token writes it: an instruction's number, or what a name stands for, if a line defines it.
+/// A target as a token writes it: an instruction's number, or that of a name, if a line defines it.
 #[derive(Clone, Copy)]
 pub enum TargetOperand {
     Number(Option<u128>),
@@ -105,7 +105,8 @@ fn define<'a>(
     name: &'a [u8],
     place: Place,
 ) -> Result<(), AllocFailed<(&'a [u8], Place)>>
-    ensures { OnOk result ((q : List ℕ) → named_in labels.new q ≡ first_place (named_in labels.old q)
+    ensures { OnOk result ((q : List ℕ) → named_in labels.new q
+        ≡ first_place (named_in labels.old q)
         (if bytes_eq name.now q then Some place else None)) }
 {
     if labels.contains_key(name) {

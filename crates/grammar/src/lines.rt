@@ -19,7 +19,7 @@ fn comment_start(line: &[u8]) -> Option<usize>
 }
 
 /// The line up to its comment.
-#[tactic(auto, using(crate::proofs::LineLemmas::before_comment_none, crate::proofs::LineLemmas::before_comment_some))]
+#[tactic(auto, using(crate::proofs::Names::comment))]
 pub fn before_comment(line: &[u8]) -> &[u8]
     ensures { result.now ≡ before_comment line.now }
 {

@@ -4,7 +4,14 @@ ghost use Rattle.std.specs.Prelude.{◌≡◌, ◌<◌, ◌≤◌, ◌^◌, nat_
 ghost use Rattle.std.specs.List.{list_all};
 ghost use Rattle.std.specs.Char.{digit_value};
 ghost use Rattle.std.specs.Str.Parse.{digits_value};
-ghost use Rattle.grammar.specs.Numerals.{are_digits, within_128_bits, with_digit, number_of_digits, number_of, at_most};
+ghost use Rattle.grammar.specs.Numerals.{
+  are_digits,
+  within_128_bits,
+  with_digit,
+  number_of_digits,
+  number_of,
+  at_most,
+};
 
 use crate::fault::ListingFaultKind;
 
@@ -34,7 +41,7 @@ fn are_digits(base: u8, token: &[u8]) -> bool
     !token.is_empty() && all_digits(base, token)
 }
 
-/// The number with one more digit behind it; none from 2^128 on.
+/// The number with one more digit after it; `None` at or above 2^128.
 fn with_digit(base: u8, number: Option<u128>, byte: u8) -> Option<u128>
     ensures { result ≡ with_digit base number byte }
 {
@@ -52,7 +59,7 @@ fn with_digits(base: u8, token: &[u8]) -> Option<u128>
         .fold(Some(0), |number, byte| with_digit(base, number, *byte))
 }
 
-/// The number that digits of a base write; none from 2^128 on.
+/// The number that digits of a base write; `None` at or above 2^128.
 #[tactic(auto, using(crate::proofs::NumeralLemmas::digits_folded))]
 fn digits_value(base: u8, token: &[u8]) -> Option<u128>
     requires { 1 ≤ base }
@@ -61,7 +68,8 @@ fn digits_value(base: u8, token: &[u8]) -> Option<u128>
     with_digits(base, token)
 }
 
-/// The number that a token of such digits writes; none from 2^128 on.
+/// The number that a token of such digits writes; `None` at or above 2^128. Fails with `Operand`
+/// where the token is empty or has another byte.
 pub fn number_of_digits(base: u8, token: &[u8]) -> Result<Option<u128>, ListingFaultKind>
     requires { 1 ≤ base }
     ensures { result ≡ number_of_digits base token.now }
@@ -73,7 +81,8 @@ pub fn number_of_digits(base: u8, token: &[u8]) -> Result<Option<u128>, ListingF
     }
 }
 
-/// The number that a token writes, in decimal or behind `0x` in hexadecimal; none from 2^128 on.
+/// The number that a token writes, in decimal or after `0x` in hexadecimal; `None` at or above 2^128.
+/// Fails with `Operand` where the token is no number.
 #[tactic(auto, unfolding(crate::specs::Numerals::number_of))]
 pub fn number_of(token: &[u8]) -> Result<Option<u128>, ListingFaultKind>
     ensures { result ≡ number_of token.now }

@@ -18,10 +18,10 @@ ghost use Rattle.grammar.specs.Operands.{
 
 use crate::fault::ListingFaultKind;
 use crate::numerals::{at_most, number_of};
-use cheri_model::{OType, Reg};
+use cheri_model::{LAST_SEALABLE_TYPE, OType, Reg};
 use std::marker::Model;
 
-/// An immediate as a token writes it: its size has none from 2^128 on.
+/// An immediate as a token writes it. Its size is `None` at or above 2^128.
 #[derive(Clone, Copy)]
 pub struct Immediate {
     pub negative: bool,
@@ -170,7 +170,7 @@ fn memory_operand_from(imm: Immediate, part: &[u8]) -> Result<MemoryOperand, Lis
 }
 
 /// The memory operand that a token writes: an immediate and a register in brackets.
-#[tactic(auto, using(crate::proofs::OperandLemmas::without_bracket, crate::proofs::OperandLemmas::at_bracket), unfolding(crate::specs::Operands::memory_operand_of))]
+#[tactic(auto, using(crate::proofs::Names::bracket), unfolding(crate::specs::Operands::memory_operand_of))]
 pub fn memory_operand_of(token: &[u8]) -> Result<MemoryOperand, ListingFaultKind>
     ensures { result ≡ memory_operand_of token.now }
 {
@@ -202,7 +202,7 @@ pub fn type_in_range(operand: TypeOperand) -> Result<LawfulType, ListingFaultKin
         TypeOperand::Unsealed => Ok(LawfulType::new(OType::unsealed())),
         TypeOperand::Sentry => Ok(LawfulType::new(OType::sentry())),
         TypeOperand::Number(number) => {
-            let number = at_most(0x3FFFB, number)? as u32;
+            let number = at_most(u128::from(LAST_SEALABLE_TYPE), number)? as u32;
             Ok(LawfulType::new(OType::new(number)))
         }
     }

@@ -15,7 +15,7 @@ use cheri_model::Perms;
 use std::str;
 
 /// The permission of this name.
-#[tactic(auto, using(crate::proofs::PermissionTexts::no_name_beyond_text), unfolding(crate::specs::Permissions::permission_named))]
+#[tactic(auto, using(crate::proofs::Names::no_name), unfolding(crate::specs::Permissions::permission_named))]
 fn permission_named(name: &[u8]) -> Option<Perms>
     ensures { option_map (λ perms. perms.0) result ≡ permission_named name.now }
 {
@@ -45,7 +45,7 @@ fn joined_permissions(token: &[u8]) -> Option<Perms>
 }
 
 /// The permission set that a token writes: `all`, `none`, or names joined by `+`.
-#[tactic(auto, unfolding(crate::specs::Permissions::permissions_of, bitflags::specs::Sets::known_from))]
+#[tactic(auto, unfolding(crate::proofs::Open::permissions))]
 pub fn permissions_of(token: &[u8]) -> Result<Perms, ListingFaultKind>
     ensures { result ≡ permissions_of token.now }
 {

@@ -6,7 +6,7 @@ ghost use Rattle.grammar.specs.Tokens.{is_blank, tokens_of, token_at, texts};
 use crate::lines::before_comment;
 use std::alloc::AllocError;
 
-/// Whether a byte parts tokens.
+/// Whether a byte separates tokens.
 #[tactic(auto, unfolding(crate::specs::Tokens::is_blank))]
 fn is_blank(byte: u8) -> bool
     ensures { result ≡ is_blank byte }
@@ -28,7 +28,7 @@ pub fn read_tokens<'a>(line: &'a [u8], tokens: &mut Vec<&'a [u8]>) -> Result<(),
 }
 
 /// The token at a place, and an empty one where there is none.
-#[tactic(auto, using(crate::proofs::TokenLemmas::token_at_text, crate::proofs::TokenLemmas::token_at_none), unfolding(crate::specs::Tokens::token_at))]
+#[tactic(auto, using(crate::proofs::Names::token), unfolding(crate::specs::Tokens::token_at))]
 pub fn token_at<'a>(tokens: &[&'a [u8]], place: usize) -> &'a [u8]
     ensures { result.now ≡ token_at (texts tokens.now) place }
 {

@@ -1,3 +1,5 @@
 pub mod GranuleLemmas
 pub mod ImageLemmas
+pub mod Names
+pub mod Open
 pub mod ReaderLemmas

@@ -8,6 +8,7 @@ use Rattle.cheri_model.specs.Memory.{cleared_memory, is_ram_size, is_in_ram, fit
 use Rattle.grammar.specs.declared.fault.ListingFaultKind.{ListingFaultKind}
 use Rattle.grammar.specs.declared.fault.ListingFaultKind.TheVariants.{Range, Twice, NoHart, Size}
 use Rattle.grammar.specs.declared.capability.CapParts.{CapParts}
+use Rattle.listings.specs.declared.draft.TheConstants.{RAM_SIZE, BYTES_LIMIT}
 use Rattle.listings.specs.declared.draft.Setting.{Setting}
 use Rattle.listings.specs.declared.draft.Setting.TheVariants.{Word, Capability}
 use Rattle.grammar.specs.Faults.{◌>>=◌}
@@ -27,7 +28,7 @@ no_registers = replicate 32 false
 
 -- before the first line
 abbrev pub empty_draft : DraftParts
-empty_draft = record { program = []; harts = []; set = no_registers; memory = cleared_memory 4096; sized = false }
+empty_draft = record { program = []; harts = []; set = no_registers; memory = cleared_memory RAM_SIZE; sized = false }
 
 -- a legal size of RAM
 abbrev pub legal_size : Option ℕ → Result ℕ ListingFaultKind
@@ -99,7 +100,7 @@ stored_bytes memory addr (byte ∷ bytes) = stored_bytes (store_data memory addr
 -- at most 4,096 bytes, wholly in RAM
 unfoldable pub with_bytes : DraftParts → ℕ → List ℕ → Result DraftParts ListingFaultKind
 with_bytes draft addr bytes =
-    if nat_lt 4096 (length bytes) then Err Range
+    if nat_lt BYTES_LIMIT (length bytes) then Err Range
     else if is_in_ram draft.memory addr (length bytes) then
     Ok (record draft { memory = stored_bytes draft.memory addr bytes; sized = true })
     else Err Range

@@ -5,6 +5,7 @@ use Rattle.cheri_model.specs.CapValue.{CapValue}
 use Rattle.cheri_model.specs.Memory.{ram_base}
 use Rattle.cheri_model.specs.Image.{ImageParts}
 use Rattle.cheri_model.specs.ImageForm.{is_listed}
+use Rattle.listings.specs.declared.reader.TheConstants.{LISTING_LIMIT}
 use Rattle.listings.specs.declared.fault.ListingFault.{ListingFault}
 use Rattle.grammar.specs.declared.fault.ListingFaultKind.{ListingFaultKind}
 use Rattle.grammar.specs.declared.fault.ListingFaultKind.TheVariants.{NotAscii, NoHart, Size}
@@ -19,8 +20,8 @@ use Rattle.listings.specs.Draft.{DraftParts, empty_draft}
 abbrev pub whole_fault : ListingFaultKind → ListingFault
 whole_fault kind = record { line = 0; kind = kind }
 
--- What a line of this number makes of what the lines before it made. Its comment is no part of it, but may have no
--- byte beyond ASCII either.
+-- What a line of this number makes of what the lines before it made. Its comment says nothing, but may have no byte
+-- outside ASCII either.
 unfoldable pub line_meaning : PlaceParts → ℕ → DraftParts → List ℕ → Result DraftParts ListingFaultKind
 line_meaning places number draft line =
     if list_all is_plain line then tokens_meaning places number draft (tokens_of line) else Err NotAscii
@@ -57,7 +58,7 @@ finished draft =
 
 -- the most bytes of a listing
 abbrev pub listing_limit : ℕ
-listing_limit = 1048576
+listing_limit = LISTING_LIMIT
 
 -- The meaning of a text as a listing.
 unfoldable pub listing_meaning : List ℕ → Result ImageParts ListingFault

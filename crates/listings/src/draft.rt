@@ -28,10 +28,10 @@ use std::marker::Model;
 use tagged_mem::{MemFault, Ram};
 
 /// The size of RAM in bytes where no line says it.
-const RAM_SIZE: u32 = 4_096;
+pub const RAM_SIZE: u32 = 4_096;
 
 /// The most bytes of one line.
-const BYTES_LIMIT: usize = 4_096;
+pub const BYTES_LIMIT: usize = 4_096;
 
 /// The bytes of a line.
 #[derive(Debug, Drop)]
@@ -69,8 +69,8 @@ impl Setting {
     }
 }
 
-/// The instructions and the harts so far, which registers of the latest hart were set, RAM, and whether
-/// a line has settled its size.
+/// The instructions and the harts so far, which registers of the latest hart were set, RAM, and
+/// whether a line has settled its size.
 #[derive(Drop)]
 pub struct Draft {
     program: Vec<Instr>,
@@ -95,7 +95,8 @@ impl Model for Draft {
       sized = d.sized;
     } };
 
-    ghost invariant = { λ d. (length d.program.items ≤ MAX_INSTRUCTIONS) × (length d.harts.items ≤ MAX_HARTS) };
+    ghost invariant = { λ d. (length d.program.items ≤ MAX_INSTRUCTIONS)
+        × (length d.harts.items ≤ MAX_HARTS) };
 }
 
 /// A hart with this PCC, whose registers are null.
@@ -169,8 +170,7 @@ impl Draft {
         self.add_hart(pcc.value())
     }
 
-    /// The value of a register of the latest hart. The register is not `c0`, of which no hart keeps a
-    /// value.
+    /// The value of a register of the latest hart, not of `c0`, of which no hart keeps a value.
     #[tactic(auto, unfolding(crate::specs::Draft::set_register))]
     fn set_register(mut self, reg: Reg, value: Value) -> Result<Draft, LineFault>
         ensures { GivesLine result (set_register self reg value) }
@@ -240,7 +240,7 @@ impl Draft {
     }
 
     /// The image of all lines.
-    #[tactic(auto, using(crate::proofs::ImageLemmas::image_or_size), unfolding(crate::specs::Meaning::finished))]
+    #[tactic(auto, using(crate::proofs::Names::image), unfolding(crate::specs::Meaning::finished))]
     pub fn finish(self, alloc: Global) -> Result<Image, ListingFault>
         ensures { Gives result (finished self) }
     {

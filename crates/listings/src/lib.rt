@@ -8,7 +8,7 @@ mod reader;
 mod statement;
 
 pub use fault::ListingFault;
-pub use reader::read_listing;
+pub use reader::{LISTING_LIMIT, read_listing};
 
 #[cfg(test)]
 mod tests;

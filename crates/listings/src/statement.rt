@@ -183,7 +183,8 @@ fn instruction_line(
     mnemonic: Mnemonic,
     tokens: &[&[u8]],
 ) -> Result<Draft, LineFault>
-    ensures { GivesLine result (instruction_line (shown places.now) draft mnemonic (texts tokens.now)) }
+    ensures { GivesLine result
+        (instruction_line (shown places.now) draft mnemonic (texts tokens.now)) }
 {
     let form = form_from(places, mnemonic, tokens)?;
     draft.with_instruction(form.instr())
@@ -224,7 +225,7 @@ fn other_line(
 }
 
 /// What a line's tokens make of what the lines before it made. The line has this number.
-#[tactic(auto, using(grammar::proofs::TokenLemmas::length_of_texts), unfolding(crate::specs::Statement::tokens_meaning, crate::specs::Statement::line_from))]
+#[tactic(auto, using(crate::proofs::Names::count), unfolding(crate::proofs::Open::line))]
 pub fn with_line(
     alloc: Global,
     places: &Places<'_>,

@@ -1,1 +1,2 @@
 pub mod HartNumbers
+pub mod Names

@@ -1,6 +1,7 @@
 -- Orders: texts of digits, each of which asks for one step of that hart (this project's own format).
 use Rattle.std.specs.Prelude.{◌≡◌, ℕ, ◌-◌, ◌==◌, nat_lt, nat_le, Bool, not, ◌&&◌, ◌||◌, if◌then◌else◌, List, length, filter_map, position, Option, Some, None, is_none, Result, Ok, Err, Vec, codes, decimal, ◌++◌}
 use Rattle.std.specs.Global.{Global}
+use Rattle.orders.specs.declared.reader.TheConstants.{ORDER_LIMIT}
 use Rattle.orders.specs.declared.fault.OrderFault.{OrderFault}
 use Rattle.orders.specs.declared.fault.OrderFaultKind.{OrderFaultKind}
 use Rattle.orders.specs.declared.fault.OrderFaultKind.TheVariants.{Byte, Size, NoMemory}
@@ -25,7 +26,7 @@ no_memory = record { offset = 0; kind = NoMemory }
 
 -- the most steps that an order may ask for
 abbrev pub order_limit : ℕ
-order_limit = 100000
+order_limit = ORDER_LIMIT
 
 -- the hart of a digit, `0` to `7`
 abbrev pub hart_of_digit : ℕ → Option ℕ

@@ -50,7 +50,7 @@ impl fmt::Display for OrderFaultKind {
     }
 }
 
-/// Why an order was refused, and the offset of the byte that is at fault: 0 where no single byte is.
+/// Why an order was refused, and the offset of the faulty byte: 0 where no single byte is at fault.
 #[derive(Clone, Copy, Debug, PartialEq, Eq, Error)]
 #[error("order byte {offset}: {kind}")]
 pub struct OrderFault {

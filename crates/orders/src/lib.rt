@@ -5,4 +5,4 @@ mod fault;
 mod reader;
 
 pub use fault::{OrderFault, OrderFaultKind};
-pub use reader::read_order;
+pub use reader::{ORDER_LIMIT, read_order};

@@ -7,7 +7,7 @@ use crate::fault::{OrderFault, OrderFaultKind};
 use std::alloc::{AllocError, Global};
 
 /// The most steps that an order may ask for.
-const ORDER_LIMIT: usize = 100_000;
+pub const ORDER_LIMIT: usize = 100_000;
 
 /// The hart of a digit.
 fn hart_of_digit(byte: u8) -> Option<u8>
@@ -49,14 +49,14 @@ fn hart_numbers(alloc: Global, text: &[u8]) -> Result<Vec<u8>, AllocError>
         .collect(alloc)
 }
 
-/// The hart numbers, each below 8, that an order's text asks to step, in turn: one for each digit. Spaces and
-/// newlines are skipped, and any other byte is refused, the first such. Without one, more than 100,000 digits are
-/// refused, at offset 0. Running out of memory says nothing of the text.
-#[tactic(auto, using(crate::proofs::HartNumbers::hart_numbers_below), unfolding(crate::specs::Orders::order_of))]
+/// The hart numbers, each below 8, that an order's text asks to step, in turn: one for each digit.
+/// Spaces and newlines are skipped. The first other byte is refused, by its offset; else more than
+/// [`ORDER_LIMIT`] digits are, at offset 0. Running out of memory says nothing of the text.
+#[tactic(auto, using(crate::proofs::Names::below), unfolding(crate::specs::Orders::order_of))]
 pub fn read_order(alloc: Global, text: &[u8]) -> Result<Vec<u8>, OrderFault>
     ensures meaning { Gives result (order_of text.now) }
     ensures harts { IfOk result (λ order. All (λ hart. hart < 8) order.items) }
-    ensures limit { IfOk result (λ order. length order.items ≤ 100000) }
+    ensures limit { IfOk result (λ order. length order.items ≤ ORDER_LIMIT) }
 {
     if let Some(offset) = first_foreign(text) {
         return Err(OrderFault {

@@ -1,2 +1,3 @@
+pub mod Names
 pub mod WriterLemmas
 pub mod round_trip

@@ -19,3 +19,4 @@ pub mod Ranges
 pub mod FormRanges
 pub mod Drafts
 pub mod Listed
+pub mod Back

@@ -1,5 +1,5 @@
 -- The images that have a listing: what listings can write (this project's own format).
-use Rattle.std.specs.Prelude.{◌≡◌, ⊤, ℕ, ℤ, pos, negsuc, ◌*◌, ◌-◌, ◌^◌, ◌<◌, ◌≤◌, true, List, length}
+use Rattle.std.specs.Prelude.{◌≡◌, ⊤, ℕ, ℤ, pos, negsuc, ◌*◌, ◌-◌, ◌^◌, ◌<◌, ◌≤◌, true, List, length, Ok}
 use Rattle.std.specs.List.{AllByRecursion}
 use Rattle.cheri_model.specs.declared.image.HartImage.{HartImage}
 use Rattle.cheri_model.specs.declared.image.TheConstants.{MAX_HARTS, MAX_INSTRUCTIONS}
@@ -10,7 +10,7 @@ use Rattle.cheri_model.specs.Capability.{IsLawful, unsealed_type}
 use Rattle.cheri_model.specs.CapValue.{CapValue, valid, raw}
 use Rattle.cheri_model.specs.Memory.{ram_base, is_ram_size}
 use Rattle.cheri_model.specs.Image.{ImageParts}
-use Rattle.listings.specs.Meaning.{listed_from}
+use Rattle.listings.specs.Meaning.{listed_from, listing_limit, listing_meaning}
 
 -- any untagged word, and each lawful capability whose flag is 0
 abbrev pub IsWritable : CapValue → Type 0
@@ -63,3 +63,8 @@ pub record IsListable (image : ImageParts) : Type 0 where
   pub readable : AllByRecursion (λ i. IsReadable (length image.program) (form_of i)) image.program
   pub some_instructions : 0 < length image.program
   pub most_instructions : length image.program ≤ MAX_INSTRUCTIONS
+
+-- Where some listing means an image, a text that is no longer than a listing may be means it again.
+abbrev pub ReadsBack : ImageParts → List ℕ → Type 0
+ReadsBack image text =
+    (listing : List ℕ) → listing_meaning listing ≡ Ok image → length text ≤ listing_limit → listing_meaning text ≡ Ok image

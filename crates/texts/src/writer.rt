@@ -21,6 +21,7 @@ ghost use Rattle.hex.specs.Hex.{encode_lower};
 ghost use Rattle.cheri_model.specs.PermissionNames.{permission_table};
 ghost use Rattle.cheri_model.specs.CapValue.{parts_of};
 ghost use Rattle.cheri_model.specs.ImageForm.{is_listed};
+ghost use Rattle.texts.specs.Listable.{ReadsBack};
 ghost use Rattle.texts.specs.Canon.{
   joined_text,
   perms_text,
@@ -39,7 +40,9 @@ ghost use Rattle.texts.specs.Canon.{
 use crate::instructions::InstructionText;
 use bitflags::{Flag, Flags};
 use cap_ops::Cap;
-use cheri_model::{HartImage, Image, Instr, NoMemory, OType, Perms, Value};
+use cheri_model::{
+    HartImage, Image, Instr, NoMemory, OType, Perms, SENTRY_TYPE, UNSEALED_TYPE, Value,
+};
 use std::alloc::Global;
 
 /// What is written before a name, after others or as the first.
@@ -58,7 +61,8 @@ fn write_name(
 ) -> Result<bool, NoMemory>
     ensures { IfOk result (λ after. (rest : List (List ℕ × ℕ)) →
         string_bytes out.new ++ joined_text after perms.0 rest
-        ≡ string_bytes out.old ++ joined_text begun perms.0 ((flag.now.name.now, flag.now.value.0) ∷ rest)) }
+        ≡ string_bytes out.old
+        ++ joined_text begun perms.0 ((flag.now.name.now, flag.now.value.0) ∷ rest)) }
 {
     if !perms.contains(flag.value) {
         return Ok(begun);
@@ -99,8 +103,8 @@ fn write_type(out: &mut String, otype: OType) -> Result<(), NoMemory>
     ensures { OnOk result (string_bytes out.new ≡ string_bytes out.old ++ type_text otype) }
 {
     match otype.number() {
-        0x3FFFF => {}
-        0x3FFFE => out.push_str(" sentry")?,
+        UNSEALED_TYPE => {}
+        SENTRY_TYPE => out.push_str(" sentry")?,
         number => write!(out, " {number}")?,
     }
     Ok(())
@@ -130,7 +134,8 @@ fn write_bytes(alloc: Global, out: &mut String, bytes: &[u8]) -> Result<(), NoMe
 /// Appends the line of a granule.
 #[tactic(auto, unfolding(crate::specs::Canon::granule_line))]
 fn write_granule(alloc: Global, out: &mut String, addr: u64, value: Value) -> Result<(), NoMemory>
-    ensures { OnOk result (string_bytes out.new ≡ string_bytes out.old ++ granule_line (addr, value)) }
+    ensures { OnOk result (string_bytes out.new
+        ≡ string_bytes out.old ++ granule_line (addr, value)) }
 {
     if value.tag() {
         write!(out, ".cap 0x{addr:x} ")?;
@@ -169,7 +174,8 @@ fn write_register(
     number: usize,
     value: Value,
 ) -> Result<(), NoMemory>
-    ensures { OnOk result (string_bytes out.new ≡ string_bytes out.old ++ register_line number value) }
+    ensures { OnOk result (string_bytes out.new
+        ≡ string_bytes out.old ++ register_line number value) }
 {
     if value.tag() || value.bits() != 0 {
         write!(out, ".set c{number} ")?;
@@ -182,7 +188,8 @@ fn write_register(
 /// Appends the lines of the registers c1 to c31.
 fn write_registers(alloc: Global, out: &mut String, values: &[Value]) -> Result<(), NoMemory>
     requires { length values.now < 2 ^ 32 }
-    ensures { OnOk result (string_bytes out.new ≡ string_bytes out.old ++ register_lines 1 values.now) }
+    ensures { OnOk result (string_bytes out.new
+        ≡ string_bytes out.old ++ register_lines 1 values.now) }
 {
     for (place, value) in values.iter().enumerate() {
         write_register(alloc, out, place + 1, *value)?;
@@ -207,7 +214,8 @@ fn write_granules(
     out: &mut String,
     granules: &[(u64, Value)],
 ) -> Result<(), NoMemory>
-    ensures { OnOk result (string_bytes out.new ≡ string_bytes out.old ++ each granule_line granules.now) }
+    ensures { OnOk result (string_bytes out.new
+        ≡ string_bytes out.old ++ each granule_line granules.now) }
 {
     for (addr, value) in granules {
         write_granule(alloc, out, *addr, *value)?;
@@ -217,7 +225,8 @@ fn write_granules(
 
 /// Appends the lines of the harts.
 fn write_harts(alloc: Global, out: &mut String, harts: &[HartImage]) -> Result<(), NoMemory>
-    ensures { OnOk result (string_bytes out.new ≡ string_bytes out.old ++ each hart_lines harts.now) }
+    ensures { OnOk result (string_bytes out.new
+        ≡ string_bytes out.old ++ each hart_lines harts.now) }
 {
     for hart in harts {
         write_hart(alloc, out, hart)?;
@@ -245,17 +254,27 @@ fn write_instructions(out: &mut String, program: &[Instr]) -> Result<(), NoMemor
     Ok(())
 }
 
-/// The canonical listing of an image: RAM's size, the granules, the harts with their registers, and the
-/// program, one line each. Fails only when out of memory. A listing makes no tagged capability with flag 1
-/// and no PCC that is untagged or sealed, so such an image has none that means it.
+/// Appends the lines of an image.
 #[tactic(auto, unfolding(crate::specs::Canon::canon))]
+fn write_image(alloc: Global, out: &mut String, image: &Image) -> Result<(), NoMemory>
+    ensures { OnOk result (string_bytes out.new ≡ string_bytes out.old ++ canon image.now) }
+{
+    writeln!(out, ".ram {}", image.ram())?;
+    write_granules(alloc, out, image.granules())?;
+    write_harts(alloc, out, image.harts())?;
+    write_instructions(out, image.program())
+}
+
+/// The canonical listing of an image: RAM's size, the granules, the harts with their registers, and
+/// the program, one line each. Fails only when out of memory. Where some listing means the image, and
+/// the canonical one is not too long for a listing, it means the image again. No listing makes a tagged
+/// capability with flag 1, or a PCC that is untagged or sealed.
+#[tactic(auto, using(crate::proofs::Names::back))]
 pub fn write_listing(alloc: Global, image: &Image) -> Result<String, NoMemory>
-    ensures { IfOk result (λ text. string_bytes text ≡ canon image.now) }
+    ensures canonical { IfOk result (λ text. string_bytes text ≡ canon image.now) }
+    ensures reads_back { IfOk result (λ text. ReadsBack image.now (string_bytes text)) }
 {
     let mut out = String::new(alloc);
-    writeln!(out, ".ram {}", image.ram())?;
-    write_granules(alloc, &mut out, image.granules())?;
-    write_harts(alloc, &mut out, image.harts())?;
-    write_instructions(&mut out, image.program())?;
+    write_image(alloc, &mut out, image)?;
     Ok(out)
 }

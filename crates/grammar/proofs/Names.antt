@@ -1,0 +1,15 @@
+-- Short names for `using(..)`.
+use Rattle.grammar.proofs.TokenLemmas.{length_of_texts, token_at_text, token_at_none}
+use Rattle.grammar.proofs.LineLemmas.{before_comment_none, before_comment_some}
+use Rattle.grammar.proofs.OperandLemmas.{without_bracket, at_bracket}
+use Rattle.grammar.proofs.PermissionTexts.{no_name_beyond_text}
+
+pub ruleset count = (length_of_texts)
+
+pub ruleset token = (token_at_text, token_at_none)
+
+pub ruleset comment = (before_comment_none, before_comment_some)
+
+pub ruleset bracket = (without_bracket, at_bracket)
+
+pub ruleset no_name = (no_name_beyond_text)
