@@ -5,11 +5,10 @@ ghost use Rattle.std.specs.Prelude.{◌≡◌, ◌^◌, ◌≤◌, ◌++◌, IfO
 ghost use Rattle.cheri_sim.specs.Answers.{yes_or_no, check_line, bounds_line, fields_part};
 ghost use Rattle.cheri_sim.specs.Answers.{bounds_part, decode_line};
 
-use bitflags::Flags;
 use cap_bounds::{Fields, fields, set_bounds};
 use cap_ops::Cap;
 use cheri_model::{Image, NoMemory};
-use reports::{Hex, TypeText};
+use reports::{Hex, HexWord, TypeText};
 use std::alloc::Global;
 use std::fmt;
 
@@ -23,15 +22,6 @@ impl fmt::Display for YesOrNo {
     fn fmt<W: fmt::Write>(&self, f: &mut fmt::Formatter<W>) -> fmt::Result {
         f.write_str(if self.0 { "yes" } else { "no" })
     }
-}
-
-/// The lowest hexadecimal digits of a number, as many as `width` says.
-fn hex(width: usize, number: u128) -> Hex
-    requires { width ≤ 17 }
-    ensures width { result.width ≡ width }
-    ensures number { result.number ≡ number }
-{
-    Hex { number, width }
 }
 
 /// The line of an image: how many harts, bytes of RAM and instructions it has. Fails only when out
@@ -56,10 +46,10 @@ pub fn bounds_text(alloc: Global, base: u64, len: u128) -> Result<String, NoMemo
 {
     let rounded = set_bounds(base, len);
     let (ie, e) = (rounded.ie, rounded.e);
-    let t = hex(3, u128::from(rounded.t));
-    let b = hex(4, u128::from(rounded.b));
-    let low = hex(16, u128::from(rounded.base));
-    let top = hex(17, rounded.top);
+    let t = Hex::new(u128::from(rounded.t), 3);
+    let b = Hex::new(u128::from(rounded.b), 4);
+    let low = HexWord(rounded.base);
+    let top = Hex::of_top(rounded.top);
     let exact = YesOrNo(rounded.exact);
     let mut out = String::new(alloc);
     writeln!(
@@ -75,7 +65,7 @@ fn write_fields(out: &mut String, held: Cap) -> Result<(), NoMemory>
     ensures { OnOk result (string_bytes out.new ≡ string_bytes out.old ++ fields_part held) }
 {
     let Fields { ie, e, .. } = fields(held.high());
-    let perms = hex(5, u128::from(held.perm().bits()));
+    let perms = Hex::of_perms(held.perm());
     let flag = held.flags();
     let otype = TypeText(held.object_type());
     write!(out, "perms={perms} flag={flag} type={otype} ie={ie} e={e}")?;
@@ -88,10 +78,8 @@ fn write_bounds(out: &mut String, held: Cap) -> Result<(), NoMemory>
     ensures { OnOk result (string_bytes out.new ≡ string_bytes out.old ++ bounds_part held) }
 {
     let (base, top) = held.bounds();
-    let base = hex(16, u128::from(base));
-    let top = hex(17, top);
-    let addr = hex(16, u128::from(held.addr()));
-    let len = hex(16, u128::from(held.len()));
+    let (base, top) = (HexWord(base), Hex::of_top(top));
+    let (addr, len) = (HexWord(held.addr()), HexWord(held.len()));
     writeln!(out, " base={base} top={top} addr={addr} len={len}")?;
     Ok(())
 }

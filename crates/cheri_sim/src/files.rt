@@ -3,8 +3,9 @@
 ghost use Rattle.std.specs.Prelude.{◌≡◌, IfOk, Err, None};
 ghost use Rattle.cheri_sim.specs.Files.{KnownFiles, AreBytesOf};
 
-use std::io::ErrorKind;
-use std::{fs, rt};
+use std::fs::{self, OpenFile};
+use std::io::{self, ErrorKind, Read};
+use std::rt;
 
 /// Why a file was not read.
 #[derive(Clone, Copy, Debug, PartialEq, Eq)]
@@ -21,8 +22,9 @@ pub trait Files {
     // What each file holds, where that is known.
     ghost bytes_of: { Self → KnownFiles } = { λ _ _. None };
 
-    /// The bytes of a file.
-    fn read(&mut self, name: &str) -> Result<Vec<u8>, FileFault>
+    /// The bytes of a file. Of one whose content is not known, nothing after its first `most` bytes
+    /// has to be read.
+    fn read(&mut self, name: &str, most: u64) -> Result<Vec<u8>, FileFault>
         ensures bytes { IfOk result (λ bytes. AreBytesOf (bytes_of self.old name.now) bytes.items) }
         ensures unknown { result ≡ Err FileFault.CannotRead → bytes_of self.old name.now ≡ None }
         ensures kept { bytes_of self.new ≡ bytes_of self.old };
@@ -32,9 +34,23 @@ pub trait Files {
 #[derive(Clone, Copy)]
 pub struct SystemFiles<'a, R>(pub &'a R);
 
+/// The first bytes of a file, up to `most`. Room for all of them is taken at once, where the system
+/// tells how many there are.
+fn read_beginning<R: rt::Files + AllocGlobal>(
+    rt: &R,
+    name: &str,
+    most: u64,
+) -> io::Result<Vec<u8>> {
+    let file = fs::open(rt, name)?;
+    let size = file.metadata()?.len().min(most);
+    let mut bytes = Vec::with_capacity(rt.alloc(), size as usize)?;
+    file.take(most).read_to_end(&mut bytes)?;
+    Ok(bytes)
+}
+
 impl<R: rt::Files + AllocGlobal> Files for SystemFiles<'_, R> {
-    fn read(&mut self, name: &str) -> Result<Vec<u8>, FileFault> {
-        match fs::read(self.0, name) {
+    fn read(&mut self, name: &str, most: u64) -> Result<Vec<u8>, FileFault> {
+        match read_beginning(self.0, name, most) {
             Ok(bytes) => Ok(bytes),
             Err(error) if error.kind() == ErrorKind::OutOfMemory => Err(FileFault::NoMemory),
             Err(_) => Err(FileFault::CannotRead),

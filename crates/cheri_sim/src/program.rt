@@ -22,7 +22,7 @@ use crate::runs::print_run;
 use cheri_model::{ADDRESS_SPACE, NoMemory};
 use command_line::{ReportForm, Request, parse};
 use grammar::numerals::number_of;
-use listings::read_listing;
+use listings::{LISTING_LIMIT, read_listing};
 use std::alloc::Global;
 use std::io::{self, Write};
 use std::sync::Wait;
@@ -34,14 +34,25 @@ const GREATEST_ADDRESS: u128 = ADDRESS_SPACE - 1;
 /// The greatest word of a value.
 const GREATEST_WORD: u128 = u128::MAX;
 
-/// The bytes of a file, or this fault where it cannot be read.
-fn read<F: Files>(files: &mut F, name: &str, cannot_read: Fault) -> Result<Vec<u8>, Fault>
+/// One byte more than a listing has at most: where a file has more, its first bytes say so.
+const LISTING_READ: u64 = LISTING_LIMIT as u64 + 1;
+
+/// An order may have any number of bytes.
+const ORDER_READ: u64 = u64::MAX;
+
+/// The bytes of a file, of which the first `most` are wanted, or this fault where it cannot be read.
+fn read<F: Files>(
+    files: &mut F,
+    name: &str,
+    most: u64,
+    cannot_read: Fault,
+) -> Result<Vec<u8>, Fault>
     ensures bytes { IfOk result (λ bytes. AreBytesOf (F.bytes_of files.old name.now) bytes.items) }
     ensures kept { F.bytes_of files.new ≡ F.bytes_of files.old }
     ensures refused { IfErr result (λ fault. (fault ≡ Fault.NoMemory)
         ⊎ ((fault ≡ cannot_read) × (F.bytes_of files.old name.now ≡ None))) }
 {
-    match files.read(name) {
+    match files.read(name, most) {
         Ok(bytes) => Ok(bytes),
         Err(FileFault::CannotRead) => Err(cannot_read),
         Err(FileFault::NoMemory) => Err(Fault::NoMemory),
@@ -63,7 +74,7 @@ fn check<F: Files, O: Write>(
         (O.contents out.old) (O.contents out.new)) }
     ensures command { result ≢ Err Fault.Usage }
 {
-    let bytes = read(files, listing, Fault::CannotReadListing)?;
+    let bytes = read(files, listing, LISTING_READ, Fault::CannotReadListing)?;
     let image = read_listing(alloc, bytes.as_slice())?;
     print(out, check_text(alloc, &image)?.as_str())
 }
@@ -86,8 +97,8 @@ fn run<F: Files, O: Write>(
         (O.contents out.old) (O.contents out.new)) }
     ensures command { result ≢ Err Fault.Usage }
 {
-    let listing_bytes = read(files, listing, Fault::CannotReadListing)?;
-    let order_bytes = read(files, order, Fault::CannotReadOrder)?;
+    let listing_bytes = read(files, listing, LISTING_READ, Fault::CannotReadListing)?;
+    let order_bytes = read(files, order, ORDER_READ, Fault::CannotReadOrder)?;
     let refused = print_run(
         alloc,
         form,
@@ -118,7 +129,7 @@ fn race<F: Files, O: Write, R: Threads + Wait + Sync>(
         (O.contents out.old) (O.contents out.new)) }
     ensures command { result ≢ Err Fault.Usage }
 {
-    let text = read(files, listing, Fault::CannotReadListing)?;
+    let text = read(files, listing, LISTING_READ, Fault::CannotReadListing)?;
     print_race(rt, alloc, text.as_slice(), turns, out)
 }
 
@@ -221,8 +232,8 @@ pub fn report_fault<E: Write>(err: &mut E, fault: Fault) -> u8
 /// Does what the words of a command line ask for, which are those after the program's name, and
 /// gives the exit status: 0 where it was done, 1 where a number, a text or a step was refused, 2
 /// where the command line was, and 3 for every other fault. With status 0 `out` got the whole
-/// answer and `err` nothing. Only a race starts threads and waits. With any other status `err` gets the one line of the fault; a write to
-/// `err` that fails does not change the status.
+/// answer and `err` nothing. With any other status `err` gets the one line of the fault; a write to
+/// `err` that fails does not change the status. Only a race starts threads and waits.
 #[tactic(auto, using(crate::proofs::ProgramLemmas::fails_with))]
 pub fn perform<F: Files, O: Write, E: Write, R: Threads + Wait + Sync>(
     rt: &R,

@@ -73,46 +73,9 @@ fn simulate_to<O: Write>(
     ran
 }
 
-/// Prints the run as a text, while it is made.
-#[tactic(auto, using(crate::proofs::RunLemmas::text_runs))]
-fn print_text<O: Write>(
-    alloc: Global,
-    listing: &[u8],
-    order: &[u8],
-    out: &mut O,
-) -> Result<Option<(usize, StepFault)>, Fault>
-    ensures printed { IfOk result (λ end.
-        Prints (λ text. IsShown ReportForm.Text listing.now order.now text end)
-        (O.contents out.old) (O.contents out.new)) }
-    ensures failed { IfErr result (λ fault.
-        IsUnprinted listing.now order.now (O.contents out.old) (O.contents out.new) fault) }
-{
-    let refused = simulate_to(alloc, listing, order, out)?;
-    flush(out)?;
-    Ok(refused)
-}
-
-/// Prints the run as JSON.
-#[tactic(auto, using(crate::proofs::RunLemmas::json_runs))]
-fn print_json<O: Write>(
-    alloc: Global,
-    listing: &[u8],
-    order: &[u8],
-    out: &mut O,
-) -> Result<Option<(usize, StepFault)>, Fault>
-    ensures printed { IfOk result (λ end.
-        Prints (λ text. IsShown ReportForm.Json listing.now order.now text end)
-        (O.contents out.old) (O.contents out.new)) }
-    ensures failed { IfErr result (λ fault.
-        IsUnprinted listing.now order.now (O.contents out.old) (O.contents out.new) fault) }
-{
-    let (report, refused) = simulate_json(alloc, listing, order)?;
-    print(out, report.as_str())?;
-    Ok(refused)
-}
-
-/// Runs a listing in an order, and prints its report in this form. Answers the step that was
-/// refused, if one was.
+/// Runs a listing in an order, and prints its report in this form: a text is written while it is
+/// made, JSON when it is whole. Answers the step that was refused, if one was.
+#[tactic(auto, using(crate::proofs::RunLemmas::text_runs, crate::proofs::RunLemmas::json_runs))]
 pub fn print_run<O: Write>(
     alloc: Global,
     form: ReportForm,
@@ -127,7 +90,15 @@ pub fn print_run<O: Write>(
         IsUnprinted listing.now order.now (O.contents out.old) (O.contents out.new) fault) }
 {
     match form {
-        ReportForm::Text => print_text(alloc, listing, order, out),
-        ReportForm::Json => print_json(alloc, listing, order, out),
+        ReportForm::Text => {
+            let refused = simulate_to(alloc, listing, order, out)?;
+            flush(out)?;
+            Ok(refused)
+        }
+        ReportForm::Json => {
+            let (report, refused) = simulate_json(alloc, listing, order)?;
+            print(out, report.as_str())?;
+            Ok(refused)
+        }
     }
 }

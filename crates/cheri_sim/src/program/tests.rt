@@ -56,7 +56,7 @@ struct Folder<'a> {
 }
 
 impl Files for Folder<'_> {
-    fn read(&mut self, name: &str) -> Result<Vec<u8>, FileFault> {
+    fn read(&mut self, name: &str, _most: u64) -> Result<Vec<u8>, FileFault> {
         if name == self.too_large {
             return Err(FileFault::NoMemory);
         }
@@ -108,6 +108,44 @@ fn owned(alloc: Global, words: &[&str]) -> Result<Vec<String>, Fail> {
     Ok(all)
 }
 
+/// What a run leaves: its status, and what it writes to standard output and standard error.
+#[derive(Drop)]
+struct Finished {
+    status: u8,
+    printed: Vec<u8>,
+    reported: Vec<u8>,
+}
+
+/// Runs words over files, of which one, where it is named, takes more memory than there is.
+fn answer<R: AllocGlobal + Threads + Wait + Sync>(
+    rt: &R,
+    words: &[&str],
+    files: &[(&str, &str)],
+    too_large: &str,
+) -> Result<Finished, Fail> {
+    let alloc = rt.alloc();
+    let words = owned(alloc, words)?;
+    let mut folder = Folder {
+        alloc,
+        files,
+        too_large,
+    };
+    let (mut printed, mut reported) = (Vec::new(alloc), Vec::new(alloc));
+    let status = perform(
+        rt,
+        alloc,
+        words.as_slice(),
+        &mut folder,
+        &mut printed,
+        &mut reported,
+    );
+    Ok(Finished {
+        status,
+        printed,
+        reported,
+    })
+}
+
 /// Compares a run with its status and with what it writes to standard output and standard error.
 fn compare<R: Abort + AllocGlobal + Threads + Wait + Sync>(
     rt: &R,
@@ -115,18 +153,18 @@ fn compare<R: Abort + AllocGlobal + Threads + Wait + Sync>(
     files: &[(&str, &str)],
     wanted: (u8, &str, &str),
 ) -> Result<(), Fail> {
-    let alloc = rt.alloc();
     let (status, printed, reported) = wanted;
-    let all = owned(alloc, words)?;
-    let (mut out, mut err) = (Vec::new(alloc), Vec::new(alloc));
-    let mut folder = Folder {
-        alloc,
-        files,
-        too_large: "",
-    };
-    let given = perform(rt, alloc, all.as_slice(), &mut folder, &mut out, &mut err);
-    assert_eq!(rt; str::from_utf8(err.as_slice())?, reported, "{words:?}");
-    assert_eq!(rt; str::from_utf8(out.as_slice())?, printed, "{words:?}");
-    assert_eq!(rt; given, status, "{words:?}");
+    let given = answer(rt, words, files, "")?;
+    assert_eq!(rt;
+        str::from_utf8(given.reported.as_slice())?,
+        reported,
+        "{words:?}"
+    );
+    assert_eq!(rt;
+        str::from_utf8(given.printed.as_slice())?,
+        printed,
+        "{words:?}"
+    );
+    assert_eq!(rt; given.status, status, "{words:?}");
     Ok(())
 }

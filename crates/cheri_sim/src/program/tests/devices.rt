@@ -1,7 +1,7 @@
 //! Files that cannot be read, and output that is not taken.
 
 use crate::program::perform;
-use crate::program::tests::{FIRST, Folder, Full, RUN, Unflushed, compare, owned};
+use crate::program::tests::{FIRST, Folder, Full, RUN, Unflushed, answer, compare, owned};
 use std::str;
 use std::test::Fail;
 
@@ -110,26 +110,11 @@ fn full_answers(rt: HostRuntime) -> Result<(), Fail> {
 /// A file larger than memory is `memory`.
 #[test]
 fn large_files(rt: HostRuntime) -> Result<(), Fail> {
-    let alloc = rt.alloc();
-    let words = owned(alloc, &RUN)?;
     for too_large in ["listing", "order"] {
         let files = [("listing", FIRST), ("order", "")];
-        let mut folder = Folder {
-            alloc,
-            files: &files,
-            too_large,
-        };
-        let (mut out, mut err) = (Vec::new(alloc), Vec::new(alloc));
-        let status = perform(
-            &rt,
-            alloc,
-            words.as_slice(),
-            &mut folder,
-            &mut out,
-            &mut err,
-        );
-        assert_eq!(rt; (status, out.len()), (3, 0));
-        assert_eq!(rt; str::from_utf8(err.as_slice())?, "memory\n");
+        let refused = answer(&rt, &RUN, &files, too_large)?;
+        assert_eq!(rt; (refused.status, refused.printed.len()), (3, 0));
+        assert_eq!(rt; str::from_utf8(refused.reported.as_slice())?, "memory\n");
     }
     Ok(())
 }

@@ -1,33 +1,18 @@
 //! Races of a listing's harts.
 
 use crate::program::perform;
-use crate::program::tests::{FIRST, Folder, Full, compare, owned};
+use crate::program::tests::{FIRST, Folder, Full, answer, compare, owned};
 use std::str;
 use std::test::Fail;
 
 /// Whichever hart goes first, each of the two takes its four instructions, and halts.
 #[test]
 fn both_harts_halt(rt: HostRuntime) -> Result<(), Fail> {
-    let alloc = rt.alloc();
     for turns in ["4", "0000000000000000000000004", "100000"] {
-        let words = owned(alloc, &["race", "listing", "--turns", turns])?;
-        let files = [("listing", FIRST)];
-        let mut folder = Folder {
-            alloc,
-            files: &files,
-            too_large: "",
-        };
-        let (mut out, mut err) = (Vec::new(alloc), Vec::new(alloc));
-        let status = perform(
-            &rt,
-            alloc,
-            words.as_slice(),
-            &mut folder,
-            &mut out,
-            &mut err,
-        );
-        let printed = str::from_utf8(out.as_slice())?;
-        assert_eq!(rt; (status, err.len()), (0, 0));
+        let words = ["race", "listing", "--turns", turns];
+        let raced = answer(&rt, &words, &[("listing", FIRST)], "")?;
+        let printed = str::from_utf8(raced.printed.as_slice())?;
+        assert_eq!(rt; (raced.status, raced.reported.len()), (0, 0));
         assert!(rt;
             printed.starts_with("cheri-sim report 1\nimage harts=2 ram=4096 code=4\nentries 8\n")
         );
@@ -41,25 +26,10 @@ fn both_harts_halt(rt: HostRuntime) -> Result<(), Fail> {
 /// A hart takes at most its turns.
 #[test]
 fn turns_end(rt: HostRuntime) -> Result<(), Fail> {
-    let alloc = rt.alloc();
-    let words = owned(alloc, &["race", "--turns=3", "listing"])?;
-    let files = [("listing", FIRST)];
-    let mut folder = Folder {
-        alloc,
-        files: &files,
-        too_large: "",
-    };
-    let (mut out, mut err) = (Vec::new(alloc), Vec::new(alloc));
-    let status = perform(
-        &rt,
-        alloc,
-        words.as_slice(),
-        &mut folder,
-        &mut out,
-        &mut err,
-    );
-    let printed = str::from_utf8(out.as_slice())?;
-    assert_eq!(rt; (status, err.len()), (0, 0));
+    let words = ["race", "--turns=3", "listing"];
+    let raced = answer(&rt, &words, &[("listing", FIRST)], "")?;
+    let printed = str::from_utf8(raced.printed.as_slice())?;
+    assert_eq!(rt; (raced.status, raced.reported.len()), (0, 0));
     assert!(rt; printed.contains("\nentries 6\n"));
     assert!(rt; printed.contains("\nhart 0 running\n"));
     assert!(rt; printed.contains("\nhart 1 running\n"));

@@ -62,6 +62,21 @@ fn orders(rt: HostRuntime) -> Result<(), Fail> {
     Ok(())
 }
 
+/// An order of more than 100,000 steps is refused as a whole, unless one of its bytes is faulty.
+#[test]
+fn long_orders(rt: HostRuntime) -> Result<(), Fail> {
+    let mut order = String::new(rt.alloc());
+    for _ in 0..100_001 {
+        order.push('0')?;
+    }
+    for reported in ["order byte 0: 2 Size\n", "order byte 100001: 1 Byte\n"] {
+        let files = [("listing", FIRST), ("order", order.as_str())];
+        compare(&rt, &RUN, &files, (1, "", reported))?;
+        order.push('8')?;
+    }
+    Ok(())
+}
+
 /// A faulty listing is reported by its line, by `check` as by `run`, and nothing is printed.
 #[test]
 fn listings(rt: HostRuntime) -> Result<(), Fail> {
@@ -74,6 +89,10 @@ fn listings(rt: HostRuntime) -> Result<(), Fail> {
         (
             ".hart 0x10000000000000000 0 0 none\n",
             "listing line 1: 4 Range\n",
+        ),
+        (
+            ".hart 0 0 0 none\nbeq c0, c0, away\n",
+            "listing line 2: 5 Label\n",
         ),
         (
             ".hart 0 0 0 none\n.set c5 cap 0 0 0 none\n.set c5 cap 0 0 0 none\n",
