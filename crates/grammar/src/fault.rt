@@ -4,7 +4,8 @@ ghost use Rattle.std.specs.Prelude.{◌≡◌};
 
 use std::fmt;
 
-/// What is wrong with a line of a listing. Where several kinds hold of one line, the least is reported.
+/// What is wrong with a line of a listing. Where several kinds hold of one line, the least is
+/// reported.
 #[derive(Clone, Copy, Debug, PartialEq, Eq)]
 pub enum ListingFaultKind {
     /// A byte of the line, its comment included, is neither a tab nor from 0x20 to 0x7E.

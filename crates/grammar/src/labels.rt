@@ -38,7 +38,8 @@ use cheri_model::Target;
 use std::alloc::{AllocError, AllocFailed, Global};
 use std::collections::HashMap;
 
-/// Where a name is defined: the line's number, from 1 on, and how many instruction lines precede it.
+/// Where a name is defined: the line's number, from 1 on, and how many instruction lines are before
+/// it.
 #[derive(Clone, Copy)]
 pub struct Place {
     pub line: usize,

@@ -81,7 +81,7 @@ pub fn number_of_digits(base: u8, token: &[u8]) -> Result<Option<u128>, ListingF
     }
 }
 
-/// The number that a token writes, in decimal or after `0x` in hexadecimal; `None` at or above 2^128.
+/// The number that a token writes, in decimal or after `0x` in hexadecimal; `None` from 2^128 on.
 /// Fails with `Operand` where the token is no number.
 #[tactic(auto, unfolding(crate::specs::Numerals::number_of))]
 pub fn number_of(token: &[u8]) -> Result<Option<u128>, ListingFaultKind>

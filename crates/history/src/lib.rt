@@ -1,5 +1,5 @@
-//! The order of a machine's operations, as it exists in proofs alone: it only grows, one keeper adds
-//! to it, and whatever anybody has seen of it is a beginning of it.
+//! The order of a machine's operations, as it exists in proofs alone: it only grows, one keeper
+//! adds to it, and whatever anybody has seen of it is a beginning of it.
 #![tactic(auto)]
 
 mod keeper;

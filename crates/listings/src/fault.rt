@@ -6,7 +6,8 @@ use grammar::fault::ListingFaultKind;
 use std::alloc::{AllocError, AllocFailed};
 use thiserror::Error;
 
-/// Why a listing was refused, and the faulty line, counted from 1: 0 where no single line is at fault.
+/// Why a listing was refused, and the faulty line, counted from 1: 0 where no single line is at
+/// fault.
 #[derive(Clone, Copy, Debug, PartialEq, Eq, Error)]
 #[error("listing line {line}: {kind}")]
 pub struct ListingFault {

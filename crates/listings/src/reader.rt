@@ -59,9 +59,9 @@ fn read_lines(alloc: Global, places: &Places<'_>, text: &[u8]) -> Result<Draft, 
 }
 
 /// The image that a listing describes: what its lines say, one after another, or the first faulty
-/// line's fault, of which the least kind is reported. A listing of more than [`LISTING_LIMIT`] bytes
-/// is refused before any line is read; one without a hart, and then one without an instruction, is
-/// refused after its last line. Running out of memory says nothing of the listing.
+/// line's fault, of which the least kind is reported. A listing of more than [`LISTING_LIMIT`]
+/// bytes is refused before any line is read; one without a hart, and then one without an
+/// instruction, is refused after its last line. Running out of memory says nothing of the listing.
 #[tactic(auto, unfolding(crate::specs::Meaning::listing_meaning))]
 pub fn read_listing(alloc: Global, text: &[u8]) -> Result<Image, ListingFault>
     ensures { Gives result (listing_meaning text.now) }

@@ -76,7 +76,8 @@ pub fn publish<J: Naming, R: Wait>(copies: Copies<J>, rt: &R) -> (Copies<J>, ())
 /// none, watchers get no look until a later operation tells.
 pub fn tell<J: Naming>(copies: &mut Copies<J>, token: Token)
     ensures shown { copies.new.desk ≡ copies.old.desk }
-    ensures pending { (drop copies.new.behind copies.new.log.items ≡ drop copies.old.behind copies.old.log.items)
+    ensures pending { (drop copies.new.behind copies.new.log.items
+        ≡ drop copies.old.behind copies.old.log.items)
         ⊎ (drop copies.new.behind copies.new.log.items
         ≡ drop copies.old.behind copies.old.log.items ++ Tell token ∷ []) }
 {

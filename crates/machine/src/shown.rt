@@ -1,5 +1,5 @@
-//! What watchers read of a machine: one of two copies of its core, beside what was seen of the order
-//! of its operations.
+//! What watchers read of a machine: one of two copies of its core, beside what was seen of the
+//! order of its operations.
 
 use crate::cores::Core;
 use history::{Operation, Token};

@@ -153,8 +153,8 @@ impl<J: Naming> Watch<J> {
     }
 }
 
-/// A look at a machine: the core that it lends stays as it is until the look ends. Contracts see the
-/// core.
+/// A look at a machine: the core that it lends stays as it is until the look ends. Contracts see
+/// the core.
 pub struct Look<J: Naming> {
     reading: CopyReading<J>,
     seen: Receipt<J>,

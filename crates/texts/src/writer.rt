@@ -266,9 +266,9 @@ fn write_image(alloc: Global, out: &mut String, image: &Image) -> Result<(), NoM
 }
 
 /// The canonical listing of an image: RAM's size, the granules, the harts with their registers, and
-/// the program, one line each. Fails only when out of memory. Where some listing means the image, and
-/// the canonical one is not too long for a listing, it means the image again. No listing makes a tagged
-/// capability with flag 1, or a PCC that is untagged or sealed.
+/// the program, one line each. Fails only when out of memory. Where some listing means the image,
+/// and the canonical one is not too long for a listing, it means the image again. No listing makes
+/// a tagged capability with flag 1, or a PCC that is untagged or sealed.
 #[tactic(auto, using(crate::proofs::Names::back))]
 pub fn write_listing(alloc: Global, image: &Image) -> Result<String, NoMemory>
     ensures canonical { IfOk result (λ text. string_bytes text ≡ canon image.now) }
