@@ -1,5 +1,5 @@
 -- Faults of the crates below as faults of the program: what they say is so.
-use Rattle.std.proofs.Common.{◌≡◌, ◌≢◌, subst, ℕ, List, Option, Some, None, Ok, Err, Result, refl, inl, inr}
+use Rattle.std.proofs.Common.{◌≡◌, ◌≢◌, subst, ℕ, Bool, true, false, List, Option, Some, None, Ok, Err, Result, refl, inl, inr}
 use Rattle.std.specs.Prelude.{OnOk, IfErr}
 use Rattle.listings.specs.declared.fault.ListingFault.{ListingFault}
 use Rattle.listings.specs.Faults.{Gives}
@@ -14,7 +14,7 @@ use Rattle.cheri_sim.specs.declared.faults.Fault.TheVariants as faults
 use Rattle.cheri_sim.specs.Faults.{status_of, command_fault, listing_fault}
 use Rattle.cheri_sim.specs.Files.{KnownFiles, AreBytesOf}
 use Rattle.cheri_sim.specs.Printing.{Prints}
-use Rattle.cheri_sim.specs.Program.{Begins, Fails, FailsAlone, FailsWith, IsRaceAnswer, IsRunAnswer}
+use Rattle.cheri_sim.specs.Program.{Begins, Fails, FailsAlone, FailsWith, IsQuiet, IsRaceAnswer, IsRunAnswer}
 use Rattle.cheri_sim.specs.Races.{IsRace, IsUnraced}
 use Rattle.cheri_sim.specs.Runs.{IsShown, IsUnprinted}
 use Rattle.cheri_sim.proofs.FaultLemmas.{listing_refused}
@@ -26,7 +26,7 @@ unfolding Begins
 nothing_printed files None old new same = same
 nothing_printed files (Some (Check listing)) old new same = same
 nothing_printed files (Some (Run listing order form)) old new same = inl same
-nothing_printed files (Some (Race listing turns)) old new same = inl same
+nothing_printed files (Some (Race listing turns watch)) old new same = inl same
 nothing_printed files (Some (Bounds base len)) old new same = same
 nothing_printed files (Some (Decode word)) old new same = same
 
@@ -99,35 +99,41 @@ race_answers_for files listing turns bytes (Ok done) old new are printed =
 race_answers_for files listing turns bytes (Err fault) old new are printed = tt
 
 -- a race that was not printed whole
-race_fails_for : (files : KnownFiles) (listing : List ℕ) (turns : ℕ) (bytes : List ℕ) (fault : Fault) (old new : Option (List ℕ)) →
-    AreBytesOf (files listing) bytes → IsUnraced bytes turns old new fault → Fails files (Some (Race listing turns)) fault old new
+race_fails_for : (files : KnownFiles) (listing : List ℕ) (turns : ℕ) (watch : Bool) (bytes : List ℕ) (fault : Fault) (old new : Option (List ℕ)) →
+    AreBytesOf (files listing) bytes → IsUnraced bytes turns old new fault → Fails files (Some (Race listing turns watch)) fault old new
 unfolding Begins
-race_fails_for files listing turns bytes faults.NoMemory old new are (inl same) = inl same
-race_fails_for files listing turns bytes faults.NoMemory old new are (inr begun) =
+race_fails_for files listing turns watch bytes faults.NoMemory old new are (inl same) = inl same
+race_fails_for files listing turns watch bytes faults.NoMemory old new are (inr begun) =
     inr (begun.0, record { bytes = bytes; bytes_are = are; race = begun.1 }, begun.2)
-race_fails_for files listing turns bytes faults.CannotWrite old new are is = tt
-race_fails_for files listing turns bytes faults.CannotStart old new are is = (refl, is)
-race_fails_for files listing turns bytes faults.ImageDiffers old new are is = (refl, is)
-race_fails_for files listing turns bytes (faults.Listing fault) old new are is = ((bytes, are, is.0), is.1)
-race_fails_for files listing turns bytes faults.Usage old new are is = absurd is
-race_fails_for files listing turns bytes faults.BadNumber old new are is = absurd is
-race_fails_for files listing turns bytes faults.CannotReadListing old new are is = absurd is
-race_fails_for files listing turns bytes faults.CannotReadOrder old new are is = absurd is
-race_fails_for files listing turns bytes (faults.Order fault) old new are is = absurd is
-race_fails_for files listing turns bytes (faults.Step place fault) old new are is = absurd is
+race_fails_for files listing turns watch bytes faults.CannotWrite old new are is = tt
+race_fails_for files listing turns watch bytes faults.CannotStart old new are is = (refl, is)
+race_fails_for files listing turns watch bytes faults.ImageDiffers old new are is = (refl, is)
+race_fails_for files listing turns watch bytes (faults.Listing fault) old new are is = ((bytes, are, is.0), is.1)
+race_fails_for files listing turns watch bytes faults.Usage old new are is = absurd is
+race_fails_for files listing turns watch bytes faults.BadNumber old new are is = absurd is
+race_fails_for files listing turns watch bytes faults.CannotReadListing old new are is = absurd is
+race_fails_for files listing turns watch bytes faults.CannotReadOrder old new are is = absurd is
+race_fails_for files listing turns watch bytes (faults.Order fault) old new are is = absurd is
+race_fails_for files listing turns watch bytes (faults.Step place fault) old new are is = absurd is
 
-pub race_fails : {T : Type 0} (files : KnownFiles) (listing : List ℕ) (turns : ℕ) (bytes : List ℕ) (result : Result T Fault)
+pub race_fails : {T : Type 0} (files : KnownFiles) (listing : List ℕ) (turns : ℕ) (watch : Bool) (bytes : List ℕ) (result : Result T Fault)
     (old new : Option (List ℕ)) → AreBytesOf (files listing) bytes → IfErr result (λ fault. IsUnraced bytes turns old new fault) →
-    IfErr result (λ fault. Fails files (Some (Race listing turns)) fault old new)
-race_fails files listing turns bytes (Ok done) old new are is = tt
-race_fails files listing turns bytes (Err fault) old new are is = race_fails_for files listing turns bytes fault old new are is
+    IfErr result (λ fault. Fails files (Some (Race listing turns watch)) fault old new)
+race_fails files listing turns watch bytes (Ok done) old new are is = tt
+race_fails files listing turns watch bytes (Err fault) old new are is = race_fails_for files listing turns watch bytes fault old new are is
 
 pub race_no_usage : {T : Type 0} (bytes : List ℕ) (turns : ℕ) (result : Result T Fault) (old new : Option (List ℕ)) →
     IfErr result (λ fault. IsUnraced bytes turns old new fault) → result ≢ Err faults.Usage
 race_no_usage {T} bytes turns result old new is usage =
     absurd (subst (λ (r : Result T Fault). IfErr r (λ fault. IsUnraced bytes turns old new fault)) usage is)
 
-pub ruleset race_answers = (nothing_printed, race_answers_for, race_fails, race_no_usage)
+-- a race that is not watched leaves standard error alone
+pub race_is_quiet : (listing : List ℕ) (turns : ℕ) (watch : Bool) (old new : Option (List ℕ)) → (watch ≡ false → new ≡ old) →
+    IsQuiet (Some (Race listing turns watch)) old new
+race_is_quiet listing turns true old new same = tt
+race_is_quiet listing turns false old new same = same refl
+
+pub ruleset race_answers = (nothing_printed, race_answers_for, race_fails, race_no_usage, race_is_quiet)
 
 -- words that ask for nothing
 pub command_fails : {X : Type 0} (files : KnownFiles) (request : Option Asked) (result : Result X CommandFault)

@@ -64,7 +64,7 @@ pub record IsDecodeAnswer (word : List ℕ) (text : List ℕ) : Type 0 where
 abbrev pub IsAnswer : KnownFiles → Asked → List ℕ → Type 0
 IsAnswer files (Check listing) text = IsCheckAnswer files listing text
 IsAnswer files (Run listing order form) text = IsRunAnswer files listing order form None text
-IsAnswer files (Race listing turns) text = IsRaceAnswer files listing turns text
+IsAnswer files (Race listing turns watch) text = IsRaceAnswer files listing turns text
 IsAnswer files (Bounds base len) text = IsBoundsAnswer base len text
 IsAnswer files (Decode word) text = IsDecodeAnswer word text
 
@@ -88,7 +88,7 @@ HasBadNumber _ = ⊥
 abbrev pub listing_named : Option Asked → Option (List ℕ)
 listing_named (Some (Check listing)) = Some listing
 listing_named (Some (Run listing order form)) = Some listing
-listing_named (Some (Race listing turns)) = Some listing
+listing_named (Some (Race listing turns watch)) = Some listing
 listing_named _ = None
 
 abbrev pub order_named : Option Asked → Option (List ℕ)
@@ -123,13 +123,18 @@ OfFiles files listing order IsSo =
 unfoldable pub Begins : KnownFiles → Option Asked → Option (List ℕ) → Option (List ℕ) → Type 0
 Begins files (Some (Run listing order form)) old new =
     (new ≡ old) ⊎ OfFiles files listing order (λ first second. BeginsRun first second old new)
-Begins files (Some (Race listing turns)) old new = (new ≡ old) ⊎ PrintsBeginning (IsRaceAnswer files listing turns) old new
+Begins files (Some (Race listing turns watch)) old new = (new ≡ old) ⊎ PrintsBeginning (IsRaceAnswer files listing turns) old new
 Begins files _ old new = new ≡ old
 
 -- whether a race was asked for
 abbrev pub is_race : Option Asked → Bool
-is_race (Some (Race listing turns)) = true
+is_race (Some (Race listing turns watch)) = true
 is_race _ = false
+
+-- What standard error got where a request was done: nothing, or for a watched race a line that may not have been taken.
+abbrev pub IsQuiet : Option Asked → Option (List ℕ) → Option (List ℕ) → Type 0
+IsQuiet (Some (Race listing turns true)) old new = ⊤
+IsQuiet _ old new = new ≡ old
 
 -- A request fails for this reason, which leaves standard output so. Nothing is known after a failed write; before a
 -- refused step its report was printed; where memory ran out, a beginning of a report may have been; every other fault

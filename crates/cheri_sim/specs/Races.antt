@@ -1,5 +1,5 @@
 -- The race of a listing's harts, and what is printed of it.
-use Rattle.std.specs.Prelude.{◌≡◌, ℕ, List, length, Option, Ok, Err, ◌⊎◌, ⊤}
+use Rattle.std.specs.Prelude.{◌≡◌, ℕ, List, ◌++◌, codes, decimal, length, Option, Ok, Err, ◌⊎◌, ⊤}
 use Rattle.cheri_model.specs.Image.{ImageParts}
 use Rattle.cheri_model.specs.Replay.{IsReplay}
 use Rattle.listings.specs.Meaning.{listing_meaning}
@@ -22,6 +22,10 @@ pub record IsRace (listing : List ℕ) (turns : ℕ) (text : List ℕ) : Type 0 
   pub replay : IsReplay core.image core.trace core.state
   pub reports_are : AreReports turns core.trace (length image.harts) reports
   pub text_is : text ≡ report core.image core.trace core.state
+
+-- what standard error says of a watched race
+abbrev pub looks_text : ℕ → List ℕ
+looks_text looks = codes "watch looks=" ++ decimal looks
 
 -- A race was not printed whole: for this fault, which left the writer's known bytes so.
 abbrev pub IsUnraced : List ℕ → ℕ → Option (List ℕ) → Option (List ℕ) → Fault → Type 0

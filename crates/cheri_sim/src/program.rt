@@ -1,6 +1,6 @@
 //! The program: runs one command, or reports why it failed.
 
-ghost use Rattle.std.specs.Prelude.{◌≡◌, ◌≢◌, ◌≤◌, ◌⊎◌, IfOk, IfErr, OnOk, Err, Some, None};
+ghost use Rattle.std.specs.Prelude.{None, ◌≡◌, ◌≢◌, ◌≤◌, ◌⊎◌, IfOk, IfErr, OnOk, Err, Some};
 ghost use Rattle.std.specs.Io.KnownBytes.{Appends};
 ghost use Rattle.command_line.specs.Requests.{Asked, asked, Check, Run, Race, Bounds, Decode};
 ghost use Rattle.grammar.specs.Tokens.{texts};
@@ -11,7 +11,7 @@ ghost use Rattle.reports.specs.Report.{line};
 ghost use Rattle.cheri_sim.specs.Program.{command_line, Fails, FailsAlone, FailsWith, IsAnswer};
 ghost use Rattle.cheri_sim.specs.Program.{IsBoundsAnswer, IsCheckAnswer, IsDecodeAnswer};
 ghost use Rattle.cheri_sim.specs.Printing.{Prints};
-ghost use Rattle.cheri_sim.specs.Program.{IsRaceAnswer, IsRunAnswer, PrintsFor};
+ghost use Rattle.cheri_sim.specs.Program.{IsQuiet, IsRaceAnswer, IsRunAnswer, PrintsFor};
 
 use crate::answers::{bounds_text, check_text, decode_text};
 use crate::faults::Fault;
@@ -112,25 +112,30 @@ fn run<F: Files, O: Write>(
     }
 }
 
-/// `race LISTING --turns N`: done, whatever stopped the harts.
+/// `race LISTING --turns N [--watch]`: done, whatever stopped the harts. Where it is watched, `err`
+/// then gets the line of the looks.
 #[tactic(auto, using(crate::proofs::ProgramLemmas::race_answers))]
-fn race<F: Files, O: Write, R: Threads + Wait + Sync>(
+fn race<F: Files, O: Write, E: Write, R: Threads + Wait + Sync>(
     rt: &R,
     alloc: Global,
     listing: &str,
     turns: u32,
+    watch: bool,
     files: &mut F,
     out: &mut O,
+    err: &mut E,
 ) -> Result<(), Fault>
     ensures printed { OnOk result (Prints (IsRaceAnswer (F.bytes_of files.old) listing.now turns)
         (O.contents out.old) (O.contents out.new)) }
     ensures failed { IfErr result (λ fault.
-        Fails (F.bytes_of files.old) (Some (Race listing.now turns)) fault
+        Fails (F.bytes_of files.old) (Some (Race listing.now turns watch)) fault
         (O.contents out.old) (O.contents out.new)) }
     ensures command { result ≢ Err Fault.Usage }
+    ensures quiet { IsQuiet (Some (Race listing.now turns watch))
+        (E.contents err.old) (E.contents err.new) }
 {
     let text = read(files, listing, LISTING_READ, Fault::CannotReadListing)?;
-    print_race(rt, alloc, text.as_slice(), turns, out)
+    print_race(rt, alloc, text.as_slice(), turns, watch, out, err)
 }
 
 /// The number that an argument writes as in a listing, which is at most the limit.
@@ -184,12 +189,13 @@ fn with_program_name<'a>(alloc: Global, words: &'a [String]) -> Result<Vec<&'a s
 
 /// Does what the words ask for. The command line is judged first.
 #[tactic(auto, using(crate::proofs::ProgramLemmas::answer_failures))]
-fn answer<F: Files, O: Write, R: Threads + Wait + Sync>(
+fn answer<F: Files, O: Write, E: Write, R: Threads + Wait + Sync>(
     rt: &R,
     alloc: Global,
     words: &[String],
     files: &mut F,
     out: &mut O,
+    err: &mut E,
 ) -> Result<(), Fault>
     ensures printed { OnOk result (PrintsFor (IsAnswer (F.bytes_of files.old))
         (asked (command_line words.now)) (O.contents out.old) (O.contents out.new)) }
@@ -198,6 +204,8 @@ fn answer<F: Files, O: Write, R: Threads + Wait + Sync>(
         (O.contents out.old) (O.contents out.new)) }
     ensures nothing { asked (command_line words.now) ≡ None
         → (result ≡ Err Fault.Usage) ⊎ (result ≡ Err Fault.NoMemory) }
+    ensures quiet { IsQuiet (asked (command_line words.now))
+        (E.contents err.old) (E.contents err.new) }
 {
     let words = with_program_name(alloc, words)?;
     match parse(alloc, words.as_slice())? {
@@ -207,7 +215,11 @@ fn answer<F: Files, O: Write, R: Threads + Wait + Sync>(
             order,
             form,
         } => run(alloc, listing, order, form, files, out),
-        Request::Race { listing, turns } => race(rt, alloc, listing, turns, files, out),
+        Request::Race {
+            listing,
+            turns,
+            watch,
+        } => race(rt, alloc, listing, turns, watch, files, out, err),
         Request::Bounds { base, len } => bounds(alloc, base, len, out),
         Request::Decode { word } => decode(alloc, word, out),
     }
@@ -232,8 +244,9 @@ pub fn report_fault<E: Write>(err: &mut E, fault: Fault) -> u8
 /// Does what the words of a command line ask for, which are those after the program's name, and
 /// gives the exit status: 0 where it was done, 1 where a number, a text or a step was refused, 2
 /// where the command line was, and 3 for every other fault. With status 0 `out` got the whole
-/// answer and `err` nothing. With any other status `err` gets the one line of the fault; a write to
-/// `err` that fails does not change the status. Only a race starts threads and waits.
+/// answer and `err` nothing, or after a watched race the line of the looks. With any other status
+/// `err` gets the one line of the fault. A write to `err` that fails does not change the status.
+/// Only a race starts threads and waits.
 #[tactic(auto, using(crate::proofs::ProgramLemmas::fails_with))]
 pub fn perform<F: Files, O: Write, E: Write, R: Threads + Wait + Sync>(
     rt: &R,
@@ -246,14 +259,15 @@ pub fn perform<F: Files, O: Write, E: Write, R: Threads + Wait + Sync>(
     ensures status { result ≤ 3 }
     ensures printed { result ≡ 0 → PrintsFor (IsAnswer (F.bytes_of files.old))
         (asked (command_line words.now)) (O.contents out.old) (O.contents out.new) }
-    ensures quiet { result ≡ 0 → E.contents err.new ≡ E.contents err.old }
+    ensures quiet { result ≡ 0 → IsQuiet (asked (command_line words.now))
+        (E.contents err.old) (E.contents err.new) }
 
     // With any other status there is a fault that has this status, and what it says is so.
     ensures failed { result ≢ 0 → FailsWith (F.bytes_of files.old)
         (asked (command_line words.now)) result (O.contents out.old) (O.contents out.new) }
     ensures nothing { asked (command_line words.now) ≡ None → (result ≡ 2) ⊎ (result ≡ 3) }
 {
-    match answer(rt, alloc, words, files, out) {
+    match answer(rt, alloc, words, files, out, err) {
         Ok(()) => 0,
         Err(fault) => report_fault(err, fault),
     }

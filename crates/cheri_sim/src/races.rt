@@ -1,17 +1,20 @@
 //! The race of a listing's harts, printed.
 
-ghost use Rattle.std.specs.Prelude.{◌≡◌, OnOk, IfErr};
+ghost use Rattle.std.specs.Prelude.{◌≡◌, OnOk, OnErr, IfErr, false};
+ghost use Rattle.std.specs.Io.KnownBytes.{Appends};
+ghost use Rattle.reports.specs.Report.{line};
 ghost use Rattle.cheri_sim.specs.Printing.{Prints};
-ghost use Rattle.cheri_sim.specs.Races.{IsRace, IsUnraced};
+ghost use Rattle.cheri_sim.specs.Races.{IsRace, IsUnraced, looks_text};
 
 use crate::faults::Fault;
 use crate::printing::print_report;
-use harts::{Gate, Turn, run_harts};
+use harts::{Gate, Turn, Viewer, run_watched};
 use listings::read_listing;
-use machine::GREATEST_TRACE_LIMIT;
+use machine::{GREATEST_TRACE_LIMIT, Naming, Watch};
 use std::alloc::Global;
-use std::io::Write;
+use std::io::{self, Write};
 use std::sync::Wait;
+use std::thread;
 use std::thread::Threads;
 
 /// A gate that every hart goes through in each of its turns.
@@ -26,22 +29,85 @@ impl Gate for OpenGate {
     fn after(&self, _hart: u8, _turn: u32) {}
 }
 
+/// How often the viewer of a watched race looks.
+const LOOKS: u32 = 100;
+
+/// A viewer that looks a number of times, and counts the looks that it gets.
+#[derive(Drop)]
+struct Looker {
+    tries: u32,
+    looks: u32,
+}
+
+impl Looker {
+    /// The viewer of a race, which looks only where the race is watched.
+    fn new(watch: bool) -> Looker {
+        Looker {
+            tries: if watch { LOOKS } else { 0 },
+            looks: 0,
+        }
+    }
+}
+
+impl Viewer for Looker {
+    fn view<J: Naming>(&mut self, watch: Watch<J>) -> Watch<J> {
+        let mut watch = watch;
+        for _ in 0..self.tries {
+            match watch.look() {
+                Ok(look) => {
+                    self.looks = self.looks.saturating_add(1);
+                    watch = look.end();
+                }
+                Err(back) => watch = back,
+            }
+            thread::yield_now();
+        }
+        watch
+    }
+}
+
+/// Writes how many looks a viewer got.
+fn write_looks<E: Write>(err: &mut E, looks: u32) -> io::Result<()>
+    ensures { OnOk result (Appends
+        (E.contents err.old) (E.contents err.new) (line (looks_text looks))) }
+{
+    writeln!(err, "watch looks={looks}")
+}
+
 /// Races the harts of a listing, each in up to this many turns, and prints the report of what they
-/// left.
+/// left. Where the race is watched, a viewer looks on, and then its looks are printed to `err`,
+/// whether the line is taken or not.
 #[tactic(auto, using(crate::proofs::RaceLemmas::races))]
-pub fn print_race<O: Write, R: Threads + Wait + Sync>(
+pub fn print_race<O: Write, E: Write, R: Threads + Wait + Sync>(
     rt: &R,
     alloc: Global,
     listing: &[u8],
     turns: u32,
+    watch: bool,
     out: &mut O,
+    err: &mut E,
 ) -> Result<(), Fault>
     ensures printed { OnOk result (Prints (IsRace listing.now turns)
         (O.contents out.old) (O.contents out.new)) }
     ensures failed { IfErr result (λ fault.
         IsUnraced listing.now turns (O.contents out.old) (O.contents out.new) fault) }
+    ensures quiet { watch ≡ false → E.contents err.new ≡ E.contents err.old }
+    ensures spared { OnErr result (E.contents err.new ≡ E.contents err.old) }
 {
     let image = read_listing(alloc, listing)?;
-    let (core, _reports) = run_harts(rt, alloc, image, turns, GREATEST_TRACE_LIMIT, &OpenGate)?;
-    print_report(alloc, core.view(), out)
+    let mut looker = Looker::new(watch);
+    let (core, _reports) = run_watched(
+        rt,
+        alloc,
+        image,
+        turns,
+        GREATEST_TRACE_LIMIT,
+        &OpenGate,
+        &mut looker,
+    )?;
+    print_report(alloc, core.view(), out)?;
+    if watch {
+        let _ = write_looks(err, looker.looks);
+    }
+    Ok(())
 }

@@ -27,11 +27,11 @@ run_command =
     with_rule (with_rule (with_rule (new_app (codes "run")) (required_word (codes "listing")))
     (record (required_word (codes "order")) { long = Some (codes "order") })) (flag (codes "json"))
 
--- `race LISTING --turns N`
+-- `race LISTING --turns N [--watch]`
 abbrev pub race_command : App
 race_command =
-    with_rule (with_rule (new_app (codes "race")) (required_word (codes "listing")))
-    (record (required_word (codes "turns")) { long = Some (codes "turns") })
+    with_rule (with_rule (with_rule (new_app (codes "race")) (required_word (codes "listing")))
+    (record (required_word (codes "turns")) { long = Some (codes "turns") })) (flag (codes "watch"))
 
 -- `bounds BASE LEN`
 abbrev pub bounds_command : App

@@ -1,5 +1,5 @@
 -- What the words of a command line ask for.
-use Rattle.std.specs.Prelude.{ℕ, nat_le, ◌&&◌, List, Option, Some, None, option_and_then, option_map, codes, if◌then◌else◌, [], ◌∷◌}
+use Rattle.std.specs.Prelude.{ℕ, Bool, false, nat_le, ◌&&◌, List, Option, Some, None, option_and_then, option_map, codes, if◌then◌else◌, [], ◌∷◌}
 use Rattle.std.specs.Char.{is_ascii_digit}
 use Rattle.std.specs.List.{list_all}
 use Rattle.std.specs.Str.{bytes_eq}
@@ -17,18 +17,23 @@ abbrev pub form_of : Option Text → ReportForm
 form_of (Some value) = if bytes_eq value (codes "true") then forms.Json else forms.Text
 form_of None = forms.Text
 
+-- whether a flag is there
+abbrev pub is_given : Option Text → Bool
+is_given (Some value) = bytes_eq value (codes "true")
+is_given None = false
+
 -- a request by the texts of its words
 pub data Asked : Type 0 where
   Check : Text → Asked
   Run : Text → Text → ReportForm → Asked
-  Race : Text → ℕ → Asked
+  Race : Text → ℕ → Bool → Asked
   Bounds : Text → Text → Asked
   Decode : Text → Asked
 
 abbrev pub asked_by : Request → Asked
 asked_by (requests.Check listing) = Check listing.now
 asked_by (requests.Run listing order form) = Run listing.now order.now form
-asked_by (requests.Race listing turns) = Race listing.now turns
+asked_by (requests.Race listing turns watch) = Race listing.now turns watch
 asked_by (requests.Bounds base len) = Bounds base.now len.now
 asked_by (requests.Decode word) = Decode word.now
 
@@ -50,9 +55,9 @@ unfoldable pub turns_of : Text → Option ℕ
 turns_of word = if list_all is_ascii_digit word then within_turns (digits_value 10 word) else None
 
 -- a race by the values of its words, if they are there
-abbrev pub race_asked : Option Text → Option Text → Option Asked
-race_asked (Some listing) (Some turns) = option_map (Race listing) (turns_of turns)
-race_asked _ _ = None
+abbrev pub race_asked : Option Text → Option Text → Bool → Option Asked
+race_asked (Some listing) (Some turns) watch = option_map (λ turns. Race listing turns watch) (turns_of turns)
+race_asked _ _ watch = None
 
 -- what the command of this name asks for with these words
 unfoldable pub asked_of : Text → List Row → Option Asked
@@ -61,6 +66,7 @@ asked_of name rows =
     else if bytes_eq name (codes "run") then with_two (λ listing order. Run listing order (form_of (first_of (codes "json") rows)))
     (first_of (codes "listing") rows) (first_of (codes "order") rows)
     else if bytes_eq name (codes "race") then race_asked (first_of (codes "listing") rows) (first_of (codes "turns") rows)
+    (is_given (first_of (codes "watch") rows))
     else if bytes_eq name (codes "bounds") then with_two Bounds (first_of (codes "base") rows) (first_of (codes "len") rows)
     else if bytes_eq name (codes "decode") then with_one Decode (first_of (codes "word") rows)
     else None

@@ -40,15 +40,19 @@ fn run_command<'a>(alloc: Global) -> Result<Command<'a>, AllocError>
         .arg(json)
 }
 
-/// `race LISTING --turns N`.
+/// `race LISTING --turns N [--watch]`.
 fn race_command<'a>(alloc: Global) -> Result<Command<'a>, AllocError>
     ensures app { IfOk result (λ command. app_of command ≡ race_command) }
     ensures local { IfOk result (λ command. has_globals command ≡ false) }
 {
     let turns = required(alloc, "turns").long("turns");
+    let watch = Arg::new(alloc, "watch")
+        .long("watch")
+        .action(ArgAction::SetTrue);
     Command::new(alloc, "race")
         .arg(required(alloc, "listing"))?
-        .arg(turns)
+        .arg(turns)?
+        .arg(watch)
 }
 
 /// `bounds BASE LEN`.

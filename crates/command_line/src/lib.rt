@@ -1,7 +1,7 @@
 //! The command line of `cheri_sim`: which words ask for what.
 #![tactic(auto)]
 
-ghost use Rattle.std.specs.Prelude.{◌≡◌, IfOk, Err, Some, None, [], ◌∷◌, map, codes};
+ghost use Rattle.std.specs.Prelude.{◌≡◌, IfOk, Err, Some, None, [], ◌∷◌, map, codes, true, false};
 ghost use Rattle.command_line.specs.Requests.{asked, asked_by, Check, Run, Race, Bounds, Decode};
 
 mod commands;
@@ -44,10 +44,15 @@ pub fn known_command_lines()
         ≡ None }
     ensures race { asked (codes "cheri_sim" ∷ codes "race" ∷ codes "first.lst"
         ∷ codes "--turns" ∷ codes "4" ∷ [])
-        ≡ Some (Race (codes "first.lst") 4) }
+        ≡ Some (Race (codes "first.lst") 4 false) }
     ensures race_with_zeros { asked (codes "cheri_sim" ∷ codes "race"
         ∷ codes "--turns=0100000" ∷ codes "first.lst" ∷ [])
-        ≡ Some (Race (codes "first.lst") 100000) }
+        ≡ Some (Race (codes "first.lst") 100000 false) }
+    ensures watched { asked (codes "cheri_sim" ∷ codes "race" ∷ codes "first.lst"
+        ∷ codes "--watch" ∷ codes "--turns" ∷ codes "4" ∷ [])
+        ≡ Some (Race (codes "first.lst") 4 true) }
+    ensures watched_twice { asked (codes "cheri_sim" ∷ codes "race" ∷ codes "first.lst"
+        ∷ codes "--watch" ∷ codes "--watch" ∷ codes "--turns" ∷ codes "4" ∷ []) ≡ None }
     ensures no_turns { asked (codes "cheri_sim" ∷ codes "race" ∷ codes "first.lst"
         ∷ codes "--turns" ∷ codes "0" ∷ []) ≡ None }
     ensures too_many_turns { asked (codes "cheri_sim" ∷ codes "race" ∷ codes "first.lst"

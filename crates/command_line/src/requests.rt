@@ -6,7 +6,7 @@ ghost use Rattle.std.specs.Char.{is_ascii_digit};
 ghost use Rattle.clap.specs.Words.{first_of, found_of, rows_of, subcommand_rows_of};
 ghost use Rattle.command_line.specs.Requests.{asked_by, asked_of, form_of, with_one, with_two};
 ghost use Rattle.command_line.specs.Requests.{Check, Run, Bounds, Decode};
-ghost use Rattle.command_line.specs.Requests.{race_asked, turns_of, within_turns};
+ghost use Rattle.command_line.specs.Requests.{is_given, race_asked, turns_of, within_turns};
 
 use clap::ArgMatches;
 
@@ -36,10 +36,11 @@ pub enum Request<'a> {
         form: ReportForm,
     },
     /// To race the harts of the listing in the file of this name, each in up to this many turns,
-    /// and to report it.
+    /// and to report it; and, where `watch` says so, to look on meanwhile.
     Race {
         listing: &'a str,
         turns: u32,
+        watch: bool,
     },
     /// For the rounding of a range, by its base and its length.
     Bounds {
@@ -127,16 +128,32 @@ fn turns_written(word: &str) -> Option<u32>
     }
 }
 
+/// Whether a flag was found.
+fn flag_found(found: &ArgMatches<'_>, name: &str) -> bool
+    ensures { result ≡ is_given (first_of name.now (rows_of (found_of found.now))) }
+{
+    match word_found(found, name) {
+        Some("true") => true,
+        _ => false,
+    }
+}
+
 /// `race` with the words that were found.
 fn race_request<'a>(found: &ArgMatches<'a>) -> Option<Request<'a>>
     ensures { let rows = rows_of (found_of found.now) in
         option_map asked_by result
-        ≡ race_asked (first_of (codes "listing") rows) (first_of (codes "turns") rows) }
+        ≡ race_asked (first_of (codes "listing") rows) (first_of (codes "turns") rows)
+        (is_given (first_of (codes "watch") rows)) }
 {
     let listing = word_found(found, "listing")?;
     let word = word_found(found, "turns")?;
     let turns = turns_written(word)?;
-    Some(Request::Race { listing, turns })
+    let watch = flag_found(found, "watch");
+    Some(Request::Race {
+        listing,
+        turns,
+        watch,
+    })
 }
 
 /// `bounds` with the words that were found.

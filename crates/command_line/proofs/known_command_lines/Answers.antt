@@ -82,3 +82,11 @@ returns-clause-hexadecimal_turns c = refl
 pub returns-clause-without_turns : goal.returns-clause-without_turns
 unfolding clap_on_literals asked asked_of turns_of
 returns-clause-without_turns c = refl
+
+pub returns-clause-watched : goal.returns-clause-watched
+unfolding clap_on_literals asked asked_of turns_of
+returns-clause-watched c = refl
+
+pub returns-clause-watched_twice : goal.returns-clause-watched_twice
+unfolding clap_on_literals asked asked_of turns_of
+returns-clause-watched_twice c = refl

@@ -4,7 +4,7 @@ use crate::program::tests::{FIRST, OPENING_REPORT, compare};
 use std::test::Fail;
 
 /// Words that are no command, a request for help among them.
-const REFUSED: [&[&str]; 45] = [
+const REFUSED: [&[&str]; 48] = [
     &[],
     &["help"],
     &["--help"],
@@ -39,6 +39,9 @@ const REFUSED: [&[&str]; 45] = [
     &["race", "listing", "--turns", "0x4"],
     &["race", "listing", "--turns", ""],
     &["race", "listing", "--turns", "4", "--turns", "4"],
+    &["race", "listing", "--turns", "4", "--watch", "--watch"],
+    &["race", "listing", "--turns", "4", "--watch=yes"],
+    &["race", "listing", "--watch"],
     &["race", "listing", "--turns", "4", "--order", "order"],
     &["bounds"],
     &["bounds", "1"],

@@ -36,6 +36,24 @@ fn turns_end(rt: HostRuntime) -> Result<(), Fail> {
     Ok(())
 }
 
+/// A watched race prints the same report, and then how many of its 100 looks showed the machine.
+#[test]
+fn looks_are_counted(rt: HostRuntime) -> Result<(), Fail> {
+    let words = ["race", "listing", "--watch", "--turns", "4"];
+    let raced = answer(&rt, &words, &[("listing", FIRST)], "")?;
+    let printed = str::from_utf8(raced.printed.as_slice())?;
+    assert_eq!(rt; raced.status, 0);
+    assert!(rt; printed.contains("\nentries 8\n"));
+    assert!(rt; printed.ends_with("\nend\n"));
+    let line = str::from_utf8(raced.reported.as_slice())?;
+    let told = line
+        .strip_prefix("watch looks=")
+        .ok_or("the looks are told")?;
+    let digits = told.strip_suffix("\n").ok_or("the line ends")?;
+    assert!(rt; digits.parse::<u32>()? <= 100);
+    Ok(())
+}
+
 /// A listing that cannot be read or is faulty, and output that is not taken.
 #[test]
 fn refusals(rt: HostRuntime) -> Result<(), Fail> {
