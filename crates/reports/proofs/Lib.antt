@@ -1,3 +1,4 @@
+pub mod Open
 pub mod HexDigits
 pub mod ReportLines
 pub mod SinkLemmas

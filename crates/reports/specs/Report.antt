@@ -2,6 +2,7 @@
 -- for each kind of line.
 use Rattle.std.specs.Prelude.{ℕ, ◌+◌, ◌*◌, if◌then◌else◌, List, [], ◌∷◌, ◌++◌, length, codes, decimal, zero, suc}
 use Rattle.cheri_model.specs.declared.trace.Entry.{Entry}
+use Rattle.cheri_model.specs.declared.trace.Outcome.{Outcome}
 use Rattle.cheri_model.specs.declared.trace.Status.{Status}
 use Rattle.cheri_model.specs.CapValue.{CapValue}
 use Rattle.cheri_model.specs.Hart.{HartState, register}
@@ -32,6 +33,10 @@ image_line image =
 -- how many entries
 unfoldable pub count_line : ℕ → List ℕ
 count_line count = line (codes "entries " +++ decimal count)
+
+-- how a step ended, up to the end of its line
+unfoldable pub ending : Outcome → List ℕ
+ending outcome = line (codes " " +++ outcome_text outcome)
 
 -- an entry of the trace: its place from 0 on, the hart, PCC's address before the step, and how the step ended
 unfoldable pub entry_line : ℕ → Entry → List ℕ

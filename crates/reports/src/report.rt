@@ -3,7 +3,7 @@
 ghost use Rattle.std.specs.Prelude.{◌≡◌, ◌+◌, ◌++◌, OnOk, IfOk, string_bytes};
 ghost use Rattle.std.specs.Io.KnownBytes.{Appends};
 ghost use Rattle.cheri_model.specs.ImageForm.{is_listed};
-ghost use Rattle.reports.specs.Report.{numbered, image_line, entry_line, register_line};
+ghost use Rattle.reports.specs.Report.{numbered, image_line, ending, entry_line, register_line};
 ghost use Rattle.reports.specs.Report.{register_lines, hart_lines, granule_line};
 ghost use Rattle.reports.specs.Report.{head_lines, shown_lines, report};
 ghost use Rattle.reports.specs.ReportFaults.{failures_of};
@@ -15,9 +15,10 @@ pub mod text;
 
 use crate::sink::{Sink, put_whole};
 use cap_ops::Cap;
-use cheri_model::{Entry, Image, NoMemory, Reg};
+use cheri_model::{Entry, Image, NoMemory, Outcome, Reg};
 use fault::ReportFault;
 use hart_step::{Hart, View};
+use itoa::Buffer;
 use std::alloc::Global;
 use text::{HexWord, OutcomeText, StatusText, ValueText, granule_address};
 
@@ -38,19 +39,30 @@ fn write_image(out: &mut String, image: &Image) -> Result<(), NoMemory>
     Ok(())
 }
 
-/// Appends the line of an entry of the trace.
-#[tactic(auto, unfolding(crate::specs::Report::entry_line))]
+/// Appends how a step ended, up to the end of its line. Most steps are done.
+#[tactic(auto, unfolding(crate::specs::Report::ending))]
+fn write_ending(out: &mut String, outcome: Outcome) -> Result<(), NoMemory>
+    ensures { OnOk result (string_bytes out.new ≡ string_bytes out.old ++ ending outcome) }
+{
+    match outcome {
+        Outcome::Done => out.push_str(" done\n"),
+        _ => writeln!(out, " {}", OutcomeText(outcome)),
+    }
+}
+
+/// Appends the line of an entry of the trace, piece by piece: a report has up to 100,000 such
+/// lines, and a formatter takes twice the time.
 fn write_entry(out: &mut String, place: usize, entry: &Entry) -> Result<(), NoMemory>
     ensures { OnOk result (string_bytes out.new
         ≡ string_bytes out.old ++ entry_line place entry.now) }
 {
-    let pc = HexWord(entry.pc);
-    writeln!(
-        out,
-        "{place} hart={} pc={pc} {}",
-        entry.hart,
-        OutcomeText(entry.outcome)
-    )?;
+    let mut number = Buffer::new();
+    out.push_str(number.format(place))?;
+    out.push_str(" hart=")?;
+    out.push_str(number.format(entry.hart))?;
+    out.push_str(" pc=")?;
+    write!(out, "{}", HexWord(entry.pc))?;
+    write_ending(out, entry.outcome)?;
     Ok(())
 }
 
@@ -78,7 +90,7 @@ fn write_registers(out: &mut String, hart: &Hart) -> Result<(), NoMemory>
 }
 
 /// Appends the lines of a hart.
-#[tactic(auto, unfolding(crate::specs::Report::hart_lines, crate::specs::Report::status_line, crate::specs::Report::pcc_line))]
+#[tactic(auto, unfolding(crate::proofs::Open::hart))]
 fn write_hart(out: &mut String, number: usize, hart: &Hart) -> Result<(), NoMemory>
     ensures { OnOk result (string_bytes out.new
         ≡ string_bytes out.old ++ hart_lines number hart.now) }
