@@ -7,7 +7,7 @@ mod sink;
 
 pub use json::report_json;
 pub use report::fault::ReportFault;
-pub use report::text::{Hex, HexWord, TypeText};
+pub use report::text::{Hex, HexWord, MOST_DIGITS, TypeText};
 pub use report::write_report;
 pub use sink::memory::MemSink;
 pub use sink::writer::ToWrite;

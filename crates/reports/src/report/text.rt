@@ -5,6 +5,7 @@ ghost use Rattle.std.specs.Fmt.{DisplaysOnOk};
 ghost use Rattle.std.specs.Char.{digit_char};
 ghost use Rattle.reports.specs.ReportText.{hex_text, cause_text, outcome_text, status_text};
 ghost use Rattle.reports.specs.ReportText.{type_text, value_text, word_text, parts_text};
+ghost use Rattle.reports.specs.declared.report.text.TheConstants.{MOST_DIGITS};
 ghost use Rattle.cheri_model.specs.CapValue.{parts_of};
 
 use bitflags::Flags;
@@ -15,21 +16,21 @@ use cheri_model::{
 use std::{fmt, str};
 
 /// The most hexadecimal digits that stand together in a report: those of the top of a capability.
-const MOST_DIGITS: usize = 17;
+pub const MOST_DIGITS: usize = 17;
 
-/// A number's lowest hexadecimal digits in lower case, as many as `width` says: at most 17.
+/// A number's lowest hexadecimal digits in lower case, `width` of them: at most `MOST_DIGITS`.
 #[derive(Clone, Copy)]
 pub struct Hex {
     pub number: u128,
     pub width: usize,
-    ghost within: { width ≤ 17 },
+    ghost within: { width ≤ MOST_DIGITS },
 }
 
 impl Hex {
     /// The digits of a top, which may be 2^64.
     pub fn of_top(top: u128) -> Hex
         ensures number { result.number ≡ top }
-        ensures width { result.width ≡ 17 }
+        ensures width { result.width ≡ MOST_DIGITS }
     {
         Hex::new(top, MOST_DIGITS)
     }
@@ -42,9 +43,9 @@ impl Hex {
         Hex::new(u128::from(perms.bits()), 5)
     }
 
-    /// The lowest hexadecimal digits of a number, as many as `width` says: at most 17.
+    /// The lowest hexadecimal digits of a number, `width` of them: at most `MOST_DIGITS`.
     pub fn new(number: u128, width: usize) -> Hex
-        requires { width ≤ 17 }
+        requires { width ≤ MOST_DIGITS }
         ensures number { result.number ≡ number }
         ensures width { result.width ≡ width }
     {
@@ -77,8 +78,8 @@ fn hex_digit(digit: u8) -> u8
 
 /// The digits of a number, at the end of an array.
 fn hex_digits(number: u128, width: usize) -> [u8; MOST_DIGITS]
-    requires { width ≤ 17 }
-    ensures { drop (17 - width) result ≡ hex_text width number }
+    requires { width ≤ MOST_DIGITS }
+    ensures { drop (MOST_DIGITS - width) result ≡ hex_text width number }
 {
     let mut digits = [b'0'; MOST_DIGITS];
     let mut left = number;
