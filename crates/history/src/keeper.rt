@@ -37,7 +37,7 @@ impl Model for Blank {
 }
 
 impl Blank {
-    /// A new book.
+    /// A new book. What its order is stands in the invariant of the type: nothing yet.
     pub fn new() -> Blank {
         let (mut seen, mut first, _second) = logbook::Seen::open(Start::alone(), 0, 0);
         let head = Word::tracked(0, &mut first);
