@@ -1,6 +1,6 @@
 //! A machine that threads share.
 
-ghost use Rattle.std.specs.Prelude.{◌≡◌};
+ghost use Rattle.std.specs.Prelude.{◌≡◌, IfOk};
 ghost use Rattle.std.specs.Sync.Mutex.{mutex_guard_value};
 ghost use Rattle.machine.specs.Cores.{IsCore};
 
@@ -47,7 +47,9 @@ impl<J: Naming> Shared<J> {
     }
 
     /// Waits for the lock, and gives a watch of the machine, which needs it no more.
-    pub fn watch<R: Wait>(&self, rt: &R) -> Result<Watch<J>, WatchFault> {
+    pub fn watch<R: Wait>(&self, rt: &R) -> Result<Watch<J>, WatchFault>
+        ensures image { IfOk result (λ watch. watch.image ≡ self.now) }
+    {
         self.lock(rt).watch()
     }
 

@@ -38,7 +38,7 @@ pub fn run_harts<G: Gate + Sync, R: Threads + Wait + Sync>(
     ensures reports { IfOk result (λ run.
         AreReports turns run.0.trace (length image.harts) run.1.items) }
 {
-    run_watched(rt, alloc, image, turns, limit, gate, &mut Nobody)
+    boot_and_race(rt, alloc, image, turns, limit, gate, &mut Nobody, false)
 }
 
 /// Runs the harts of an image as `run_harts` does, while the calling thread has the viewer look on
@@ -59,9 +59,40 @@ pub fn run_watched<G: Gate + Sync, V: Viewer, R: Threads + Wait + Sync>(
     ensures reports { IfOk result (λ run.
         AreReports turns run.0.trace (length image.harts) run.1.items) }
 {
+    boot_and_race(rt, alloc, image, turns, limit, gate, viewer, true)
+}
+
+/// Boots an image and races its harts. Only where the race is watched, a watch is asked for and the
+/// viewer looks on through it.
+fn boot_and_race<G: Gate + Sync, V: Viewer, R: Threads + Wait + Sync>(
+    rt: &R,
+    alloc: Global,
+    image: Image,
+    turns: u32,
+    limit: u32,
+    gate: &G,
+    viewer: &mut V,
+    is_watched: bool,
+) -> Result<(Core, Vec<HartReport>), RunFault>
+    ensures limit { (result ≡ Err (RunFault.Boot BootFault.Limit)) ↔ (is_limit limit ≡ false) }
+    ensures image { IfOk result (λ run. run.0.image ≡ image) }
+    ensures replay { IfOk result (λ run. IsReplay run.0.image run.0.trace run.0.state) }
+    ensures reports { IfOk result (λ run.
+        AreReports turns run.0.trace (length image.harts) run.1.items) }
+{
     let core = Core::boot(alloc, image, limit)?;
     let given = core.view().image.copy(alloc)?;
-    race::<Brand, G, V, R>(rt, alloc, core, given, turns, gate, viewer, Blanks::new())
+    race::<Brand, G, V, R>(
+        rt,
+        alloc,
+        core,
+        given,
+        turns,
+        gate,
+        viewer,
+        is_watched,
+        Blanks::new(),
+    )
 }
 
 /// Races the harts of a core that was just booted from an image that is given, too.
@@ -73,6 +104,7 @@ fn race<J: Naming + Send + Sync, G: Gate + Sync, V: Viewer, R: Threads + Wait + 
     turns: u32,
     gate: &G,
     viewer: &mut V,
+    is_watched: bool,
     blanks: Blanks,
 ) -> Result<(Core, Vec<HartReport>), RunFault>
     requires names { blanks ≡ J.names }
@@ -84,7 +116,7 @@ fn race<J: Naming + Send + Sync, G: Gate + Sync, V: Viewer, R: Threads + Wait + 
     ensures reports { IfOk result (λ run.
         AreReports turns run.0.trace (length J.image.harts) run.1.items) }
 {
-    let (machine, shares) = Machine::<J>::open(rt, alloc, core, blanks)?;
+    let (machine, shares) = Machine::<J>::open(alloc, core, blanks)?;
     let shared = Shared::new(machine);
     let work = Work {
         rt,
@@ -93,7 +125,11 @@ fn race<J: Naming + Send + Sync, G: Gate + Sync, V: Viewer, R: Threads + Wait + 
     };
     let onlooker = Onlooker {
         viewer,
-        watch: shared.watch(rt).ok(),
+        watch: if is_watched {
+            shared.watch(rt).ok()
+        } else {
+            None
+        },
     };
     let raced = race_all(&work, alloc, turns, shares, onlooker);
     match raced {

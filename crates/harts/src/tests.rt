@@ -92,7 +92,7 @@ fn looped<J: Naming, G: Gate, R: Abort + Wait>(
     requires names { blanks ≡ J.names }
     requires image { core.image ≡ J.image }
 {
-    let (machine, shares) = Machine::<J>::open(rt, alloc, core, blanks).expect(rt, "it opens");
+    let (machine, shares) = Machine::<J>::open(alloc, core, blanks).expect(rt, "it opens");
     let shared = Shared::new(machine);
     let mut reports = Vec::new(alloc);
     let mut back = Vec::new(alloc);

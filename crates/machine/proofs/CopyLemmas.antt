@@ -101,14 +101,7 @@ taken_shown image name shown op token tickets is may book new old =
     (λ (e : tickets ≡ Take op ∷ Tell token ∷ []). subst (λ (ts : List Ticket). IsShown image name (fold shown_after shown ts)) (sym e) two)
     may
 
--- a copy that is told what it knows stays as it is
-pub told_again : (shown : Shown) (token : Token) (tickets : List Ticket) → shown.told ≡ true → shown.token ≡ token →
-    tickets ≡ Tell token ∷ Tell token ∷ [] → fold shown_after shown tickets ≡ shown
-unfolding shown_after
-told_again shown token tickets told same is =
-    ap (λ (ts : List Ticket). fold shown_after shown ts) is ∙ (λ i. record { core = shown.core; token = sym same i; told = sym told i })
-
--- a core refuses nothing for want of memory
+-- a core never refuses a step with NoMemory
 pub refused_for_another : (core : CoreParts) (hart : ℕ) (fault : StepFault) → Some fault ≡ refused core (step_of hart) → fault ≢ NoMemory
 unfolding refused
 refused_for_another core hart fault is memory =

@@ -4,5 +4,6 @@ pub mod Runs
 pub mod Shares
 pub mod Names
 pub mod Copies
+pub mod Stages
 pub mod Watches
 pub mod Simulation

@@ -1,18 +1,16 @@
 //! The two copies of a machine that watchers read, and the rule that they keep.
 
-ghost use Rattle.std.specs.Prelude.{◌≡◌, ◌++◌, ◌∷◌, ◌⊎◌, [], drop, fold, true, IfOk};
+ghost use Rattle.std.specs.Prelude.{◌≡◌, ◌++◌, ◌∷◌, ◌⊎◌, [], drop, fold};
 ghost use Rattle.machine.specs.Copies.{IsShown, shown_after};
 ghost use Rattle.machine.specs.Names.{order_named};
 ghost use Rattle.machine.specs.declared.shown.Ticket.TheVariants.{Tell};
 
 use crate::shares::Naming;
 use crate::shown::{Shown, Ticket};
-use cheri_model::NoMemory;
 use crossbeam_utils::rule::{Outcome, Protocol};
 use history::{Order, Token};
 use left_right::reader::{Reader, Reading};
 use left_right::writer::Writer;
-use std::alloc::AllocError;
 use std::marker::PhantomData;
 use std::sync::Wait;
 
@@ -82,32 +80,4 @@ pub fn tell<J: Naming>(copies: &mut Copies<J>, token: Token)
         ≡ drop copies.old.behind copies.old.log.items ++ Tell token ∷ []) }
 {
     let _told = copies.append(Ticket::Tell(token));
-}
-
-/// Makes room for two tickets more.
-pub fn with_room<J: Naming, R: Wait>(
-    rt: &R,
-    copies: Copies<J>,
-    token: &Token,
-) -> Result<Copies<J>, NoMemory>
-    requires none { drop copies.behind copies.log.items ≡ [] }
-    requires told { copies.desk.shown.value.told ≡ true }
-    requires token { copies.desk.shown.value.token ≡ token.now }
-    ensures shown { IfOk result (λ now. now.desk.shown.value ≡ copies.desk.shown.value) }
-    ensures pending { IfOk result (λ now. drop now.behind now.log.items ≡ []) }
-{
-    let mut copies = copies;
-    let Ok(()) = copies.append(Ticket::Tell(token.again())) else {
-        return Err(give_up(rt, copies));
-    };
-    let Ok(()) = copies.append(Ticket::Tell(token.again())) else {
-        return Err(give_up(rt, copies));
-    };
-    Ok(publish(copies, rt).0)
-}
-
-/// Frees both copies where there is no memory for a ticket.
-fn give_up<J: Naming, R: Wait>(rt: &R, copies: Copies<J>) -> NoMemory {
-    drop(copies.take(rt));
-    AllocError
 }

@@ -7,6 +7,7 @@ mod cores;
 mod faults;
 mod machines;
 mod opening;
+mod pairs;
 mod runs;
 mod shares;
 mod shown;

@@ -46,8 +46,7 @@ impl<J: Naming> Model for Machine<J> {
 impl<J: Naming> Machine<J> {
     /// The machine of a core and its shares, one for each hart, in hart order, which have counted
     /// what the trace holds. Fails only when out of memory, and then the core is given up.
-    pub fn open<R: Wait>(
-        rt: &R,
+    pub fn open(
         alloc: Global,
         core: Core,
         blanks: Blanks,
@@ -62,7 +61,7 @@ impl<J: Naming> Machine<J> {
         let view = core.view();
         let harts = hart_count(view.image);
         let shares = draw_shares(alloc, &mut books, tokens, view.entries, harts)?;
-        let watched = Watched::<J>::open(rt, alloc, core, order)?;
+        let watched = Watched::<J>::open(alloc, core, order);
         Ok((Machine { watched, books }, shares))
     }
 

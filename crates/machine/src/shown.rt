@@ -1,6 +1,10 @@
 //! What watchers read of a machine: one of two copies of its core, beside what was seen of the
 //! order of its operations.
 
+ghost use Rattle.std.specs.Prelude.{◌≡◌};
+ghost use Rattle.machine.specs.Copies.{asked};
+ghost use Rattle.machine.specs.Cores.{applied};
+
 use crate::cores::Core;
 use history::{Operation, Token};
 use left_right::Absorb;
@@ -37,8 +41,7 @@ impl Absorb<Ticket> for Shown {
     fn absorb_first(&mut self, ticket: &Ticket, _other: &Shown) -> Result<(), AllocError> {
         match ticket {
             Ticket::Take(operation) => {
-                let Operation::Step(hart) = *operation;
-                let _entry = self.core.step(hart);
+                apply(&mut self.core, *operation);
                 self.told = false;
             }
             Ticket::Tell(token) => {
@@ -47,5 +50,16 @@ impl Absorb<Ticket> for Shown {
             }
         }
         Ok(())
+    }
+}
+
+/// Takes an operation, unless the core refuses it.
+pub fn apply(core: &mut Core, operation: Operation)
+    ensures { core.new ≡ applied core.old (asked operation) }
+{
+    match operation {
+        Operation::Step(hart) => {
+            let _entry = core.step(hart);
+        }
     }
 }

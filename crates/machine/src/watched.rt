@@ -1,33 +1,40 @@
-//! A core that watchers read: two copies of it, and the keeper of the order of its operations.
+//! The core under a machine: alone until the first watch, and then two copies of it. Beside it the
+//! keeper of the order of its operations.
 
-ghost use Rattle.std.specs.Prelude.{◌≡◌, ◌<◌, [], None, IfOk, OnOk, OnErr};
+ghost use Rattle.std.specs.Prelude.{◌≡◌, [], None, IfOk, OnOk, OnErr};
 ghost use Rattle.machine.specs.Copies.{asked, taken};
 ghost use Rattle.machine.specs.Cores.{core_after, refused};
 ghost use Rattle.machine.specs.Names.{order_named};
 ghost use Rattle.machine.specs.Watches.{watch_of};
 
-use crate::copies::{Copies, OrderOf, publish, tell, with_room};
+use crate::copies::OrderOf;
 use crate::cores::Core;
 use crate::faults::WatchFault;
+use crate::pairs::Pair;
 use crate::shares::Naming;
-use crate::shown::{Shown, Ticket};
+use crate::shown::apply;
 use crate::watches::{Receipt, Watch};
 use cheri_model::{Entry, NoMemory};
-use core::mem::replace_with;
 use history::{Blank, Keeper, Operation};
-use left_right::writer::Writer;
-use std::alloc::{AllocError, Global};
+use std::alloc::Global;
 use std::marker::Model;
-use std::mem::ManuallyDrop;
 use std::sync::Wait;
 
-/// How many watches of one machine there may be at once.
-const PLACES: usize = 8;
+/// Where a machine's core is.
+#[derive(Drop)]
+pub enum Stage<J: Naming> {
+    /// Nobody has watched it yet.
+    Alone(Core),
+    /// Watchers read two copies of it.
+    Copied(Pair<J>),
+}
 
-/// A core that watchers read while one thread steps it. Contracts see the core.
+/// A core that one thread steps, and that others may watch. Contracts see the core.
+#[derive(Drop)]
 pub struct Watched<J: Naming> {
-    copies: Copies<J>,
+    stage: Stage<J>,
     keeper: Keeper<OrderOf<J>>,
+    alloc: Global,
 }
 
 impl<J: Naming> Model for Watched<J> {
@@ -35,45 +42,30 @@ impl<J: Naming> Model for Watched<J> {
 
     ghost Value = { CoreParts };
 
-    ghost use Rattle.std.specs.Prelude.{◌≡◌, [], drop};
+    ghost use Rattle.std.specs.Prelude.{◌≡◌};
     ghost use Rattle.machine.specs.Copies.{taken};
+    ghost use Rattle.machine.specs.Stages.{core_at};
 
-    ghost view = { λ w. w.copies.desk.shown.value.core };
+    ghost view = { λ w. core_at w.stage };
 
-    ghost invariant = { λ w. (w.copies.desk.shown.value.core.image ≡ J.image)
-        × (w.keeper ≡ taken w.copies.desk.shown.value.core.trace)
-        × (drop w.copies.behind w.copies.log.items ≡ []) };
+    ghost invariant = { λ w. ((core_at w.stage).image ≡ J.image)
+        × (w.keeper ≡ taken (core_at w.stage).trace) };
 }
 
 impl<J: Naming> Watched<J> {
-    /// Two copies of a core, with room for what its steps tell. Fails only when out of memory.
-    pub fn open<R: Wait>(
-        rt: &R,
-        alloc: Global,
-        core: Core,
-        blank: Blank,
-    ) -> Result<Watched<J>, NoMemory>
+    /// The core, and the keeper of its order.
+    pub fn open(alloc: Global, core: Core, blank: Blank) -> Watched<J>
         requires name { blank ≡ order_named J.names }
         requires image { core.image ≡ J.image }
-        ensures { IfOk result (λ watched. watched ≡ core) }
+        ensures { result ≡ core }
     {
         let mut keeper = blank.named::<OrderOf<J>>();
         add_all::<J>(&mut keeper, core.view().entries);
-        let token = keeper.seen().token();
-        let copy = Shown {
-            core: core.copy(alloc)?,
-            token: token.again(),
-            told: true,
-        };
-        let first = Shown {
-            core,
-            token: token.again(),
-            told: true,
-        };
-        let copies: Copies<J> = Writer::new(alloc, first, copy, PLACES)?;
-        let copies = with_room(rt, copies, &token)?;
-        let copies = with_room(rt, copies, &token)?;
-        Ok(Watched { copies, keeper })
+        Watched {
+            stage: Stage::Alone(core),
+            keeper,
+            alloc,
+        }
     }
 
     /// The core.
@@ -81,7 +73,10 @@ impl<J: Naming> Watched<J> {
         ensures core { result.now ≡ self.now }
         ensures image { self.now.image ≡ J.image }
     {
-        &self.copies.published().core
+        match &self.stage {
+            Stage::Alone(core) => core,
+            Stage::Copied(pair) => pair.core(),
+        }
     }
 
     /// Takes an operation that is not refused, and shows it to watchers. Fails only when out of
@@ -91,24 +86,33 @@ impl<J: Naming> Watched<J> {
         ensures ok { OnOk result (self.new ≡ core_after self.old (asked operation)) }
         ensures err { OnErr result (self.new ≡ self.old) }
     {
-        let Ok(()) = self.copies.append(Ticket::Take(operation)) else {
-            return Err(AllocError);
-        };
-        self.keeper.add(operation);
-        tell(&mut self.copies, self.keeper.seen().token());
-        replace_with(&mut self.copies, rt, publish::<J, R>);
-        Ok(())
+        match &mut self.stage {
+            Stage::Alone(core) => {
+                apply(core, operation);
+                self.keeper.add(operation);
+                Ok(())
+            }
+            Stage::Copied(pair) => pair.take(rt, operation, &mut self.keeper),
+        }
     }
 
-    /// A watch of the machine, which has seen its trace of now.
+    /// A watch of the machine, which has seen its trace of now. The first one needs memory for two
+    /// copies of the core.
     pub fn watch(&mut self) -> Result<Watch<J>, WatchFault>
         ensures watch { IfOk result (λ watch. watch ≡ watch_of self.old.image self.old.trace) }
         ensures same { self.new ≡ self.old }
     {
         let receipt = self.receipt();
-        match self.copies.factory().reader() {
-            Ok(reader) => Ok(Watch::over(reader, receipt)),
-            Err(_) => Err(WatchFault::NoPlace),
+        match &self.stage {
+            Stage::Copied(pair) => pair.watch(receipt),
+            Stage::Alone(core) => {
+                let Ok(pair) = Pair::of(self.alloc, core, &self.keeper.seen()) else {
+                    return Err(WatchFault::NoMemory);
+                };
+                let watch = pair.watch(receipt);
+                self.stage = Stage::Copied(pair);
+                watch
+            }
         }
     }
 
@@ -119,27 +123,20 @@ impl<J: Naming> Watched<J> {
         Receipt::of_core(self.core(), self.keeper.seen())
     }
 
-    /// The core, once nobody looks at either copy.
+    /// The core, once nobody looks at a copy of it.
     pub fn close<R: Wait>(self, rt: &R) -> Core
         ensures core { result ≡ self }
         ensures image { self.image ≡ J.image }
     {
-        let Watched { copies, keeper: _ } = self;
-        let shown = copies.take(rt);
-        let Shown {
-            core,
-            token: _,
-            told: _,
-        } = Box::into_inner(shown);
-        core
-    }
-}
-
-impl<J: Naming> Drop for Watched<J> {
-    fn drop(self) {
-        let Self { copies, keeper: _ } = self;
-        // nothing frees the copies: a watcher may still look at one, and a drop waits for nobody
-        let _kept = unsafe { ManuallyDrop::new_unchecked(copies) };
+        let Watched {
+            stage,
+            keeper: _,
+            alloc: _,
+        } = self;
+        match stage {
+            Stage::Alone(core) => core,
+            Stage::Copied(pair) => pair.close(rt),
+        }
     }
 }
 

@@ -13,20 +13,20 @@ const LOOKS: u32 = 1_000_000;
 pub struct Flag(AtomicBool);
 
 impl Flag {
-    pub fn new() -> Flag {
+    pub(crate) fn new() -> Flag {
         Flag(AtomicBool::new(false))
     }
 
-    pub fn set(&self) {
+    pub(crate) fn set(&self) {
         self.0.store(true, Ordering::SeqCst);
     }
 
-    pub fn is_set(&self) -> bool {
+    pub(crate) fn is_set(&self) -> bool {
         self.0.load(Ordering::SeqCst)
     }
 
     /// Waits until the flag is set, and gives up after a number of looks.
-    pub fn comes(&self) -> bool {
+    pub(crate) fn comes(&self) -> bool {
         for _ in 0..LOOKS {
             if self.is_set() {
                 return true;
@@ -51,7 +51,7 @@ pub struct Meeting {
 }
 
 impl Meeting {
-    pub fn new(first: u8) -> Meeting {
+    pub(crate) fn new(first: u8) -> Meeting {
         Meeting {
             first,
             zero_came: Flag::new(),

@@ -39,7 +39,7 @@ fn stepped<J: Naming, R: Wait + Abort>(
     requires names { blanks ≡ J.names }
     requires image { core.image ≡ J.image }
 {
-    let (mut machine, mut shares) = Machine::<J>::open(rt, alloc, core, blanks)?;
+    let (mut machine, mut shares) = Machine::<J>::open(alloc, core, blanks)?;
     assert_eq!(rt; shares.len(), 2);
     for hart in order {
         assert!(rt; *hart < shares.len());

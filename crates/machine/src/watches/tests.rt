@@ -50,7 +50,7 @@ fn watched<J: Naming, R: Wait + Abort>(
     requires names { blanks ≡ J.names }
     requires image { core.image ≡ J.image }
 {
-    let Ok((mut machine, mut shares)) = Machine::<J>::open(rt, alloc, core, blanks) else {
+    let Ok((mut machine, mut shares)) = Machine::<J>::open(alloc, core, blanks) else {
         return Err(Fail::from("the machine opens"));
     };
     let watch = watch_of(&mut machine).expect(rt, "there is a place");
@@ -88,7 +88,7 @@ fn looked_twice<J: Naming, R: Wait + Abort>(
     requires names { blanks ≡ J.names }
     requires image { core.image ≡ J.image }
 {
-    let Ok((mut machine, shares)) = Machine::<J>::open(rt, alloc, core, blanks) else {
+    let Ok((mut machine, shares)) = Machine::<J>::open(alloc, core, blanks) else {
         return Err(Fail::from("the machine opens"));
     };
     let first = watch_of(&mut machine).expect(rt, "there is a place");
