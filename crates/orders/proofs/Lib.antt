@@ -1,2 +1,3 @@
 pub mod HartNumbers
 pub mod Names
+pub mod StepLemmas

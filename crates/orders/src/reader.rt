@@ -1,6 +1,19 @@
 //! Reading an order.
 
-ghost use Rattle.std.specs.Prelude.{◌≡◌, ◌<◌, ◌≤◌, IfOk, All, length, position};
+ghost use Rattle.std.specs.Prelude.{
+  ◌≡◌,
+  ◌<◌,
+  ◌≤◌,
+  ◌+◌,
+  ◌++◌,
+  [],
+  ◌∷◌,
+  IfOk,
+  OnOk,
+  All,
+  length,
+  take,
+};
 ghost use Rattle.orders.specs.Orders.{order_of, Gives, hart_of_digit, hart_numbers, is_foreign};
 
 use crate::fault::{OrderFault, OrderFaultKind};
@@ -26,51 +39,46 @@ fn is_foreign(byte: u8) -> bool
     hart_of_digit(byte).is_none() && !matches!(byte, b' ' | b'\n')
 }
 
-/// The offset of the first byte that an order cannot have.
-fn first_foreign(text: &[u8]) -> Option<usize>
-    ensures { result ≡ position is_foreign text.now }
+/// Appends the hart of a digit. An order that is too long already takes no more.
+fn push_step(order: &mut Vec<u8>, byte: u8) -> Result<(), AllocError>
+    requires { length order.old.items ≤ ORDER_LIMIT + 1 }
+    ensures { OnOk result (order.new.items
+        ≡ take (ORDER_LIMIT + 1) (order.old.items ++ hart_numbers (byte ∷ []))) }
 {
-    text.iter().position(|byte| is_foreign(*byte))
-}
-
-/// How many steps the text asks for.
-fn step_count(text: &[u8]) -> usize
-    ensures { result ≡ length (hart_numbers text.now) }
-{
-    text.iter().filter_map(|byte| hart_of_digit(*byte)).count()
-}
-
-/// The harts of the steps, in turn.
-fn hart_numbers(alloc: Global, text: &[u8]) -> Result<Vec<u8>, AllocError>
-    ensures { IfOk result (λ order. order.items ≡ hart_numbers text.now) }
-{
-    text.iter()
-        .filter_map(|byte| hart_of_digit(*byte))
-        .collect(alloc)
+    if let Some(hart) = hart_of_digit(byte) {
+        if order.len() <= ORDER_LIMIT {
+            order.push(hart)?;
+        }
+    }
+    Ok(())
 }
 
 /// The hart numbers, each below 8, that an order's text asks to step, in turn: one for each digit.
 /// Spaces and newlines are skipped. The first other byte is refused, by its offset; else more than
 /// [`ORDER_LIMIT`] digits are, at offset 0. Running out of memory says nothing of the text.
-#[tactic(auto, using(crate::proofs::Names::below), unfolding(crate::specs::Orders::order_of))]
 pub fn read_order(alloc: Global, text: &[u8]) -> Result<Vec<u8>, OrderFault>
     ensures meaning { Gives result (order_of text.now) }
     ensures harts { IfOk result (λ order. All (λ hart. hart < 8) order.items) }
     ensures limit { IfOk result (λ order. length order.items ≤ ORDER_LIMIT) }
 {
-    if let Some(offset) = first_foreign(text) {
-        return Err(OrderFault {
-            offset,
-            kind: OrderFaultKind::Byte,
-        });
+    let mut order = Vec::new(alloc);
+    for (offset, byte) in text.iter().enumerate() {
+        if is_foreign(*byte) {
+            return Err(OrderFault {
+                offset,
+                kind: OrderFaultKind::Byte,
+            });
+        }
+        push_step(&mut order, *byte)?;
     }
-    if step_count(text) > ORDER_LIMIT {
+    let steps = order.len();
+    if steps > ORDER_LIMIT {
         return Err(OrderFault {
             offset: 0,
             kind: OrderFaultKind::Size,
         });
     }
-    Ok(hart_numbers(alloc, text)?)
+    Ok(order)
 }
 
 #[cfg(test)]
