@@ -53,6 +53,15 @@ module _ (o : Option Place) (token q : List ℕ) (place : Place) where
   unfolding label_of found_at
   label_defines new e f h = rw (e, f) h
 
+-- what it counts
+pub counts_one : (token : List ℕ) → is_instruction token ≡ true → 1 ≡ count_of token
+unfolding count_of
+counts_one token e = rw e refl
+
+pub counts_none : (token : List ℕ) → is_instruction token ≡ false → 0 ≡ count_of token
+unfolding count_of
+counts_none token e = rw e refl
+
 regrouped : (o p q : Option Place) → first_place (first_place o p) q ≡ first_place o (first_place p q)
 regrouped (Some place) p q = refl
 regrouped None p q = refl

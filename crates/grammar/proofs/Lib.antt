@@ -1,4 +1,5 @@
 pub mod ChainLemmas
+pub mod FirstToken
 pub mod LabelLemmas
 pub mod LawfulTypes
 pub mod LineLemmas

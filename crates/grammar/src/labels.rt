@@ -28,12 +28,13 @@ ghost use Rattle.grammar.specs.Labels.{
   label_fault,
 };
 ghost use Rattle.grammar.specs.Directives.{found_at};
+ghost use Rattle.grammar.specs.Tokens.{tokens_of, token_at};
 ghost use Rattle.grammar.specs.Places.{shown, named_in, first_place};
 
 use crate::fault::ListingFaultKind;
 use crate::mnemonics::is_instruction;
 use crate::numerals::{at_most, number_of_digits};
-use crate::tokens::{read_tokens, token_at};
+use crate::tokens::first_token;
 use cheri_model::Target;
 use std::alloc::{AllocError, AllocFailed, Global};
 use std::collections::HashMap;
@@ -117,31 +118,27 @@ fn define<'a>(
     Ok(())
 }
 
-/// Defines the name of a line that begins with this token, if the line is a label's.
-fn define_label<'a>(
+/// Defines a line's name, if the line is a label's, and gives how many instructions it counts.
+fn add_line<'a>(
     labels: &mut HashMap<&'a [u8], Place>,
-    token: &'a [u8],
+    line: &'a [u8],
     place: Place,
-) -> Result<(), AllocFailed<(&'a [u8], Place)>>
-    ensures { OnOk result ((q : List ℕ) → named_in labels.new q
-        ≡ first_place (named_in labels.old q) (found_at (label_of token.now place) q)) }
+) -> Result<u32, AllocFailed<(&'a [u8], Place)>>
+    ensures count { IfOk result (λ count. count ≡ count_of (token_at (tokens_of line.now) 0)) }
+    ensures labels { OnOk result ((q : List ℕ) → named_in labels.new q
+        ≡ first_place (named_in labels.old q)
+        (found_at (label_of (token_at (tokens_of line.now) 0) place) q)) }
 {
-    if is_instruction(token) {
-        return Ok(());
+    let first = first_token(line);
+    if is_instruction(first) {
+        return Ok(1);
     }
-    if !is_label_token(token) {
-        return Ok(());
+    let labelled = is_label_token(first);
+    if !labelled {
+        return Ok(0);
     }
-    define(labels, label_name(token), place)?;
-    Ok(())
-}
-
-/// What a line that begins with this token counts.
-#[tactic(auto, unfolding(crate::specs::Labels::count_of))]
-fn count_of(token: &[u8]) -> u32
-    ensures { result ≡ count_of token.now }
-{
-    if is_instruction(token) { 1 } else { 0 }
+    define(labels, label_name(first), place)?;
+    Ok(0)
 }
 
 /// What the jumps of a listing may name: the first pass over its lines.
@@ -150,21 +147,14 @@ pub fn places_of<'a>(alloc: Global, text: &'a [u8]) -> Result<Places<'a>, AllocE
     ensures { IfOk result (λ places. shown places ≡ places_of text.now) }
 {
     let mut labels = HashMap::new(alloc);
-    let mut tokens = Vec::new(alloc);
     let mut number = 1;
     let mut instructions = 0;
     for line in text.split(|byte| *byte == b'\n') {
-        read_tokens(line, &mut tokens)?;
-        let first = token_at(tokens.as_slice(), 0);
-        define_label(
-            &mut labels,
-            first,
-            Place {
-                line: number,
-                instructions,
-            },
-        )?;
-        instructions += count_of(first);
+        let place = Place {
+            line: number,
+            instructions,
+        };
+        instructions += add_line(&mut labels, line, place)?;
         number += 1;
     }
     Ok(Places {

@@ -1,12 +1,10 @@
-use Rattle.std.proofs.Common.{◌≡◌, ◌+◌, ◌≤◌, ◌==◌, ◌∙◌, ap, length, rules, tests, arith}
+use Rattle.std.proofs.Common.{◌≡◌, ◌+◌, ◌≤◌, ◌==◌, ap, length, rules, tests, arith}
 use Rattle.std.proofs.lemmas.List.{length_push}
 use Rattle.std.proofs.lemmas.Iterator.Consumers.{YieldsList-at}
 use Rattle.std.proofs.lemmas.Iterator.Splits.{YieldsList-from_slice_split}
 use Rattle.grammar.specs.Lines.{lines_of}
-use Rattle.grammar.specs.Tokens.{texts, token_at, tokens_of}
-use Rattle.grammar.specs.Directives.{found_at}
-use Rattle.grammar.specs.Labels.{label_of, count_of}
-use Rattle.grammar.specs.Places.{named_in, first_place}
+use Rattle.grammar.specs.Tokens.{token_at, tokens_of}
+use Rattle.grammar.specs.Places.{named_in}
 use Rattle.grammar.proofs.ChainLemmas.{turn_of, end_of, from_here}
 use Rattle.grammar.proofs.LabelLemmas.{label_first, label_last, count_first, count_last, count_at_most_one, lines_at_most, places_where}
 use Rattle.grammar.proofs.labels.places_of.Goals as goal
@@ -16,7 +14,7 @@ overflow_add-instructions c =
     let turn = turn_of c.loop-line.yielded _ c.loop-line.yielded_by _ _ c.in-Some.line c.in-Some.is c.next.ensures.steps
     (YieldsList-at c.into_iter-line-iterator.ensures.into_iter_gives
     (YieldsList-from_slice_split _ (λ b. b == 10) c.args.text.now c.split-line-items.ensures.rest c.split-line-items.ensures.done c.split-line-items.ensures.closure (λ x b q k. search (rules, tests)))) in
-    omega (arith, turn.0, lines_at_most c.args.text.now, c.count_of-instructions.ensures, count_at_most_one c.token_at-first.result.now, c.loop-line.invariant.1)
+    omega (arith, turn.0, lines_at_most c.args.text.now, c.in_ok-instructions.ensures.count, count_at_most_one (token_at (tokens_of c.in-Some.line.now) 0), c.loop-line.invariant.1)
 
 pub loop-line-preserved : goal.loop-line-preserved
 loop-line-preserved c =
@@ -26,17 +24,14 @@ loop-line-preserved c =
     let here = from_here (lines_of c.args.text.now) (length c.loop-line.yielded) c.in-Some.line.now turn.0 turn.1 in
     let more = length_push c.loop-line.yielded c.in-Some.line in
     let place : c.loop-line.number ≡ length c.loop-line.yielded + 1 = c.loop-line.invariant.0 in
-    let token : c.token_at-first.result.now ≡ token_at (tokens_of c.in-Some.line.now) 0 =
-    c.token_at-first.ensures ∙ ap (λ ts. token_at ts 0) (ap texts c.as_slice.ensures.value ∙ c.in_ok-read_tokens.ensures) in
-    let counted : c.count_of-instructions.result ≡ count_of (token_at (tokens_of c.in-Some.line.now) 0) = c.count_of-instructions.ensures ∙ ap count_of token in
+    let counted = c.in_ok-instructions.ensures.count in
     let added = ap (λ n. c.loop-line.instructions + n) counted in (
       omega (arith, more, place),
       omega (arith, more, counted, count_at_most_one (token_at (tokens_of c.in-Some.line.now) 0), c.loop-line.invariant.1),
       rw more (count_first _ _ _ c.in-Some.line.now _ added (rw here at c.loop-line.invariant.2)),
       λ q. rw (more, counted)
           (label_first _ (named_in c.loop-line.labels q) _ c.loop-line.number c.loop-line.instructions c.in-Some.line.now q _
-          (c.in_ok-define_label.ensures q ∙ ap (λ t. first_place (named_in c.loop-line.labels q) (found_at (label_of t (record { line = c.loop-line.number; instructions = c.loop-line.instructions })) q)) token)
-          (rw here at (c.loop-line.invariant.3 q))),
+          (c.in_ok-instructions.ensures.labels q) (rw here at (c.loop-line.invariant.3 q))),
     )
 
 pub returns : goal.returns
