@@ -1,5 +1,5 @@
 -- The names of instructions, as listings spell them (this project's own format).
-use Rattle.std.specs.Prelude.{ℕ, Bool, List, [], ◌∷◌, Option, is_some, codes}
+use Rattle.std.specs.Prelude.{ℕ, ◌==◌, Bool, List, [], ◌∷◌, Option, is_some, filter, slice_index_or, codes}
 use Rattle.cheri_model.specs.declared.form.ThreeOp.TheVariants as three_op
 use Rattle.cheri_model.specs.declared.form.TwoOp.TheVariants as two_op
 use Rattle.cheri_model.specs.declared.form.ImmediateOp.TheVariants as immediate_op
@@ -98,6 +98,10 @@ mnemonic_table =
     ∷ (codes "cjal", Jump)
     ∷ (codes "cinvoke", Invoke)
     ∷ (codes "ecall", Alone) ∷ []
+
+-- those that begin with a letter
+unfoldable pub names_from : ℕ → List (List ℕ × Mnemonic)
+names_from letter = filter (λ row. slice_index_or row.0 0 0 == letter) mnemonic_table
 
 -- the instruction that a token names
 unfoldable pub mnemonic_of : List ℕ → Option Mnemonic

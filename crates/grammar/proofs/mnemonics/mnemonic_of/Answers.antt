@@ -1,6 +1,11 @@
-use Rattle.grammar.specs.Mnemonics.{mnemonic_of, mnemonic_table}
+use Rattle.std.proofs.Common.{◌∙◌, refl, ap}
+use Rattle.grammar.specs.Directives.{found_at}
+use Rattle.grammar.proofs.NameLemmas.{found_by_letter, nothing_named}
 use Rattle.grammar.proofs.mnemonics.mnemonic_of.Goals as goal
 
-pub returns : goal.returns
-unfolding mnemonic_of mnemonic_table
-returns c = c.found_at.ensures
+pub returns-in-empty : goal.returns-in-empty
+returns-in-empty c = nothing_named c.args.token.now c.in-empty.len_below
+
+pub returns-in-len1-up : goal.returns-in-len1-up
+returns-in-len1-up c =
+    c.found_at.ensures ∙ ap (λ rows. found_at rows c.args.token.now) c.names_from.ensures ∙ found_by_letter _ c.args.token.now refl
