@@ -1,6 +1,12 @@
--- Which object types are lawful.
-use Rattle.std.proofs.Common.{ℕ, ◌<◌, ◌^◌, ◌≢◌}
-use Rattle.cheri_model.specs.Capability.{IsLawfulType}
+-- Which object types are lawful: those up to the last that can be sealed with, a sentry's, and that of what is unsealed.
+use Rattle.std.proofs.Common.{◌≡◌, ℕ, ◌≤◌, arith}
+use Rattle.cheri_model.specs.Capability.{IsLawfulType, unsealed_type, sentry_type, last_sealable_type}
 
-pub lawful_where : (otype : ℕ) → otype < 2 ^ 18 → otype ≢ 0x3FFFC → otype ≢ 0x3FFFD → IsLawfulType otype
-lawful_where otype below h k = record { below = below; not_reserved = h; not_reserved_either = k }
+pub unsealed_lawful : (otype : ℕ) → otype ≡ unsealed_type → IsLawfulType otype
+unsealed_lawful otype e = record { below = omega (arith, e); not_reserved = λ h. omega (arith, e, h); not_reserved_either = λ h. omega (arith, e, h) }
+
+pub sentry_lawful : (otype : ℕ) → otype ≡ sentry_type → IsLawfulType otype
+sentry_lawful otype e = record { below = omega (arith, e); not_reserved = λ h. omega (arith, e, h); not_reserved_either = λ h. omega (arith, e, h) }
+
+pub sealable_lawful : (otype : ℕ) → otype ≤ last_sealable_type → IsLawfulType otype
+sealable_lawful otype e = record { below = omega (arith, e); not_reserved = λ h. omega (arith, e, h); not_reserved_either = λ h. omega (arith, e, h) }

@@ -1,6 +1,7 @@
 -- Short names for `using(..)`.
 use Rattle.grammar.proofs.TokenLemmas.{length_of_texts, token_at_text, token_at_none}
 use Rattle.grammar.proofs.LineLemmas.{before_comment_none, before_comment_some, after_blanks_some, after_blanks_none, before_end_some, before_end_none}
+use Rattle.grammar.proofs.LawfulTypes.{unsealed_lawful, sentry_lawful, sealable_lawful}
 use Rattle.grammar.proofs.OperandLemmas.{without_bracket, at_bracket}
 use Rattle.grammar.proofs.PermissionTexts.{no_name_beyond_text}
 
@@ -17,3 +18,5 @@ pub ruleset ended = (before_end_some, before_end_none)
 pub ruleset bracket = (without_bracket, at_bracket)
 
 pub ruleset no_name = (no_name_beyond_text)
+
+pub ruleset lawful = (unsealed_lawful, sentry_lawful, sealable_lawful)

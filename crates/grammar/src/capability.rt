@@ -58,7 +58,7 @@ pub fn cap_operands_of(
 }
 
 /// TYPE, which may be the last token, at `place`, or left out.
-#[tactic(auto, using(crate::proofs::Names::count), unfolding(crate::specs::Capability::optional_type))]
+#[tactic(auto, using(crate::proofs::Names::count), unfolding(crate::proofs::Open::last_type))]
 fn optional_type(tokens: &[&[u8]], place: usize) -> Result<TypeOperand, ListingFaultKind>
     requires { place < 2 ^ 32 }
     ensures { result ≡ optional_type (texts tokens.now) place }

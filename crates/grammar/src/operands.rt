@@ -63,10 +63,8 @@ impl Model for LawfulType {
 }
 
 impl LawfulType {
-    #[tactic(auto, using(crate::proofs::LawfulTypes::lawful_where))]
     fn new(otype: OType) -> LawfulType
-        requires below { otype < 2 ^ 18 }
-        requires not_reserved { (otype ≢ 0x3FFFC) × (otype ≢ 0x3FFFD) }
+        requires { IsLawfulType otype }
         ensures { result ≡ otype }
     {
         LawfulType { otype }
@@ -170,7 +168,7 @@ fn memory_operand_from(imm: Immediate, part: &[u8]) -> Result<MemoryOperand, Lis
 }
 
 /// The memory operand that a token writes: an immediate and a register in brackets.
-#[tactic(auto, using(crate::proofs::Names::bracket), unfolding(crate::specs::Operands::memory_operand_of))]
+#[tactic(auto, using(crate::proofs::Names::bracket), unfolding(crate::proofs::Open::memory))]
 pub fn memory_operand_of(token: &[u8]) -> Result<MemoryOperand, ListingFaultKind>
     ensures { result ≡ memory_operand_of token.now }
 {
@@ -194,7 +192,7 @@ pub fn type_operand_of(token: &[u8]) -> Result<TypeOperand, ListingFaultKind>
 }
 
 /// An object type in its range: below the reserved types, or a sentry, or unsealed.
-#[tactic(auto, unfolding(crate::specs::Operands::type_in_range))]
+#[tactic(auto, using(crate::proofs::Names::lawful), unfolding(crate::proofs::Open::in_range))]
 pub fn type_in_range(operand: TypeOperand) -> Result<LawfulType, ListingFaultKind>
     ensures { result ≡ type_in_range operand }
 {

@@ -15,7 +15,7 @@ use cheri_model::Perms;
 use std::str;
 
 /// The permission of this name.
-#[tactic(auto, using(crate::proofs::Names::no_name), unfolding(crate::specs::Permissions::permission_named))]
+#[tactic(auto, using(crate::proofs::Names::no_name), unfolding(crate::proofs::Open::named))]
 fn permission_named(name: &[u8]) -> Option<Perms>
     ensures { option_map (λ perms. perms.0) result ≡ permission_named name.now }
 {
