@@ -12,43 +12,43 @@ drop_one : (n x : ℕ) (xs : List ℕ) → drop (1 + n) (x ∷ xs) ≡ drop n xs
 drop_one n x xs = let e : 1 + n ≡ suc n = omega arith in ap (λ k. drop k (x ∷ xs)) e
 
 -- one byte more of what is before the comment, of a token, and of the blanks before it
-comment_more : (x : ℕ) (xs : List ℕ) → (x == 0x23) ≡ false → before_comment (x ∷ xs) ≡ x ∷ before_comment xs
+pub comment_more : (x : ℕ) (xs : List ℕ) → (x == 0x23) ≡ false → before_comment (x ∷ xs) ≡ x ∷ before_comment xs
 comment_more x xs e = rw e (take_one _ x xs)
 
-comment_here : (x : ℕ) (xs : List ℕ) → (x == 0x23) ≡ true → before_comment (x ∷ xs) ≡ []
+pub comment_here : (x : ℕ) (xs : List ℕ) → (x == 0x23) ≡ true → before_comment (x ∷ xs) ≡ []
 comment_here x xs e = rw e refl
 
-token_more : (x : ℕ) (xs : List ℕ) → ends_token x ≡ false → before_end (x ∷ xs) ≡ x ∷ before_end xs
+pub token_more : (x : ℕ) (xs : List ℕ) → ends_token x ≡ false → before_end (x ∷ xs) ≡ x ∷ before_end xs
 token_more x xs e = rw e (take_one _ x xs)
 
-token_ends : (x : ℕ) (xs : List ℕ) → ends_token x ≡ true → before_end (x ∷ xs) ≡ []
+pub token_ends : (x : ℕ) (xs : List ℕ) → ends_token x ≡ true → before_end (x ∷ xs) ≡ []
 token_ends x xs e = rw e refl
 
-blank_more : (x : ℕ) (xs : List ℕ) → is_blank x ≡ true → after_blanks (x ∷ xs) ≡ after_blanks xs
+pub blank_more : (x : ℕ) (xs : List ℕ) → is_blank x ≡ true → after_blanks (x ∷ xs) ≡ after_blanks xs
 blank_more x xs e = rw e (drop_one _ x xs)
 
-token_begins : (x : ℕ) (xs : List ℕ) → is_blank x ≡ false → after_blanks (x ∷ xs) ≡ x ∷ xs
+pub token_begins : (x : ℕ) (xs : List ℕ) → is_blank x ≡ false → after_blanks (x ∷ xs) ≡ x ∷ xs
 token_begins x xs e = rw e refl
 
-ends_where : (x : ℕ) (blank hash : Bool) → is_blank x ≡ blank → (x == 0x23) ≡ hash → ends_token x ≡ (blank || hash)
+pub ends_where : (x : ℕ) (blank hash : Bool) → is_blank x ≡ blank → (x == 0x23) ≡ hash → ends_token x ≡ (blank || hash)
 unfolding ends_token
 ends_where x blank hash e f = rw (e, f) refl
 
 -- the parts of a line after one byte more
-first_part : List ℕ → List ℕ
+unfoldable pub first_part : List ℕ → List ℕ
 first_part line = get_or (slice_split is_blank (before_comment line)) 0 []
 
-cut : (x : ℕ) (line : List ℕ) → is_blank x ≡ true → slice_split is_blank (x ∷ line) ≡ [] ∷ slice_split is_blank line
+pub cut : (x : ℕ) (line : List ℕ) → is_blank x ≡ true → slice_split is_blank (x ∷ line) ≡ [] ∷ slice_split is_blank line
 cut x line e = rw e refl
 
-uncut : (x : ℕ) (line : List ℕ) → is_blank x ≡ false → slice_split is_blank (x ∷ line) ≡ onto_first x (slice_split is_blank line)
+pub uncut : (x : ℕ) (line : List ℕ) → is_blank x ≡ false → slice_split is_blank (x ∷ line) ≡ onto_first x (slice_split is_blank line)
 uncut x line e = rw e refl
 
 onto_part : (x : ℕ) (parts : List (List ℕ)) → get_or (onto_first x parts) 0 [] ≡ x ∷ get_or parts 0 []
 onto_part x [] = refl
 onto_part x (part ∷ parts) = refl
 
-filled : (x : ℕ) (part : List ℕ) → is_filled (x ∷ part) ≡ true
+pub filled : (x : ℕ) (part : List ℕ) → is_filled (x ∷ part) ≡ true
 filled x part = let e : (length (x ∷ part) == 0) ≡ false = grind (arith, nat_tests) in rw e refl
 
 kept : (test : Bool) (part : List ℕ) (rest others : List (List ℕ)) → test ≡ true → get_or (cond test (part ∷ rest) others) 0 [] ≡ part
@@ -69,12 +69,12 @@ part_where false false x xs e f h =
     (onto_part x (slice_split is_blank (before_comment xs)) ∙ ap (λ part. x ∷ part) h)
 
 -- a line's first part ends where a token would
-part_of : (line : List ℕ) → first_part line ≡ before_end line
+pub part_of : (line : List ℕ) → first_part line ≡ before_end line
 unfolding first_part
 part_of [] = refl
 part_of (x ∷ xs) = part_where (is_blank x) (x == 0x23) x xs refl refl (part_of xs)
 
-blank_where : (hash : Bool) (x : ℕ) → is_blank x ≡ true → (x == 0x23) ≡ hash → hash ≡ false
+pub blank_where : (hash : Bool) (x : ℕ) → is_blank x ≡ true → (x == 0x23) ≡ hash → hash ≡ false
 unfolding is_blank
 blank_where true x e f = absurd (grind (arith, nat_tests))
 blank_where false x e f = refl

@@ -11,7 +11,6 @@ ghost use Rattle.grammar.specs.Tokens.{
   texts,
 };
 
-use crate::lines::before_comment;
 use std::alloc::AllocError;
 
 /// Whether a byte separates tokens.
@@ -78,12 +77,16 @@ pub fn read_tokens<'a>(line: &'a [u8], tokens: &mut Vec<&'a [u8]>) -> Result<(),
     ensures { OnOk result (texts tokens.new.items ≡ tokens_of line.now) }
 {
     tokens.clear();
-    for part in before_comment(line).split(|byte| is_blank(*byte)) {
-        if !part.is_empty() {
-            tokens.push(part)?;
+    let mut rest = line;
+    loop {
+        let start = after_blanks(rest);
+        let token = before_end(start);
+        if token.is_empty() {
+            return Ok(());
         }
+        tokens.push(token)?;
+        rest = &start[token.len()..];
     }
-    Ok(())
 }
 
 /// The token at a place, and an empty one where there is none.
