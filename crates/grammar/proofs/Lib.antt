@@ -1,4 +1,5 @@
 pub mod ChainLemmas
+pub mod DirectiveLemmas
 pub mod EachToken
 pub mod FirstToken
 pub mod LabelLemmas

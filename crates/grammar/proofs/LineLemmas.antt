@@ -1,10 +1,10 @@
 -- Where a comment begins, and what stands before it.
-use Rattle.std.proofs.Common.{◌≡◌, ℕ, ◌≤◌, ◌==◌, Bool, true, false, cond, not, nat_lt, List, [], length, take, drop, Some, None, refl, ap, position, arith}
-use Rattle.std.specs.List.{position_or_len, before_first}
+use Rattle.std.proofs.Common.{◌≡◌, ℕ, ◌≤◌, Bool, true, false, cond, not, nat_lt, List, [], length, take, drop, Some, None, refl, ap, position, fold, ◌&&◌, ◌∷◌, arith}
+use Rattle.std.specs.List.{position_or_len, before_first, list_all}
 use Rattle.std.proofs.Math.ListN.{drop_of_length-le}
 use Rattle.std.proofs.lemmas.Bool.Decides.{nat_tests}
 use Rattle.std.proofs.lemmas.List.{take_all}
-use Rattle.grammar.specs.Lines.{before_comment}
+use Rattle.grammar.specs.Lines.{is_plain}
 use Rattle.grammar.specs.Tokens.{is_blank, ends_token, after_blanks, before_end}
 
 pub found_at : (test : Bool) (at end : ℕ) → cond test (Some at) None ≡ Some end → at ≡ end
@@ -34,15 +34,17 @@ module _ (p : ℕ → Bool) (line : List ℕ) where
   pub from_first_none : position p line ≡ None → drop (position_or_len p line) line ≡ []
   from_first_none e = drop_of_length-le line (all_before e)
 
--- a comment that begins at `end` has what is before `end` before it
-pub before_comment_some : (line : List ℕ) (end : ℕ) → position (λ b. b == 0x23) line ≡ Some end → before_comment line ≡ take end line
-before_comment_some line end e = before_first_some (λ b. b == 0x23) line end e
+-- a byte that is not plain makes its line not plain
+plain_from : (plain : Bool) (line : List ℕ) → fold (λ (some : Bool) b. some && is_plain b) plain line ≡ (plain && list_all is_plain line)
+plain_from true [] = refl
+plain_from false [] = refl
+plain_from true (b ∷ line) = plain_from (is_plain b) line
+plain_from false (b ∷ line) = plain_from false line
 
--- without a comment the whole line is before it
-pub before_comment_none : (line : List ℕ) → position (λ b. b == 0x23) line ≡ None → before_comment line ≡ line
-before_comment_none line e = before_first_none (λ b. b == 0x23) line e
+pub each_plain : (line : List ℕ) → fold (λ (plain : Bool) b. plain && is_plain b) true line ≡ list_all is_plain line
+each_plain line = plain_from true line
 
--- the same of the blanks before a line's first token, and of that token
+-- where the first token begins, and where it ends
 pub after_blanks_some : (line : List ℕ) (start : ℕ) → position (λ b. not (is_blank b)) line ≡ Some start → after_blanks line ≡ drop start line
 after_blanks_some line start e = from_first_some (λ b. not (is_blank b)) line start e
 

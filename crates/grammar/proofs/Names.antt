@@ -1,6 +1,6 @@
 -- Short names for `using(..)`.
 use Rattle.grammar.proofs.TokenLemmas.{length_of_texts, token_at_text, token_at_none}
-use Rattle.grammar.proofs.LineLemmas.{before_comment_none, before_comment_some, after_blanks_some, after_blanks_none, before_end_some, before_end_none}
+use Rattle.grammar.proofs.LineLemmas.{each_plain, after_blanks_some, after_blanks_none, before_end_some, before_end_none}
 use Rattle.grammar.proofs.LawfulTypes.{unsealed_lawful, sentry_lawful, sealable_lawful}
 use Rattle.grammar.proofs.OperandLemmas.{without_bracket, at_bracket}
 use Rattle.grammar.proofs.PermissionTexts.{no_name_beyond_text}
@@ -9,7 +9,7 @@ pub ruleset count = (length_of_texts)
 
 pub ruleset token = (token_at_text, token_at_none)
 
-pub ruleset comment = (before_comment_none, before_comment_some)
+pub ruleset plain = (each_plain)
 
 pub ruleset begun = (after_blanks_some, after_blanks_none)
 

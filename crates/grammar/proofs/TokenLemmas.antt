@@ -1,24 +1,9 @@
 -- The words of a line, filtered in memory and in the definition.
-use Rattle.std.proofs.Common.{◌≡◌, ℕ, Bool, true, false, cond, List, [], ◌∷◌, length, filter, refl, ap, ◌∙◌, get_or, ◌<◌, ◌≤◌, arith}
+use Rattle.std.proofs.Common.{◌≡◌, ℕ, List, [], length, get_or, ◌<◌, ◌≤◌, arith}
 use Rattle.std.specs.Borrow.{Bor}
 use Rattle.std.proofs.lemmas.List.{length-map, get_or-map}
 use Rattle.std.proofs.Math.ListN.{get_or-eq_default}
-use Rattle.grammar.specs.Tokens.{is_filled, texts, token_at}
-
--- whether a word in memory has a byte
-abbrev pub is_filled_word : Bor (List ℕ) → Bool
-is_filled_word word = is_filled word.now
-
-kept_where : (test : Bool) (word : Bor (List ℕ)) (some all : List (Bor (List ℕ))) → texts (cond test (word ∷ some) some) ≡ cond test (word.now ∷ texts some) (texts some)
-kept_where true word some all = refl
-kept_where false word some all = refl
-
--- the texts of the words that are kept are those texts that are kept
-pub texts_kept : (words : List (Bor (List ℕ))) → texts (filter is_filled_word words) ≡ filter is_filled (texts words)
-texts_kept [] = refl
-texts_kept (word ∷ words) =
-    kept_where (is_filled word.now) word (filter is_filled_word words) words
-    ∙ ap (λ rest. cond (is_filled word.now) (word.now ∷ rest) rest) (texts_kept words)
+use Rattle.grammar.specs.Tokens.{texts, token_at}
 
 -- as many texts as words
 pub length_of_texts : (words : List (Bor (List ℕ))) → length (texts words) ≡ length words

@@ -1,5 +1,5 @@
 -- The directives of a listing, and tables by name (this project's own format).
-use Rattle.std.specs.Prelude.{ℕ, if◌then◌else◌, List, [], ◌∷◌, Option, Some, None, codes, bytes_eq, map}
+use Rattle.std.specs.Prelude.{ℕ, ◌==◌, nat_le, Bool, ◌&&◌, if◌then◌else◌, List, [], ◌∷◌, length, slice_index, Option, Some, None, codes, bytes_eq, map}
 use Rattle.std.specs.Borrow.{Bor}
 use Rattle.grammar.specs.declared.directives.Directive.{Directive}
 use Rattle.grammar.specs.declared.directives.Directive.TheVariants.{Ram, Hart, Set, Bytes, Cap}
@@ -17,6 +17,10 @@ abbrev pub directive_table : List (List ℕ × Directive)
 directive_table =
     (codes ".ram", Ram) ∷ (codes ".hart", Hart) ∷ (codes ".set", Set) ∷ (codes ".bytes", Bytes)
     ∷ (codes ".cap", Cap) ∷ []
+
+-- a token that begins with a point, as each directive does
+unfoldable pub has_point : List ℕ → Bool
+has_point token = nat_le 1 (length token) && (slice_index token 0 == 0x2E)
 
 -- the directive that a token names
 unfoldable pub directive_of : List ℕ → Option Directive

@@ -1,7 +1,7 @@
 //! The directives of a listing, and tables by name.
 
 ghost use Rattle.std.specs.Prelude.{◌≡◌};
-ghost use Rattle.grammar.specs.Directives.{found_at, rows_of, directive_of};
+ghost use Rattle.grammar.specs.Directives.{found_at, rows_of, has_point, directive_of};
 
 /// What a line that begins with `.` says.
 #[derive(Clone, Copy)]
@@ -39,10 +39,20 @@ pub fn found_at<T: Copy + Drop>(table: &[(&[u8], T)], token: &[u8]) -> Option<T>
     None
 }
 
+/// Whether a token begins as directives do.
+#[tactic(auto, unfolding(crate::specs::Directives::has_point))]
+fn has_point(token: &[u8]) -> bool
+    ensures { result ≡ has_point token.now }
+{
+    !token.is_empty() && token[0] == b'.'
+}
+
 /// The directive that a token names.
-#[tactic(auto, unfolding(crate::specs::Directives::directive_of))]
 pub fn directive_of(token: &[u8]) -> Option<Directive>
     ensures { result ≡ directive_of token.now }
 {
+    if !has_point(token) {
+        return None;
+    }
     found_at(DIRECTIVES, token)
 }
