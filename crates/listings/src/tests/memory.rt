@@ -9,6 +9,16 @@ use std::test::Fail;
 
 const SMALL: &str = ".ram 32\n.hart 0x10000000 16 0x10000000 execute\n";
 
+/// Each of these, after 32 bytes of RAM and a hart, is read as one instruction.
+fn small_read(rt: &impl Abort, alloc: Global, cases: &[&str]) -> Result<(), Fail> {
+    let want = Answer::Image {
+        harts: 1,
+        ram: 32,
+        code: 1,
+    };
+    each_gives(rt, alloc, SMALL, cases, want)
+}
+
 /// Each of these, after 32 bytes of RAM and a hart, is refused.
 fn small_refused(
     rt: &impl Abort,
@@ -92,22 +102,15 @@ fn lines_of_ram(rt: HostRuntime) -> Result<(), Fail> {
 #[test]
 fn bytes(rt: HostRuntime) -> Result<(), Fail> {
     let alloc = rt.alloc();
-    let read = Answer::Image {
-        harts: 1,
-        ram: 32,
-        code: 1,
-    };
-    each_gives(
+    small_read(
         &rt,
         alloc,
-        SMALL,
         &[
             ".bytes 0x80000000 00\necall",
             ".bytes 2147483648 AaBb\necall",
             ".bytes 0x8000000f aabb\necall",
             ".bytes 0x8000001f aa\necall",
         ],
-        read,
     )?;
     small_refused(
         &rt,
@@ -177,21 +180,14 @@ fn at_most_4096_bytes_a_line(rt: HostRuntime) -> Result<(), Fail> {
 #[test]
 fn capabilities_in_ram(rt: HostRuntime) -> Result<(), Fail> {
     let alloc = rt.alloc();
-    let read = Answer::Image {
-        harts: 1,
-        ram: 32,
-        code: 1,
-    };
-    each_gives(
+    small_read(
         &rt,
         alloc,
-        SMALL,
         &[
             ".cap 0x80000000 0 16 0 load\necall",
             ".cap 0x80000010 0 16 0 load sentry\necall",
             ".cap 0x80000010 0 16 0 load 262139\necall",
         ],
-        read,
     )?;
     small_refused(
         &rt,
