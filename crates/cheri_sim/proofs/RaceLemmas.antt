@@ -63,7 +63,7 @@ race_printed listing turns image core reports text (Err fault) old new meaning s
 race_fault_printed : (listing : List ℕ) (turns : ℕ) (text : List ℕ) (fault : Fault) (old new : Option (List ℕ)) →
     IsRace listing turns text → IsUnwritten old new text fault → IsUnraced listing turns old new fault
 race_fault_printed listing turns text faults.NoMemory old new shown begun = inr (text, shown, begun)
-race_fault_printed listing turns text faults.CannotWrite old new shown begun = tt
+race_fault_printed listing turns text faults.CannotWrite old new shown begun = (text, shown, begun)
 race_fault_printed listing turns text faults.Usage old new shown begun = absurd begun
 race_fault_printed listing turns text faults.BadNumber old new shown begun = absurd begun
 race_fault_printed listing turns text faults.CannotReadListing old new shown begun = absurd begun

@@ -119,11 +119,20 @@ OfFiles files listing order IsSo =
     (listing_bytes : List ℕ) × (order_bytes : List ℕ) × AreBytesOf (files listing) listing_bytes
     × AreBytesOf (files order) order_bytes × IsSo listing_bytes order_bytes
 
+-- a beginning of what answers a request was printed; a run may have ended at a refused step
+unfoldable pub BeginsAnswer : KnownFiles → Option Asked → Option (List ℕ) → Option (List ℕ) → Type 0
+BeginsAnswer files (Some (Run listing order form)) old new =
+    OfFiles files listing order (λ first second. BeginsRun form first second old new)
+BeginsAnswer files (Some (Check listing)) old new = PrintsBeginning (IsCheckAnswer files listing) old new
+BeginsAnswer files (Some (Race listing turns watch)) old new = PrintsBeginning (IsRaceAnswer files listing turns) old new
+BeginsAnswer files (Some (Bounds base len)) old new = PrintsBeginning (IsBoundsAnswer base len) old new
+BeginsAnswer files (Some (Decode word)) old new = PrintsBeginning (IsDecodeAnswer word) old new
+BeginsAnswer files None old new = ⊥
+
 -- Where memory ran out, nothing was printed, or a beginning of the report of a run or of a race.
 unfoldable pub Begins : KnownFiles → Option Asked → Option (List ℕ) → Option (List ℕ) → Type 0
-Begins files (Some (Run listing order form)) old new =
-    (new ≡ old) ⊎ OfFiles files listing order (λ first second. BeginsRun first second old new)
-Begins files (Some (Race listing turns watch)) old new = (new ≡ old) ⊎ PrintsBeginning (IsRaceAnswer files listing turns) old new
+Begins files (Some (Run listing order form)) old new = (new ≡ old) ⊎ BeginsAnswer files (Some (Run listing order form)) old new
+Begins files (Some (Race listing turns watch)) old new = (new ≡ old) ⊎ BeginsAnswer files (Some (Race listing turns watch)) old new
 Begins files _ old new = new ≡ old
 
 -- whether a race was asked for
@@ -136,27 +145,33 @@ abbrev pub IsQuiet : Option Asked → Option (List ℕ) → Option (List ℕ) �
 IsQuiet (Some (Race listing turns true)) old new = ⊤
 IsQuiet _ old new = new ≡ old
 
--- A request fails for this reason, which leaves standard output so. Nothing is known after a failed write; before a
--- refused step its report was printed; where memory ran out, a beginning of a report may have been; every other fault
--- comes before anything is printed.
+-- A request fails for this reason, which leaves standard output so. Where a write failed, a beginning of the answer was
+-- printed; before a refused step its report was; where memory ran out, a beginning of a report may have been; every other
+-- fault comes before anything is printed.
 abbrev pub Fails : KnownFiles → Option Asked → Fault → Option (List ℕ) → Option (List ℕ) → Type 0
 Fails files request Usage old new = (request ≡ None) × (new ≡ old)
 Fails files request NoMemory old new = Begins files request old new
 Fails files request BadNumber old new = HasBadNumber request × (new ≡ old)
 Fails files request CannotReadListing old new = OfNamed (IsUnknown files) (listing_named request) × (new ≡ old)
 Fails files request CannotReadOrder old new = OfNamed (IsUnknown files) (order_named request) × (new ≡ old)
-Fails files request CannotWrite old new = ⊤
+Fails files request CannotWrite old new = BeginsAnswer files request old new
 Fails files request CannotStart old new = (is_race request ≡ true) × (new ≡ old)
 Fails files request ImageDiffers old new = (is_race request ≡ true) × (new ≡ old)
 Fails files request (Listing fault) old new = OfNamed (HasListingFault files fault) (listing_named request) × (new ≡ old)
 Fails files request (Order fault) old new = OfNamed (HasOrderFault files fault) (order_named request) × (new ≡ old)
 Fails files request (Step place fault) old new = PrintsFor (IsStopped files (place, fault)) request old new
 
--- the same of a command that reads no file
+-- a beginning of what answers a command that reads no file was printed
+abbrev pub BeginsAlone : Option Asked → Option (List ℕ) → Option (List ℕ) → Type 0
+BeginsAlone (Some (Bounds base len)) old new = PrintsBeginning (IsBoundsAnswer base len) old new
+BeginsAlone (Some (Decode word)) old new = PrintsBeginning (IsDecodeAnswer word) old new
+BeginsAlone _ old new = ⊥
+
+-- such a command fails
 abbrev pub FailsAlone : Option Asked → Fault → Option (List ℕ) → Option (List ℕ) → Type 0
 FailsAlone request NoMemory old new = new ≡ old
 FailsAlone request BadNumber old new = HasBadNumber request × (new ≡ old)
-FailsAlone request CannotWrite old new = ⊤
+FailsAlone request CannotWrite old new = BeginsAlone request old new
 FailsAlone request _ old new = ⊥
 
 -- a request fails with this exit status

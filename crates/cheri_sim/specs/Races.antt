@@ -1,5 +1,5 @@
 -- The race of a listing's harts, and what is printed of it.
-use Rattle.std.specs.Prelude.{◌≡◌, ℕ, List, ◌++◌, codes, decimal, length, Option, Ok, Err, ◌⊎◌, ⊤}
+use Rattle.std.specs.Prelude.{◌≡◌, ℕ, List, ◌++◌, codes, decimal, length, Option, Ok, Err, ◌⊎◌}
 use Rattle.cheri_model.specs.Image.{ImageParts}
 use Rattle.cheri_model.specs.Replay.{IsReplay}
 use Rattle.listings.specs.Meaning.{listing_meaning}
@@ -30,7 +30,7 @@ looks_text looks = codes "watch looks=" ++ decimal looks
 -- A race was not printed whole: for this fault, which left the writer's known bytes so.
 abbrev pub IsUnraced : List ℕ → ℕ → Option (List ℕ) → Option (List ℕ) → Fault → Type 0
 IsUnraced listing turns old new NoMemory = (new ≡ old) ⊎ PrintsBeginning (IsRace listing turns) old new
-IsUnraced listing turns old new CannotWrite = ⊤
+IsUnraced listing turns old new CannotWrite = PrintsBeginning (IsRace listing turns) old new
 IsUnraced listing turns old new CannotStart = new ≡ old
 IsUnraced listing turns old new ImageDiffers = new ≡ old
 IsUnraced listing turns old new (Listing fault) = (listing_meaning listing ≡ Err fault) × (new ≡ old)

@@ -1,12 +1,11 @@
 -- The run of a listing in an order, shown in a form.
-use Rattle.std.specs.Prelude.{◌≡◌, ℕ, List, Option, Ok, Err, ◌⊎◌, ⊤}
+use Rattle.std.specs.Prelude.{◌≡◌, ℕ, List, Option, Ok, Err, ◌⊎◌}
 use Rattle.serde_json.specs.Written.{compact_text}
 use Rattle.cheri_model.specs.Image.{ImageParts}
 use Rattle.listings.specs.Meaning.{listing_meaning}
 use Rattle.orders.specs.Orders.{order_of}
 use Rattle.reports.specs.Json.{json_report}
 use Rattle.reports.specs.Report.{line}
-use Rattle.reports.specs.Sinks.{TakesBeginning}
 use Rattle.machine.specs.declared.cores.TheConstants.{GREATEST_TRACE_LIMIT}
 use Rattle.machine.specs.declared.faults.StepFault.{StepFault}
 use Rattle.machine.specs.Cores.{CoreParts}
@@ -16,6 +15,7 @@ use Rattle.command_line.specs.declared.requests.ReportForm.{ReportForm}
 use Rattle.command_line.specs.declared.requests.ReportForm.TheVariants as forms
 use Rattle.cheri_sim.specs.declared.faults.Fault.{Fault}
 use Rattle.cheri_sim.specs.declared.faults.Fault.TheVariants.{NoMemory, CannotWrite, Listing, Order}
+use Rattle.cheri_sim.specs.Printing.{PrintsBeginning}
 
 -- A text shows a run of a listing in an order as JSON, in one line; the run ended at a refused step or at none.
 pub record IsJsonRun (listing order : List ℕ) (text : List ℕ) (end : Option (ℕ × StepFault)) : Type 0 where
@@ -33,15 +33,16 @@ IsShown forms.Text listing order text end =
     IsShownRun listing order GREATEST_TRACE_LIMIT (λ (shown : List ℕ). text ≡ shown) end
 IsShown forms.Json listing order text end = IsJsonRun listing order text end
 
--- Where memory ran out, nothing was printed, or a beginning of the report.
-abbrev pub BeginsRun : List ℕ → List ℕ → Option (List ℕ) → Option (List ℕ) → Type 0
-BeginsRun listing order old new =
-    (end : Option (ℕ × StepFault)) × IsShownRun listing order GREATEST_TRACE_LIMIT (TakesBeginning old new) end
+-- a beginning of a run's report was printed, in a form
+abbrev pub BeginsRun : ReportForm → List ℕ → List ℕ → Option (List ℕ) → Option (List ℕ) → Type 0
+BeginsRun form listing order old new =
+    (end : Option (ℕ × StepFault)) × PrintsBeginning (λ text. IsShown form listing order text end) old new
 
--- A run was not printed whole: for this fault, which left the writer's known bytes so.
-abbrev pub IsUnprinted : List ℕ → List ℕ → Option (List ℕ) → Option (List ℕ) → Fault → Type 0
-IsUnprinted listing order old new NoMemory = (new ≡ old) ⊎ BeginsRun listing order old new
-IsUnprinted listing order old new CannotWrite = ⊤
-IsUnprinted listing order old new (Listing fault) = (listing_meaning listing ≡ Err fault) × (new ≡ old)
-IsUnprinted listing order old new (Order fault) = (order_of order ≡ Err fault) × (new ≡ old)
-IsUnprinted listing order old new _ = ⊥
+-- A run was not printed whole: for this fault, which left the writer's known bytes so. Where memory ran out, nothing was
+-- printed, or a beginning of the report; where a write failed, a beginning.
+abbrev pub IsUnprinted : ReportForm → List ℕ → List ℕ → Option (List ℕ) → Option (List ℕ) → Fault → Type 0
+IsUnprinted form listing order old new NoMemory = (new ≡ old) ⊎ BeginsRun form listing order old new
+IsUnprinted form listing order old new CannotWrite = BeginsRun form listing order old new
+IsUnprinted form listing order old new (Listing fault) = (listing_meaning listing ≡ Err fault) × (new ≡ old)
+IsUnprinted form listing order old new (Order fault) = (order_of order ≡ Err fault) × (new ≡ old)
+IsUnprinted form listing order old new _ = ⊥

@@ -9,7 +9,7 @@ ghost use Rattle.cheri_sim.specs.Printing.{IsUnwritten};
 
 use crate::faults::Fault;
 use hart_step::View;
-use reports::{ReportFault, ToWrite, write_report};
+use reports::{ReportFault, SinkFailed, ToWrite, put_whole, write_report};
 use std::alloc::Global;
 use std::io::Write;
 
@@ -24,12 +24,26 @@ pub fn flush<O: Write>(out: &mut O) -> Result<(), Fault>
     }
 }
 
-/// Writes all of a text, and flushes.
+/// Writes all of a text.
+fn write_text<O: Write>(out: &mut O, text: &str) -> Result<(), SinkFailed>
+    ensures whole { OnOk result (Appends (O.contents out.old) (O.contents out.new) text.now) }
+    ensures beginning { TakesBeginning (O.contents out.old) (O.contents out.new) text.now }
+{
+    let mut sink = ToWrite::new(out);
+    let written = put_whole(&mut sink, text.as_bytes());
+    let writer = sink.into_writer();
+    let _ = &*writer;
+    written
+}
+
+/// Writes all of a text, and flushes. After a fault a beginning of it was written.
+#[tactic(auto, using(crate::proofs::PrintLemmas::begins_whole))]
 pub fn print<O: Write>(out: &mut O, text: &str) -> Result<(), Fault>
     ensures printed { OnOk result (Appends (O.contents out.old) (O.contents out.new) text.now) }
+    ensures beginning { TakesBeginning (O.contents out.old) (O.contents out.new) text.now }
     ensures refused { IfErr result (λ fault. fault ≡ Fault.CannotWrite) }
 {
-    if out.write_all(text.as_bytes()).is_err() {
+    if write_text(out, text).is_err() {
         return Err(Fault::CannotWrite);
     }
     flush(out)
@@ -50,7 +64,7 @@ fn write_shown<O: Write>(alloc: Global, view: View<'_>, out: &mut O) -> Result<(
 }
 
 /// Writes the report of what a view shows, and flushes.
-#[tactic(auto, using(crate::proofs::PrintLemmas::unwritten))]
+#[tactic(auto, using(crate::proofs::PrintLemmas::prints))]
 pub fn print_report<O: Write>(alloc: Global, view: View<'_>, out: &mut O) -> Result<(), Fault>
     ensures printed { OnOk result (Appends (O.contents out.old) (O.contents out.new)
         (report view.entry.image.now view.entry.entries.now (state_of view.entry))) }

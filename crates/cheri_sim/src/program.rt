@@ -40,7 +40,7 @@ const LISTING_READ: u64 = LISTING_LIMIT as u64 + 1;
 /// An order may have any number of bytes.
 const ORDER_READ: u64 = u64::MAX;
 
-/// The bytes of a file, of which the first `most` are wanted, or this fault where it cannot be read.
+/// A file's bytes, of which the first `most` are wanted, or this fault where it cannot be read.
 fn read<F: Files>(
     files: &mut F,
     name: &str,
@@ -152,6 +152,7 @@ fn number_given(limit: u128, word: &str) -> Result<u128, Fault>
 }
 
 /// `bounds BASE LEN`: both numbers are read before the range is rounded.
+#[tactic(auto, using(crate::proofs::ProgramLemmas::bounds_unwritten))]
 fn bounds<O: Write>(alloc: Global, base: &str, len: &str, out: &mut O) -> Result<(), Fault>
     ensures printed { OnOk result (Prints (IsBoundsAnswer base.now len.now)
         (O.contents out.old) (O.contents out.new)) }
@@ -165,6 +166,7 @@ fn bounds<O: Write>(alloc: Global, base: &str, len: &str, out: &mut O) -> Result
 }
 
 /// `decode WORD`.
+#[tactic(auto, using(crate::proofs::ProgramLemmas::decode_unwritten))]
 fn decode<O: Write>(alloc: Global, word: &str, out: &mut O) -> Result<(), Fault>
     ensures printed { OnOk result (Prints (IsDecodeAnswer word.now)
         (O.contents out.old) (O.contents out.new)) }

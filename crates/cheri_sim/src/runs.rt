@@ -1,6 +1,6 @@
 //! The run of two texts, printed in the form that was asked for.
 
-ghost use Rattle.std.specs.Prelude.{◌≡◌, IfOk, IfErr, false, ⊤, string_bytes};
+ghost use Rattle.std.specs.Prelude.{◌≡◌, ◌≢◌, IfOk, IfErr, false, ⊤, string_bytes};
 ghost use Rattle.std.specs.Io.KnownBytes.{Appends};
 ghost use Rattle.hart_step.specs.View.{state_of};
 ghost use Rattle.serde_json.specs.Written.{compact_text};
@@ -24,8 +24,9 @@ use std::io::Write;
 
 /// The JSON report of what a view shows, in one line.
 fn json_line(alloc: Global, view: View<'_>) -> Result<String, ReportFault>
-    ensures { IfOk result (λ text. string_bytes text ≡ line (compact_text
+    ensures line { IfOk result (λ text. string_bytes text ≡ line (compact_text
         (json_report view.entry.image.now view.entry.entries.now (state_of view.entry)))) }
+    ensures made { IfErr result (λ fault. fault ≡ ReportFault.NoMemory) }
 {
     let mut report = report_json(alloc, view)?;
     report.push('\n')?;
@@ -42,6 +43,7 @@ fn simulate_json(
         IsJsonRun listing.now order.now (string_bytes ran.0) ran.1) }
     ensures refused { IfErr result (λ fault.
         IsRefusedRun listing.now order.now GREATEST_TRACE_LIMIT (λ _. ⊤) fault) }
+    ensures made { IfErr result (λ fault. fault ≢ SimFault.Report ReportFault.Write) }
 {
     let image = read_listing(alloc, listing)?;
     let harts = read_order(alloc, order)?;
@@ -87,7 +89,7 @@ pub fn print_run<O: Write>(
         Prints (λ text. IsShown form listing.now order.now text end)
         (O.contents out.old) (O.contents out.new)) }
     ensures failed { IfErr result (λ fault.
-        IsUnprinted listing.now order.now (O.contents out.old) (O.contents out.new) fault) }
+        IsUnprinted form listing.now order.now (O.contents out.old) (O.contents out.new) fault) }
 {
     match form {
         ReportForm::Text => {

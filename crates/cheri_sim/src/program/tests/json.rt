@@ -7,9 +7,11 @@ use std::test::Fail;
 const HALTING: &str = ".hart 0x10000000 4 0x10000000 execute\necall\n";
 
 /// The JSON report of `HALTING` after its step.
-const HALTED: &str = "{\"entries\":[{\"hart\":0,\"outcome\":\"halt\",\"pc\":\"0000000010000000\"}],\
-\"harts\":[{\"pcc\":{\"base\":\"0000000010000000\",\"perms\":\"00002\",\"tag\":true,\"top\":\"00000000010000004\",\
-\"type\":\"unsealed\",\"word\":\"0002000004008004_0000000010000000\"},\"regs\":{},\"status\":\"halted\"}],\
+const HALTED: &str = "\
+{\"entries\":[{\"hart\":0,\"outcome\":\"halt\",\"pc\":\"0000000010000000\"}],\
+\"harts\":[{\"pcc\":{\"base\":\"0000000010000000\",\"perms\":\"00002\",\"tag\":true,\
+\"top\":\"00000000010000004\",\"type\":\"unsealed\",\
+\"word\":\"0002000004008004_0000000010000000\"},\"regs\":{},\"status\":\"halted\"}],\
 \"image\":{\"code\":1,\"harts\":1,\"ram\":4096},\"mem\":{},\"report\":1}\n";
 
 /// The object in one line; where a step is refused, that is reported after it.

@@ -46,27 +46,33 @@ const ROUNDED: [(&str, &str, &str); 7] = [
 const DECODED: [(&str, &str); 6] = [
     (
         "0xffff0000040580040000000080000000",
-        "perms=78fff flag=0 type=unsealed ie=0 e=0 base=0000000080000000 top=00000000080000010 addr=0000000080000000 len=0000000000000010\n",
+        "perms=78fff flag=0 type=unsealed ie=0 e=0 \
+base=0000000080000000 top=00000000080000010 addr=0000000080000000 len=0000000000000010\n",
     ),
     (
         "0xffff00000c0580040000000080000000",
-        "perms=78fff flag=0 type=sentry ie=0 e=0 base=0000000080000000 top=00000000080000010 addr=0000000080000000 len=0000000000000010\n",
+        "perms=78fff flag=0 type=sentry ie=0 e=0 \
+base=0000000080000000 top=00000000080000010 addr=0000000080000000 len=0000000000000010\n",
     ),
     (
         "0",
-        "perms=00000 flag=0 type=unsealed ie=1 e=52 base=0000000000000000 top=10000000000000000 addr=0000000000000000 len=ffffffffffffffff\n",
+        "perms=00000 flag=0 type=unsealed ie=1 e=52 \
+base=0000000000000000 top=10000000000000000 addr=0000000000000000 len=ffffffffffffffff\n",
     ),
     (
         "0x00000000000010000000000000000000",
-        "perms=00000 flag=0 type=unsealed ie=1 e=52 base=0000000000000000 top=00000000000000000 addr=0000000000000000 len=0000000000000000\n",
+        "perms=00000 flag=0 type=unsealed ie=1 e=52 \
+base=0000000000000000 top=00000000000000000 addr=0000000000000000 len=0000000000000000\n",
     ),
     (
         "0x00000000000040000000000000000000",
-        "perms=00000 flag=0 type=unsealed ie=1 e=52 base=0000000000000000 top=10000000000000000 addr=0000000000000000 len=ffffffffffffffff\n",
+        "perms=00000 flag=0 type=unsealed ie=1 e=52 \
+base=0000000000000000 top=10000000000000000 addr=0000000000000000 len=ffffffffffffffff\n",
     ),
     (
         "0x00000000100000000000000000000000",
-        "perms=00000 flag=0 type=262141 ie=1 e=52 base=0000000000000000 top=10000000000000000 addr=0000000000000000 len=ffffffffffffffff\n",
+        "perms=00000 flag=0 type=262141 ie=1 e=52 \
+base=0000000000000000 top=10000000000000000 addr=0000000000000000 len=ffffffffffffffff\n",
     ),
 ];
 

@@ -1,7 +1,8 @@
 //! Races of a listing's harts.
 
-use crate::program::perform;
+use crate::faults::Fault;
 use crate::program::tests::{FIRST, Folder, Full, answer, compare, owned};
+use crate::program::{perform, report_fault};
 use std::str;
 use std::test::Fail;
 
@@ -84,5 +85,14 @@ fn refusals(rt: HostRuntime) -> Result<(), Fail> {
     );
     assert_eq!(rt; status, 3);
     assert_eq!(rt; str::from_utf8(err.as_slice())?, "cannot write\n");
+    Ok(())
+}
+
+/// The line of a race that left another image, which no race of these tests does.
+#[test]
+fn another_image(rt: HostRuntime) -> Result<(), Fail> {
+    let mut err = Vec::new(rt.alloc());
+    assert_eq!(rt; report_fault(&mut err, Fault::ImageDiffers), 3);
+    assert_eq!(rt; str::from_utf8(err.as_slice())?, "image differs\n");
     Ok(())
 }
