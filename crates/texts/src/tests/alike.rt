@@ -107,8 +107,10 @@ fn capabilities(rt: HostRuntime) -> Result<(), Fail> {
                 ".set c1 cap 0x0 16 0x0 load",
             ),
             (
-                ".set c1 cap 0 16 0 sw3+sw2+sw1+sw0+set_cid+sysregs+unseal+cinvoke+seal+store_local",
-                ".set c1 cap 0x0 16 0x0 store_local+seal+cinvoke+unseal+sysregs+set_cid+sw0+sw1+sw2+sw3",
+                ".set c1 cap 0 16 0 sw3+sw2+sw1+sw0+set_cid+sysregs+unseal+cinvoke+seal\
+                +store_local",
+                ".set c1 cap 0x0 16 0x0 store_local+seal+cinvoke+unseal+sysregs+set_cid+sw0\
+                +sw1+sw2+sw3",
             ),
             (
                 ".set c1 cap 0 16 0 sw3+sw2+sw1+sw0+set_cid+sysregs+unseal+cinvoke+seal+store_local\
