@@ -1,61 +1,103 @@
--- Values with their bounds beside them.
-use Rattle.std.proofs.Common.{◌≡◌, ℕ, ◌/◌, ◌%◌, ◌^◌, ◌<◌, ◌≤◌, Bool, true, ◌&&◌, arith, ap, sym, ◌∙◌, refl}
-use Rattle.std.proofs.lemmas.Bool.{and_parts}
-use Rattle.cheri_model.specs.Fields.{with_null_fields, word_ie, stored_t, stored_b, word_exponent, word_b, word_t, word_t14}
+-- Values with their bounds and fields beside them.
+use Rattle.std.proofs.Common.{◌≡◌, ℕ, ◌+◌, ◌*◌, ◌/◌, ◌%◌, ◌^◌, ◌<◌, ◌≤◌, Bool, true, false, ◌&&◌, arith, ap, sym, subst, ◌∙◌, refl}
+use Rattle.std.proofs.lemmas.Bool.{and_parts, false≢true}
+use Rattle.cheri_model.specs.Fields.{with_null_fields, perms_of_field, field_of_perms, word_ie, stored_t, stored_b, word_exponent, word_b, word_t, word_t14, word_perms, word_otype, word_flag}
 use Rattle.cheri_model.specs.RawBounds.{region_floor, region_start, region_offset, raw_base, uncorrected_top, corrected_top, raw_top}
-use Rattle.cheri_model.specs.Capability.{Capability, capability_at}
-use Rattle.cheri_model.specs.CapValue.{CapValue, raw, bits_of, parts_of, value_at, IsLawfulValue, IsTaggedWord}
-use Rattle.cheri_model.specs.ValueFacts.{bits_of-value_at, parts_of-value_at, IsLawfulValue-value_at}
+use Rattle.cheri_model.specs.Capability.{Capability, IsPermissionSet, capability_at}
+use Rattle.cheri_model.specs.CapValue.{CapValue, valid, raw, bits_of, tag_of, parts_of, value_at, IsLawfulValue, IsTaggedWord}
+use Rattle.cheri_model.specs.ValueFacts.{bits_of-value_at, tag_of-value_at, parts_of-value_at, IsLawfulValue-value_at}
 use Rattle.cheri_model.specs.EditedWords.{word_of_halves}
-use Rattle.cheri_model.specs.Readings.{base_of, top_of}
-use Rattle.cheri_model.specs.Results.{is_open, keeps_bounds}
-use Rattle.cheri_model.proofs.Words.WordsBack.{upper_of_word, raw_base_of_upper, raw_top_of_upper}
+use Rattle.cheri_model.specs.Readings.{base_of, top_of, permissions_of}
+use Rattle.cheri_model.specs.Results.{is_open, keeps_bounds, set_address}
+use Rattle.cheri_model.proofs.Words.FieldsBack.{with_null_fields_lt}
+use Rattle.cheri_model.proofs.Words.WordsBack.{upper_of_word, raw_base_of_upper, raw_top_of_upper, capability_at_word_of}
 use Rattle.cheri_model.proofs.Bounds.WindowsHold.{lawful_bounds_in_window}
-use Rattle.cheri_model.proofs.Results.Values.{open_parts}
-use Rattle.cheri_model.proofs.Results.AddressResults.{window_test, test_of_window}
+use Rattle.cheri_model.proofs.Results.Values.{open_parts, bits_lt, perms_known}
+use Rattle.cheri_model.proofs.Results.AddressResults.{window_test, test_of_window, set_address-result}
 use Rattle.cap_ops.specs.Unpacked.{IsUnpacked}
+use Rattle.cap_ops.proofs.Made.{address_word, made_tagged, made_value}
 
--- an upper half 0 has the whole address space as its bounds, at each address
-null_base : (addr : ℕ) → addr < 2 ^ 64 → raw_base 0 addr ≡ 0
-unfolding raw_base word_exponent word_ie stored_t stored_b word_b with_null_fields region_floor region_start region_offset
-null_base addr below = omega arith
+-- a lawful value is read as its bits are
+pub parts_read : (v : CapValue) → IsLawfulValue v → parts_of v ≡ capability_at (bits_of v)
+parts_read (valid c) h = sym (capability_at_word_of c h)
+parts_read (raw word) h = refl
 
-null_top : (addr : ℕ) → addr < 2 ^ 64 → raw_top 0 addr ≡ 2 ^ 64
-unfolding raw_top uncorrected_top corrected_top word_exponent word_ie stored_t stored_b word_b word_t word_t14 with_null_fields region_floor region_start region_offset
-null_top addr below = omega arith
+-- permissions as the word has them and as CGetPerm shows them
+field_back : (upper : ℕ) → upper < 2 ^ 64 → field_of_perms (word_perms upper) ≡ with_null_fields upper / 2 ^ 48
+unfolding word_perms
+field_back upper below = let fields = with_null_fields_lt upper below in omega arith
 
--- a value whose parts are read from its word has the bounds that its halves are decoded to
-unpacked : (v : CapValue) (base top : ℕ) → IsLawfulValue v → parts_of v ≡ capability_at (bits_of v) →
-    base ≡ raw_base (bits_of v / 2 ^ 64) (bits_of v % 2 ^ 64) → top ≡ raw_top (bits_of v / 2 ^ 64) (bits_of v % 2 ^ 64) →
-    IsUnpacked v base top
-unfolding capability_at
-unpacked v base top lawful parts same_base same_top = record {
-  lawful = lawful;
-  base = ap (λ (c : Capability). c.base) parts ∙ sym same_base;
-  top = ap (λ (c : Capability). c.top) parts ∙ sym same_top;
-}
+perms_back : (perms field : ℕ) → IsPermissionSet perms → field_of_perms perms ≡ field → perms_of_field field ≡ perms
+perms_back perms field known same = let below = known.below in let gap = known.known in omega arith
 
--- an integer
-pub unpacked_integer : (number : ℕ) → number < 2 ^ 64 → IsUnpacked (raw number) 0 (2 ^ 64)
-unpacked_integer number below =
-    let upper : number / 2 ^ 64 ≡ 0 = omega arith in
-    unpacked (raw number) 0 (2 ^ 64) (omega arith) refl
-    (sym (rw upper (null_base (number % 2 ^ 64) (omega arith)))) (sym (rw upper (null_top (number % 2 ^ 64) (omega arith))))
+pub permissions_shown : (v : CapValue) (field : ℕ) → IsLawfulValue v → field_of_perms (permissions_of v) ≡ field → perms_of_field field ≡ permissions_of v
+permissions_shown v field lawful same = perms_back (permissions_of v) field (perms_known v lawful) same
 
--- a value whose halves were decoded
-pub unpacked_value : (v : CapValue) (base top upper addr : ℕ) → IsLawfulValue v → parts_of v ≡ capability_at (bits_of v) →
-    upper ≡ bits_of v / 2 ^ 64 → addr ≡ bits_of v % 2 ^ 64 → base ≡ raw_base upper addr → top ≡ raw_top upper addr → IsUnpacked v base top
-unpacked_value v base top upper addr lawful parts same_upper same_addr same_base same_top =
-    unpacked v base top lawful parts (rw (← same_upper, ← same_addr) same_base) (rw (← same_upper, ← same_addr) same_top)
+-- what stands beside the halves of a word
+pub record IsDecoded (u a low high o p f : ℕ) : Type 0 where
+  pub base : low ≡ raw_base u a
+  pub top : high ≡ raw_top u a
+  pub otype : o ≡ word_otype u
+  pub permissions : p ≡ with_null_fields u / 2 ^ 48
+  pub flag : f ≡ word_flag u
+
+module _ (v : CapValue) (tag : Bool) (upper addr base top otype permissions flag : ℕ) where
+  unpacked : IsLawfulValue v → tag_of v ≡ tag → bits_of v / 2 ^ 64 ≡ upper → bits_of v % 2 ^ 64 ≡ addr →
+      IsDecoded upper addr base top otype permissions flag → IsUnpacked v tag upper addr base top otype permissions flag
+  unfolding capability_at
+  unpacked lawful same_tag high low decoded =
+      let parts = parts_read v lawful in
+      let bits = bits_lt v lawful in
+      record {
+        lawful = lawful;
+        tag = same_tag;
+        upper = high;
+        addr = low;
+        base = ap (λ (c : Capability). c.base) parts ∙ rw (high, low) (sym decoded.base);
+        top = ap (λ (c : Capability). c.top) parts ∙ rw (high, low) (sym decoded.top);
+        otype = ap (λ (c : Capability). c.otype) parts ∙ rw high (sym decoded.otype);
+        permissions = ap (λ (c : Capability). field_of_perms c.perms) parts ∙ rw high (field_back upper (omega arith) ∙ sym decoded.permissions);
+        flag = ap (λ (c : Capability). c.flag) parts ∙ rw high (sym decoded.flag);
+      }
+
+  pub decoded_of : IsUnpacked v tag upper addr base top otype permissions flag → IsDecoded upper addr base top otype permissions flag
+  unfolding capability_at
+  decoded_of kept =
+      let parts = parts_read v kept.lawful in
+      let bits = bits_lt v kept.lawful in
+      let high = kept.upper in
+      let low = kept.addr in
+      record {
+        base = sym (rw (high, low) at (sym (ap (λ (c : Capability). c.base) parts) ∙ kept.base));
+        top = sym (rw (high, low) at (sym (ap (λ (c : Capability). c.top) parts) ∙ kept.top));
+        otype = sym (rw high at (sym (ap (λ (c : Capability). c.otype) parts) ∙ kept.otype));
+        permissions =
+            sym kept.permissions ∙ ap (λ (c : Capability). field_of_perms c.perms) parts ∙ rw high (field_back upper (omega arith));
+        flag = sym (rw high at (sym (ap (λ (c : Capability). c.flag) parts) ∙ kept.flag));
+      }
+
+-- a word with no tag
+pub untagged_word : (word : ℕ) → word < 2 ^ 128 → IsTaggedWord false word
+untagged_word word below = record { below = below; encoded = λ e. absurd (false≢true e) }
 
 -- a word that is put together of its halves
-pub unpacked_halves : (tag : Bool) (word upper addr base top : ℕ) → IsTaggedWord tag word → word ≡ word_of_halves upper addr → addr < 2 ^ 64 →
-    base ≡ raw_base upper addr → top ≡ raw_top upper addr → IsUnpacked (value_at tag word) base top
-unpacked_halves tag word upper addr base top h is below same_base same_top =
-    let bits = bits_of-value_at tag word h in
-    let high : upper ≡ bits_of (value_at tag word) / 2 ^ 64 = omega arith in
-    let low : addr ≡ bits_of (value_at tag word) % 2 ^ 64 = omega arith in
-    unpacked_value (value_at tag word) base top upper addr (IsLawfulValue-value_at tag word h) (parts_of-value_at tag word h) high low same_base same_top
+pub unpacked_halves : (tag : Bool) (upper addr base top otype permissions flag : ℕ) → IsTaggedWord tag (word_of_halves upper addr) → addr < 2 ^ 64 →
+    IsDecoded upper addr base top otype permissions flag →
+    IsUnpacked (value_at tag (word_of_halves upper addr)) tag upper addr base top otype permissions flag
+unpacked_halves tag upper addr base top otype permissions flag is below decoded =
+    let bits = bits_of-value_at tag (word_of_halves upper addr) is in
+    unpacked _ tag upper addr base top otype permissions flag (IsLawfulValue-value_at tag _ is) (tag_of-value_at tag _)
+    (omega arith) (omega arith) decoded
+
+-- an upper half 0 has the whole address space as its bounds, at each address, no permissions, flag 0, and is unsealed
+null_decoded : (addr : ℕ) → addr < 2 ^ 64 → IsDecoded 0 addr 0 (2 ^ 64) 262143 0 0
+unfolding raw_base raw_top uncorrected_top corrected_top word_exponent word_ie stored_t stored_b word_b word_t word_t14 word_otype word_flag with_null_fields region_floor region_start region_offset
+null_decoded addr below = record { base = omega arith; top = omega arith; otype = refl; permissions = refl; flag = refl }
+
+-- an integer
+pub unpacked_integer : (number : ℕ) → number < 2 ^ 64 → IsUnpacked (value_at false (word_of_halves 0 number)) false 0 number 0 (2 ^ 64) 262143 0 0
+unpacked_integer number below =
+    unpacked_halves false 0 number 0 (2 ^ 64) 262143 0 0 (untagged_word _ (omega arith)) below (null_decoded number below)
 
 -- an open value keeps its bounds at an address of its window
 module _ (v : CapValue) (addr : ℕ) (lawful : IsLawfulValue v) (opened : is_open v ≡ true) (kept : keeps_bounds v addr ≡ true) where
@@ -78,25 +120,37 @@ keeps_inside v addr lawful opened below from to =
     test_of_window _ _ addr (rw same at (lawful_bounds_in_window (parts_of v) tagged.lawful addr from to))
 
 -- the same of the bounds that a value keeps
-module _ (v w : CapValue) (low high : ℕ) (kept : IsUnpacked w low high) (is : w ≡ v) where
-  low_is : base_of v ≡ low
-  low_is = ap base_of (sym is) ∙ kept.base
+module _ (v w : CapValue) (tag : Bool) (upper addr base top otype permissions flag : ℕ)
+    (kept : IsUnpacked w tag upper addr base top otype permissions flag) (is : w ≡ v) where
+  own : IsUnpacked v tag upper addr base top otype permissions flag
+  own = subst (λ (u : CapValue). IsUnpacked u tag upper addr base top otype permissions flag) is kept
 
-  high_is : top_of v ≡ high
-  high_is = ap top_of (sym is) ∙ kept.top
-
-  pub keeps_tag_inside : (addr : ℕ) → IsLawfulValue v → is_open v ≡ true → addr < 2 ^ 64 → low ≤ addr → addr ≤ high →
-      true ≡ (is_open v && keeps_bounds v addr)
-  keeps_tag_inside addr lawful opened below from to =
-      let inside = keeps_inside v addr lawful opened below (rw low_is from) (rw high_is to) in
+  pub keeps_tag_inside : (a : ℕ) → is_open v ≡ true → a < 2 ^ 64 → base ≤ a → a ≤ top → true ≡ (is_open v && keeps_bounds v a)
+  keeps_tag_inside a opened below from to =
+      let low = own.base in
+      let high = own.top in
+      let inside = keeps_inside v a own.lawful opened below (omega arith) (omega arith) in
       rw (opened, inside) refl
 
-  pub base_stays : (addr upper : ℕ) → IsLawfulValue v → (is_open v && keeps_bounds v addr) ≡ true → upper ≡ bits_of v / 2 ^ 64 → low ≡ raw_base upper addr
-  base_stays addr upper lawful stays same =
-      let parts = and_parts (is_open v) _ stays in
-      rw same (sym low_is ∙ sym (kept_base v addr lawful parts.0 parts.1))
+  module _ (a : ℕ) (below : a < 2 ^ 64) (stays : (is_open v && keeps_bounds v a) ≡ true) where
+    same_tag : tag ≡ (is_open v && keeps_bounds v a)
+    same_tag = sym own.tag ∙ (and_parts (tag_of v) _ (and_parts (is_open v) _ stays).0).0 ∙ sym stays
 
-  pub top_stays : (addr upper : ℕ) → IsLawfulValue v → (is_open v && keeps_bounds v addr) ≡ true → upper ≡ bits_of v / 2 ^ 64 → high ≡ raw_top upper addr
-  top_stays addr upper lawful stays same =
-      let parts = and_parts (is_open v) _ stays in
-      rw same (sym high_is ∙ sym (kept_top v addr lawful parts.0 parts.1))
+    moved_tagged : IsTaggedWord tag (word_of_halves upper a)
+    moved_tagged = made_tagged _ _ _ _ _ (set_address-result v a own.lawful below) same_tag (address_word _ _ _ (sym own.upper))
+
+    pub moved_value : value_at tag (word_of_halves upper a) ≡ set_address v a
+    moved_value = made_value _ _ _ _ _ (set_address-result v a own.lawful below) same_tag (address_word _ _ _ (sym own.upper))
+
+    pub moved_unpacked : IsUnpacked (value_at tag (word_of_halves upper a)) tag upper a base top otype permissions flag
+    moved_unpacked =
+        let parts = and_parts (is_open v) _ stays in
+        let decoded = decoded_of v tag upper addr base top otype permissions flag own in
+        unpacked_halves tag upper a base top otype permissions flag moved_tagged below
+        (record {
+          base = sym own.base ∙ sym (rw own.upper at (kept_base v a own.lawful parts.0 parts.1));
+          top = sym own.top ∙ sym (rw own.upper at (kept_top v a own.lawful parts.0 parts.1));
+          otype = decoded.otype;
+          permissions = decoded.permissions;
+          flag = decoded.flag;
+        })

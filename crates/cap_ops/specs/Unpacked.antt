@@ -1,10 +1,18 @@
 -- What a capability value keeps beside its word.
-use Rattle.std.specs.Prelude.{◌≡◌, ℕ}
-use Rattle.cheri_model.specs.CapValue.{CapValue, IsLawfulValue}
-use Rattle.cheri_model.specs.Readings.{base_of, top_of}
+use Rattle.std.specs.Prelude.{◌≡◌, ℕ, ◌%◌, ◌^◌, Bool}
+use Rattle.cheri_model.specs.CapValue.{CapValue, IsLawfulValue, bits_of, tag_of}
+use Rattle.cheri_model.specs.Fields.{field_of_perms}
+use Rattle.cheri_model.specs.Readings.{base_of, top_of, high_of, flags_of, object_type_of, permissions_of}
 
--- the value is lawful, and these are the bounds that its word is decoded to
-pub record IsUnpacked (v : CapValue) (low high : ℕ) : Type 0 where
+-- the value is lawful, and these are its tag t, the halves u and a of its word, and the bounds and fields that the
+-- word is decoded to
+pub record IsUnpacked (v : CapValue) (t : Bool) (u a low high o p f : ℕ) : Type 0 where
   pub lawful : IsLawfulValue v
+  pub tag : tag_of v ≡ t
+  pub upper : high_of v ≡ u
+  pub addr : bits_of v % 2 ^ 64 ≡ a
   pub base : base_of v ≡ low
   pub top : top_of v ≡ high
+  pub otype : object_type_of v ≡ o
+  pub permissions : field_of_perms (permissions_of v) ≡ p
+  pub flag : flags_of v ≡ f

@@ -1,8 +1,9 @@
 //! The capability value, and its conversions to words and back.
 //!
-//! A value keeps its bounds beside its word, so that they are decoded once, where the word is new.
+//! A value keeps its bounds and fields beside its word, so that they are decoded once, where the
+//! word is new.
 
-ghost use Rattle.std.specs.Prelude.{◌≡◌, ◌+◌, ◌*◌, ◌/◌, ◌%◌, ◌^◌};
+ghost use Rattle.std.specs.Prelude.{◌≡◌, ◌+◌, ◌*◌, ◌/◌, ◌%◌, ◌^◌, true, ◌&&◌};
 ghost use Rattle.cheri_model.specs.CapValue.{
   raw,
   bits_of,
@@ -14,38 +15,74 @@ ghost use Rattle.cheri_model.specs.CapValue.{
 };
 ghost use Rattle.cheri_model.specs.Capability.{capability_at};
 ghost use Rattle.cheri_model.specs.EditedWords.{word_of_halves};
-ghost use Rattle.cheri_model.specs.RawBounds.{raw_base, raw_top};
 ghost use Rattle.cheri_model.specs.Readings.{top_of};
-ghost use Rattle.cheri_model.specs.Results.{address_of};
+ghost use Rattle.cheri_model.specs.Results.{address_of, is_open, keeps_bounds, set_address};
 
-use cap_bounds::decode;
-use cheri_model::{ADDRESS_SPACE, Value};
+use crate::fields::permission_field;
+use cap_bounds::{decode, fields};
+use cheri_model::{ADDRESS_SPACE, UNSEALED_TYPE, Value};
 use std::marker::Model;
 
 /// What a register or a granule holds, as instructions use it: 128 bits and a tag. A tagged one is
-/// the word of a lawful capability (CHERI ISA v9, "tags"). The bounds are those that the word is
-/// decoded to.
+/// the word of a lawful capability (CHERI ISA v9, "tags"). Beside the word's two halves stand the
+/// bounds and the fields that it is decoded to. They fill the last 8 bytes: a copy of a padded
+/// value would wait for its tag to be stored.
 #[derive(Clone, Copy, Debug, PartialEq, Eq)]
 pub struct Cap {
-    value: Value,
-    pub(crate) base: u64,
     pub(crate) top: u128,
+    upper: u64,
+    addr: u64,
+    pub(crate) base: u64,
+    pub(crate) otype: u32,
+    /// As the word has them: the software permissions right above the others.
+    pub(crate) permissions: u16,
+    pub(crate) flag: u8,
+    tag: bool,
 }
 
 impl Model for Cap {
-    ghost use Rattle.cheri_model.specs.CapValue.{CapValue};
-    ghost use Rattle.cheri_model.specs.Readings.{base_of, top_of};
+    ghost use Rattle.std.specs.Prelude.{◌%◌, ◌^◌};
+    ghost use Rattle.cheri_model.specs.CapValue.{CapValue, bits_of, tag_of, value_at};
+    ghost use Rattle.cheri_model.specs.EditedWords.{word_of_halves};
+    ghost use Rattle.cheri_model.specs.Fields.{field_of_perms};
+    ghost use Rattle.cheri_model.specs.Readings.{
+      base_of,
+      top_of,
+      high_of,
+      flags_of,
+      object_type_of,
+      permissions_of,
+    };
     ghost use Rattle.cap_ops.specs.Unpacked.{IsUnpacked};
 
     ghost Value = { CapValue };
 
-    ghost view = { λ c. c.value };
+    ghost view = { λ c. value_at c.tag (word_of_halves c.upper c.addr) };
 
-    ghost invariant = { λ c. IsUnpacked c.value c.base c.top };
+    ghost invariant = { λ c. IsUnpacked (value_at c.tag (word_of_halves c.upper c.addr))
+        c.tag c.upper c.addr c.base c.top c.otype c.permissions c.flag };
 
-    ghost inverse = { λ v. record { value = v; base = base_of v; top = top_of v } };
+    ghost inverse = { λ v. record {
+      top = top_of v;
+      upper = high_of v;
+      addr = bits_of v % 2 ^ 64;
+      base = base_of v;
+      otype = object_type_of v;
+      permissions = field_of_perms (permissions_of v);
+      flag = flags_of v;
+      tag = tag_of v;
+    } };
 
-    ghost inverse_ok = { λ c h i. record { value = c.value; base = h.base i; top = h.top i } };
+    ghost inverse_ok = { λ c h i. record {
+      top = h.top i;
+      upper = h.upper i;
+      addr = h.addr i;
+      base = h.base i;
+      otype = h.otype i;
+      permissions = h.permissions i;
+      flag = h.flag i;
+      tag = h.tag i;
+    } };
 }
 
 /// The word of two halves.
@@ -79,11 +116,16 @@ impl Cap {
     pub fn of_int(number: u64) -> Cap
         ensures { result ≡ raw number }
     {
-        // The bounds fields of an upper half 0 encode the whole address space.
+        // An upper half 0 is unsealed, and its bounds are the whole address space.
         Cap {
-            value: Value::raw(u128::from(number)),
-            base: 0,
             top: ADDRESS_SPACE,
+            upper: 0,
+            addr: number,
+            base: 0,
+            otype: UNSEALED_TYPE,
+            permissions: 0,
+            flag: 0,
+            tag: false,
         }
     }
 
@@ -91,17 +133,18 @@ impl Cap {
     pub fn from_word(bits: u128) -> Cap
         ensures { result ≡ raw bits }
     {
-        Cap::of_value(Value::raw(bits))
+        Cap::from_halves(
+            false,
+            (bits >> 64) as u64,
+            (bits & 0xffff_ffff_ffff_ffff) as u64,
+        )
     }
 
     /// A value of an image, with the same bits and tag.
     pub fn of_value(value: Value) -> Cap
         ensures { result ≡ value }
     {
-        // The contract of `bits` says that the value is lawful.
-        let _bits = value.bits();
-        let (base, top) = decode(value.upper(), value.addr());
-        Cap { value, base, top }
+        Cap::from_halves(value.tag(), value.upper(), value.addr())
     }
 
     /// This value as an image holds it, with the same bits and tag.
@@ -109,8 +152,7 @@ impl Cap {
         ensures value { result ≡ self }
         ensures lawful { IsLawfulValue self }
     {
-        let Cap { value, .. } = self;
-        value
+        value_at(self.tag, self.bits())
     }
 
     /// The 128 bits as in memory.
@@ -118,7 +160,7 @@ impl Cap {
         ensures value { result ≡ bits_of self }
         ensures lawful { IsLawfulValue self }
     {
-        self.value.bits()
+        word_of_halves(self.upper, self.addr)
     }
 
     /// Whether this is a tagged capability (CGetTag).
@@ -126,7 +168,7 @@ impl Cap {
         ensures value { result ≡ tag_of self }
         ensures lawful { IsLawfulValue self }
     {
-        self.value.tag()
+        self.tag
     }
 
     /// The upper 64 bits as in memory (CGetHigh).
@@ -134,7 +176,7 @@ impl Cap {
         ensures value { result ≡ bits_of self / 2 ^ 64 }
         ensures parts { parts_of self ≡ capability_at (bits_of self) }
     {
-        self.value.upper()
+        self.upper
     }
 
     /// The address (CGetAddr), which is also what the register is as an integer.
@@ -145,7 +187,7 @@ impl Cap {
         ensures bits { result ≡ bits_of self % 2 ^ 64 }
         ensures parts { parts_of self ≡ capability_at (bits_of self) }
     {
-        self.value.addr()
+        self.addr
     }
 
     /// Lends the top, which is the first address above the bounds.
@@ -161,18 +203,24 @@ impl Cap {
         ensures { result ≡ value_at tag (word_of_halves upper addr) }
     {
         let (base, top) = decode(upper, addr);
-        Cap::with_bounds(tag, upper, addr, (base, top))
+        let parts = fields(upper);
+        Cap {
+            top,
+            upper,
+            addr,
+            base,
+            otype: parts.otype,
+            permissions: permission_field(upper),
+            flag: parts.flag,
+            tag,
+        }
     }
 
-    /// The word of two halves with this tag, where its bounds are known.
-    pub(crate) fn with_bounds(tag: bool, upper: u64, addr: u64, bounds: (u64, u128)) -> Cap
-        requires word { IsTaggedWord tag (word_of_halves upper addr) }
-        requires base { bounds.0 ≡ raw_base upper addr }
-        requires top { bounds.1 ≡ raw_top upper addr }
-        ensures { result ≡ value_at tag (word_of_halves upper addr) }
+    /// At another address, where this is open and keeps its bounds.
+    pub(crate) fn moved(self, addr: u64) -> Cap
+        requires { (is_open self && keeps_bounds self addr) ≡ true }
+        ensures { result ≡ set_address self addr }
     {
-        let value = value_at(tag, word_of_halves(upper, addr));
-        let (base, top) = bounds;
-        Cap { value, base, top }
+        Cap { addr, ..self }
     }
 }

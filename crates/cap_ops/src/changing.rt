@@ -34,8 +34,7 @@ impl Cap {
         ensures { result ≡ set_address self addr }
     {
         if self.keeps_tag_at(addr) {
-            // The bounds stay as well.
-            Cap::with_bounds(true, self.high(), addr, (self.base, self.top))
+            self.moved(addr)
         } else {
             Cap::from_halves(false, self.high(), addr)
         }

@@ -1,7 +1,7 @@
-//! Upper halves with one field replaced.
+//! Fields of upper halves, and upper halves with one field replaced.
 
-ghost use Rattle.std.specs.Prelude.{◌≡◌, ◌^◌, ◌<◌, ◌≤◌};
-ghost use Rattle.cheri_model.specs.Fields.{with_null_fields};
+ghost use Rattle.std.specs.Prelude.{◌≡◌, ◌/◌, ◌^◌, ◌<◌, ◌≤◌};
+ghost use Rattle.cheri_model.specs.Fields.{with_null_fields, perms_of_field};
 ghost use Rattle.cheri_model.specs.EditedWords.{
   with_perms,
   with_flag,
@@ -20,6 +20,21 @@ fn exclusive_or_null(upper: u64) -> u64
     ensures { result ≡ with_null_fields upper }
 {
     upper ^ NULL_FIELDS
+}
+
+/// The permissions as the upper half has them, which are its high 16 bits.
+pub(crate) fn permission_field(upper: u64) -> u16
+    ensures { result ≡ with_null_fields upper / 2 ^ 48 }
+{
+    (exclusive_or_null(upper) >> 48) as u16
+}
+
+/// The permissions as CGetPerm shows them.
+pub(crate) fn shown_permissions(field: u16) -> u32
+    ensures { result ≡ perms_of_field field }
+{
+    let field = u32::from(field);
+    field >> 12 << 15 | field & 0xfff
 }
 
 /// The upper half with other permissions, which are its high 16 bits.

@@ -16,8 +16,8 @@ ghost use Rattle.cheri_model.specs.Readings.{
 };
 
 use crate::cap::Cap;
+use crate::fields::shown_permissions;
 use bitflags::Flags;
-use cap_bounds::fields;
 use cheri_model::{LAST_SEALABLE_TYPE, OType, Perms, UNSEALED_TYPE};
 
 impl Cap {
@@ -74,7 +74,7 @@ impl Cap {
     {
         // The contract of `tag` says that the value is lawful.
         let _tag = self.tag();
-        fields(self.high()).perms
+        shown_permissions(self.permissions)
     }
 
     /// The object type, of 18 bits.
@@ -82,7 +82,7 @@ impl Cap {
     pub fn object_type(self) -> OType
         ensures { result ≡ object_type_of self }
     {
-        OType::new(fields(self.high()).otype)
+        OType::new(self.otype)
     }
 
     /// The object type as an integer register has it (CGetType): a type above the sealable ones is
@@ -104,7 +104,7 @@ impl Cap {
     pub fn flags(self) -> u8
         ensures { result ≡ flags_of self }
     {
-        fields(self.high()).flag
+        self.flag
     }
 
     /// Whether the object type is any but unsealed (CGetSealed); a sentry is sealed too.

@@ -16,4 +16,4 @@ returns-then-from-self-clause-value c =
     let from = c.if-self-addr.true in
     let to = c.if-from-self.true in
     let same = c.from.ensures in
-    keeps_tag_inside _ _ _ _ c.self.invariant c.self.view_is c.args.addr c.is_open.ensures.lawful unsealed (omega arith) from (omega arith)
+    keeps_tag_inside _ _ _ _ _ _ _ _ _ _ c.self.invariant c.self.view_is c.args.addr unsealed (omega arith) from (omega arith)

@@ -3,4 +3,4 @@ use Rattle.cap_ops.proofs.Unpacking.{unpacked_integer}
 use Rattle.cap_ops.proofs.cap.Cap.of_int.Goals as goal
 
 pub invariant_of-result : goal.invariant_of-result
-invariant_of-result c = rw (c.raw.ensures, c.from.ensures) (unpacked_integer c.args.number (omega arith))
+invariant_of-result c = unpacked_integer c.args.number (omega arith)
