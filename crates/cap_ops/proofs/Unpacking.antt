@@ -3,7 +3,7 @@ use Rattle.std.proofs.Common.{◌≡◌, ℕ, ◌+◌, ◌*◌, ◌/◌, ◌%◌
 use Rattle.std.proofs.lemmas.Bool.{and_parts, false≢true}
 use Rattle.cheri_model.specs.Fields.{with_null_fields, perms_of_field, field_of_perms, word_ie, stored_t, stored_b, word_exponent, word_b, word_t, word_t14, word_perms, word_otype, word_flag}
 use Rattle.cheri_model.specs.RawBounds.{region_floor, region_start, region_offset, raw_base, uncorrected_top, corrected_top, raw_top}
-use Rattle.cheri_model.specs.Capability.{Capability, IsPermissionSet, capability_at}
+use Rattle.cheri_model.specs.Capability.{Capability, IsPermissionSet, unsealed_type, capability_at}
 use Rattle.cheri_model.specs.CapValue.{CapValue, valid, raw, bits_of, tag_of, parts_of, value_at, IsLawfulValue, IsTaggedWord}
 use Rattle.cheri_model.specs.ValueFacts.{bits_of-value_at, tag_of-value_at, parts_of-value_at, IsLawfulValue-value_at}
 use Rattle.cheri_model.specs.EditedWords.{word_of_halves}
@@ -90,14 +90,14 @@ unpacked_halves tag upper addr base top otype permissions flag is below decoded 
     (omega arith) (omega arith) decoded
 
 -- an upper half 0 has the whole address space as its bounds, at each address, no permissions, flag 0, and is unsealed
-null_decoded : (addr : ℕ) → addr < 2 ^ 64 → IsDecoded 0 addr 0 (2 ^ 64) 262143 0 0
+null_decoded : (addr : ℕ) → addr < 2 ^ 64 → IsDecoded 0 addr 0 (2 ^ 64) unsealed_type 0 0
 unfolding raw_base raw_top uncorrected_top corrected_top word_exponent word_ie stored_t stored_b word_b word_t word_t14 word_otype word_flag with_null_fields region_floor region_start region_offset
 null_decoded addr below = record { base = omega arith; top = omega arith; otype = refl; permissions = refl; flag = refl }
 
 -- an integer
-pub unpacked_integer : (number : ℕ) → number < 2 ^ 64 → IsUnpacked (value_at false (word_of_halves 0 number)) false 0 number 0 (2 ^ 64) 262143 0 0
+pub unpacked_integer : (number : ℕ) → number < 2 ^ 64 → IsUnpacked (value_at false (word_of_halves 0 number)) false 0 number 0 (2 ^ 64) unsealed_type 0 0
 unpacked_integer number below =
-    unpacked_halves false 0 number 0 (2 ^ 64) 262143 0 0 (untagged_word _ (omega arith)) below (null_decoded number below)
+    unpacked_halves false 0 number 0 (2 ^ 64) unsealed_type 0 0 (untagged_word _ (omega arith)) below (null_decoded number below)
 
 -- an open value keeps its bounds at an address of its window
 module _ (v : CapValue) (addr : ℕ) (lawful : IsLawfulValue v) (opened : is_open v ≡ true) (kept : keeps_bounds v addr ≡ true) where
