@@ -132,24 +132,31 @@ module _ (v w : CapValue) (tag : Bool) (upper addr base top otype permissions fl
       let inside = keeps_inside v a own.lawful opened below (omega arith) (omega arith) in
       rw (opened, inside) refl
 
-  module _ (a : ℕ) (below : a < 2 ^ 64) (stays : (is_open v && keeps_bounds v a) ≡ true) where
-    same_tag : tag ≡ (is_open v && keeps_bounds v a)
-    same_tag = sym own.tag ∙ (and_parts (tag_of v) _ (and_parts (is_open v) _ stays).0).0 ∙ sym stays
+  module _ (a : ℕ) (stays : (is_open v && keeps_bounds v a) ≡ true) where
+    open_and_kept : (is_open v ≡ true) × (keeps_bounds v a ≡ true)
+    open_and_kept = and_parts (is_open v) _ stays
 
-    moved_tagged : IsTaggedWord tag (word_of_halves upper a)
-    moved_tagged = made_tagged _ _ _ _ _ (set_address-result v a own.lawful below) same_tag (address_word _ _ _ (sym own.upper))
+    pub base_at : base ≡ raw_base (bits_of v / 2 ^ 64) a
+    base_at = sym own.base ∙ sym (kept_base v a own.lawful open_and_kept.0 open_and_kept.1)
 
-    pub moved_value : value_at tag (word_of_halves upper a) ≡ set_address v a
-    moved_value = made_value _ _ _ _ _ (set_address-result v a own.lawful below) same_tag (address_word _ _ _ (sym own.upper))
+    pub top_at : top ≡ raw_top (bits_of v / 2 ^ 64) a
+    top_at = sym own.top ∙ sym (kept_top v a own.lawful open_and_kept.0 open_and_kept.1)
 
-    pub moved_unpacked : IsUnpacked (value_at tag (word_of_halves upper a)) tag upper a base top otype permissions flag
-    moved_unpacked =
-        let parts = and_parts (is_open v) _ stays in
+  module _ (a : ℕ) (below : a < 2 ^ 64) (t : Bool) (same : t ≡ (is_open v && keeps_bounds v a)) where
+    moved_tagged : IsTaggedWord t (word_of_halves upper a)
+    moved_tagged = made_tagged _ _ _ _ _ (set_address-result v a own.lawful below) same (address_word _ _ _ (sym own.upper))
+
+    pub moved_value : value_at t (word_of_halves upper a) ≡ set_address v a
+    moved_value = made_value _ _ _ _ _ (set_address-result v a own.lawful below) same (address_word _ _ _ (sym own.upper))
+
+    pub moved_unpacked : (low high : ℕ) → low ≡ raw_base (bits_of v / 2 ^ 64) a → high ≡ raw_top (bits_of v / 2 ^ 64) a →
+        IsUnpacked (value_at t (word_of_halves upper a)) t upper a low high otype permissions flag
+    moved_unpacked low high same_base same_top =
         let decoded = decoded_of v tag upper addr base top otype permissions flag own in
-        unpacked_halves tag upper a base top otype permissions flag moved_tagged below
+        unpacked_halves t upper a low high otype permissions flag moved_tagged below
         (record {
-          base = sym own.base ∙ sym (rw own.upper at (kept_base v a own.lawful parts.0 parts.1));
-          top = sym own.top ∙ sym (rw own.upper at (kept_top v a own.lawful parts.0 parts.1));
+          base = rw own.upper at same_base;
+          top = rw own.upper at same_top;
           otype = decoded.otype;
           permissions = decoded.permissions;
           flag = decoded.flag;

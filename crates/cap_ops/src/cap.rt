@@ -3,7 +3,7 @@
 //! A value keeps its bounds and fields beside its word, so that they are decoded once, where the
 //! word is new.
 
-ghost use Rattle.std.specs.Prelude.{◌≡◌, ◌+◌, ◌*◌, ◌/◌, ◌%◌, ◌^◌, true, ◌&&◌};
+ghost use Rattle.std.specs.Prelude.{◌≡◌, ◌+◌, ◌*◌, ◌/◌, ◌%◌, ◌^◌, ◌&&◌};
 ghost use Rattle.cheri_model.specs.CapValue.{
   raw,
   bits_of,
@@ -15,6 +15,7 @@ ghost use Rattle.cheri_model.specs.CapValue.{
 };
 ghost use Rattle.cheri_model.specs.Capability.{capability_at};
 ghost use Rattle.cheri_model.specs.EditedWords.{word_of_halves};
+ghost use Rattle.cheri_model.specs.RawBounds.{raw_base, raw_top};
 ghost use Rattle.cheri_model.specs.Readings.{top_of};
 ghost use Rattle.cheri_model.specs.Results.{address_of, is_open, keeps_bounds, set_address};
 
@@ -216,11 +217,32 @@ impl Cap {
         }
     }
 
-    /// At another address, where this is open and keeps its bounds.
-    pub(crate) fn moved(self, addr: u64) -> Cap
-        requires { (is_open self && keeps_bounds self addr) ≡ true }
+    /// At another address, where it is known whether the tag stays.
+    pub(crate) fn moved(self, addr: u64, kept: bool) -> Cap
+        requires { kept ≡ (is_open self && keeps_bounds self addr) }
         ensures { result ≡ set_address self addr }
     {
-        Cap { addr, ..self }
+        let (base, top) = self.bounds_at(addr, kept);
+        Cap {
+            top,
+            addr,
+            base,
+            tag: kept,
+            ..self
+        }
+    }
+
+    /// The bounds that the word has at another address. An open value that keeps its bounds needs
+    /// no decoding.
+    fn bounds_at(self, addr: u64, kept: bool) -> (u64, u128)
+        requires { kept ≡ (is_open self && keeps_bounds self addr) }
+        ensures base { result.0 ≡ raw_base (bits_of self / 2 ^ 64) addr }
+        ensures top { result.1 ≡ raw_top (bits_of self / 2 ^ 64) addr }
+    {
+        if kept {
+            (self.base, self.top)
+        } else {
+            decode(self.upper, addr)
+        }
     }
 }

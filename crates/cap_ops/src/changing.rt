@@ -33,11 +33,7 @@ impl Cap {
     pub fn set_addr(self, addr: u64) -> Cap
         ensures { result ≡ set_address self addr }
     {
-        if self.keeps_tag_at(addr) {
-            self.moved(addr)
-        } else {
-            Cap::from_halves(false, self.high(), addr)
-        }
+        self.moved(addr, self.keeps_tag_at(addr))
     }
 
     /// The address raised by an offset, modulo 2^64 (CIncOffset). The tag stays as in `set_addr`.

@@ -110,12 +110,29 @@ pub(crate) fn outside(cap: Cap, from: u64, bytes: u64, reg: u8) -> Line
     check(!in_bounds(cap, from, bytes), Trap::LENGTH, reg)
 }
 
+/// What is left of an address over multiples of a count of bytes. By a constant power of two this
+/// is a mask, and all sizes of accesses are such; by a number that is only known in a run the
+/// processor would divide.
+fn remainder(addr: u64, bytes: u64) -> u64
+    requires { 0 < bytes }
+    ensures { result ≡ addr % bytes }
+{
+    match bytes {
+        1 => 0,
+        2 => addr % 2,
+        4 => addr % 4,
+        8 => addr % 8,
+        16 => addr % 16,
+        _ => addr % bytes,
+    }
+}
+
 /// The line that fails where an address is not a multiple.
 pub(crate) fn unaligned(addr: u64, bytes: u64, reg: u8) -> Line
     requires { 0 < bytes }
     ensures { result ≡ check_line (not (addr % bytes == 0)) Trap.ALIGNMENT reg }
 {
-    check(addr % bytes != 0, Trap::ALIGNMENT, reg)
+    check(remainder(addr, bytes) != 0, Trap::ALIGNMENT, reg)
 }
 
 /// Whether the permission with this number is needed and missing.
