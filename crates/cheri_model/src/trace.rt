@@ -59,7 +59,7 @@ pub enum Status {
 /// step ended.
 #[derive(Clone, Copy, Debug, PartialEq, Eq)]
 pub struct Entry {
-    pub hart: u8,
     pub pc: u64,
+    pub hart: u8,
     pub outcome: Outcome,
 }
