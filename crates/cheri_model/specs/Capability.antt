@@ -26,11 +26,11 @@ sentry_type = SENTRY_TYPE
 abbrev pub last_sealable_type : ℕ
 last_sealable_type = LAST_SEALABLE_TYPE
 
--- an object type that a tagged capability may have
+-- an object type that a tagged capability may have: none of the two reserved ones
 pub record IsLawfulType (otype : ℕ) : Type 0 where
   pub below : otype < 2 ^ 18
-  pub not_reserved : otype ≢ 0x3FFFC
-  pub not_reserved_either : otype ≢ 0x3FFFD
+  pub not_reserved : otype ≢ last_sealable_type + 1
+  pub not_reserved_either : otype ≢ last_sealable_type + 2
 
 -- only permission numbers 0 to 11 and 15 to 18
 pub record IsPermissionSet (perms : ℕ) : Type 0 where
