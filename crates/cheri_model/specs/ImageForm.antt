@@ -26,13 +26,13 @@ are_granules ram from [] = true
 are_granules ram from (g ∷ rest) = is_granule ram from g.0 g.1 && are_granules ram (g.0 + 1) rest
 
 -- 1 to 16,384 instructions; RAM of 16 to 1,048,576 bytes, a multiple of 16; 1 to 8 harts
-abbrev pub are_sizes : ImageParts → Bool
-are_sizes image =
-    is_between 1 MAX_INSTRUCTIONS (length image.program) && is_between GRANULE_BYTES MAX_RAM_BYTES image.ram
-    && (image.ram % GRANULE_BYTES == 0) && is_between 1 MAX_HARTS (length image.harts)
+abbrev pub are_sizes : ℕ → ℕ → ℕ → Bool
+are_sizes instructions ram harts =
+    is_between 1 MAX_INSTRUCTIONS instructions && is_between GRANULE_BYTES MAX_RAM_BYTES ram && (ram % GRANULE_BYTES == 0)
+    && is_between 1 MAX_HARTS harts
 
 unfoldable pub is_image : ImageParts → Bool
-is_image image = are_sizes image && are_granules image.ram ram_base image.granules
+is_image image = are_sizes (length image.program) image.ram (length image.harts) && are_granules image.ram ram_base image.granules
 
 -- the image of these parts, if they make one
 unfoldable pub image_of : List Instr → ℕ → List (ℕ × CapValue) → List HartImage → Option ImageParts

@@ -9,7 +9,7 @@ ghost use Rattle.cheri_model.specs.contracts.image.HartImagePartialEq.TheImpl.La
 ghost use Rattle.cheri_model.specs.contracts.instr.InstrEq.TheImpl.Laws as instr_equal;
 ghost use Rattle.cheri_model.specs.contracts.value.ValueEq.TheImpl.Laws as value_equal;
 ghost use Rattle.cheri_model.specs.contracts.image.HartImageEq.TheImpl.Laws as hart_equal;
-ghost use Rattle.cheri_model.specs.ImageForm.{image_of, is_image, are_granules, is_granule};
+ghost use Rattle.cheri_model.specs.ImageForm.{image_of, is_image, are_sizes, are_granules, is_granule};
 ghost use Rattle.cheri_model.specs.Memory.{ram_base};
 
 use crate::instr::Instr;
@@ -99,6 +99,16 @@ impl Eq for Image {
     ) depth 9 };
 }
 
+/// Whether an image may have this many instructions, bytes of RAM and harts.
+fn are_sizes(instructions: usize, ram: u32, harts: usize) -> bool
+    ensures { result ≡ are_sizes instructions ram harts }
+{
+    (1..=MAX_INSTRUCTIONS).contains(&instructions)
+        && (GRANULE_BYTES..=MAX_RAM_BYTES).contains(&ram)
+        && ram % GRANULE_BYTES == 0
+        && (1..=MAX_HARTS).contains(&harts)
+}
+
 /// Whether a granule may be listed in an image with this RAM, after granules below `from`.
 fn is_granule(ram: u32, from: u64, addr: u64, value: Value) -> bool
     ensures { result ≡ is_granule ram from addr value }
@@ -136,11 +146,7 @@ impl Image {
     ) -> Option<Image>
         ensures { result ≡ image_of program.items ram granules.items harts.items }
     {
-        let sizes = (1..=MAX_INSTRUCTIONS).contains(&program.len())
-            && (GRANULE_BYTES..=MAX_RAM_BYTES).contains(&ram)
-            && ram % GRANULE_BYTES == 0
-            && (1..=MAX_HARTS).contains(&harts.len());
-        if !sizes || !are_granules(ram, granules.as_slice()) {
+        if !are_sizes(program.len(), ram, harts.len()) || !are_granules(ram, granules.as_slice()) {
             return None;
         }
         Some(Image {

@@ -26,7 +26,7 @@ length-store_capability memory addr v = simp length-set
 pub image_ram_size : (image : ImageParts) → is_image image ≡ true → is_ram_size image.ram ≡ true
 unfolding is_image
 image_ram_size image is =
-    let sizes = (and_parts (are_sizes image) _ is).0 in
+    let sizes = (and_parts (are_sizes (length image.program) image.ram (length image.harts)) _ is).0 in
     let ram = (and_parts (is_between 1 16384 (length image.program) && is_between 16 1048576 image.ram && (image.ram % 16 == 0)) _ sizes).0 in
     let between = and_parts (is_between 1 16384 (length image.program) && is_between 16 1048576 image.ram) _ ram in
     let low = (and_parts (is_between 1 16384 (length image.program)) _ between.0).1 in

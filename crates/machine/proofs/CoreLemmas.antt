@@ -163,7 +163,7 @@ operations_after core op =
 pub image_hart_limit : (image : ImageParts) → is_image image ≡ true → length image.harts ≤ 8
 unfolding is_image
 image_hart_limit image is =
-    let sizes = (and_parts (are_sizes image) _ is).0 in
+    let sizes = (and_parts (are_sizes (length image.program) image.ram (length image.harts)) _ is).0 in
     let last = (and_parts (is_between 1 16384 (length image.program) && is_between 16 1048576 image.ram && (image.ram % 16 == 0)) _ sizes).1 in
     leb-true _ _ (and_parts (nat_le 1 (length image.harts)) _ last).1
 

@@ -32,12 +32,12 @@ granules_placed ram from (g ∷ granules) above is =
 
 pub image_placed : (image : ImageParts) → is_image image ≡ true → All (IsPlaced image.ram) image.granules
 unfolding is_image
-image_placed image is = granules_placed image.ram ram_base image.granules (omega arith) (and_parts (are_sizes image) _ is).1
+image_placed image is = granules_placed image.ram ram_base image.granules (omega arith) (and_parts (are_sizes (length image.program) image.ram (length image.harts)) _ is).1
 
 pub image_ram : (image : ImageParts) → is_image image ≡ true → image.ram % 16 ≡ 0
 unfolding is_image
 image_ram image is =
-    let sizes = (and_parts (are_sizes image) _ is).0 in
+    let sizes = (and_parts (are_sizes (length image.program) image.ram (length image.harts)) _ is).0 in
     eqb-true _ _ (and_parts _ (image.ram % 16 == 0) (and_parts _ _ sizes).0).1
 
 -- such a granule fits a memory of that size
