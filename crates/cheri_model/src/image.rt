@@ -9,7 +9,13 @@ ghost use Rattle.cheri_model.specs.contracts.image.HartImagePartialEq.TheImpl.La
 ghost use Rattle.cheri_model.specs.contracts.instr.InstrEq.TheImpl.Laws as instr_equal;
 ghost use Rattle.cheri_model.specs.contracts.value.ValueEq.TheImpl.Laws as value_equal;
 ghost use Rattle.cheri_model.specs.contracts.image.HartImageEq.TheImpl.Laws as hart_equal;
-ghost use Rattle.cheri_model.specs.ImageForm.{image_of, is_image, are_sizes, are_granules, is_granule};
+ghost use Rattle.cheri_model.specs.ImageForm.{
+  image_of,
+  is_image,
+  are_sizes,
+  are_granules,
+  is_granule,
+};
 ghost use Rattle.cheri_model.specs.Memory.{ram_base};
 
 use crate::instr::Instr;
