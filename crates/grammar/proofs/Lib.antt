@@ -11,4 +11,5 @@ pub mod NumeralLemmas
 pub mod Open
 pub mod OperandLemmas
 pub mod PermissionTexts
+pub mod PlainTexts
 pub mod TokenLemmas
