@@ -1,4 +1,5 @@
 pub mod ChainLemmas
+pub mod DigitTable
 pub mod DirectiveLemmas
 pub mod EachToken
 pub mod FirstToken

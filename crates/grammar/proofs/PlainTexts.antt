@@ -1,6 +1,6 @@
 -- A text is plain where each byte is, newlines between its lines aside.
 use Rattle.std.proofs.Common.{◌≡◌, ℕ, ◌==◌, ◌<◌, ◌||◌, ◌&&◌, Bool, true, false, List, [], ◌∷◌, length, fold, get_or, refl, sym, ◌∙◌}
-use Rattle.std.specs.List.{list_all, slice_split, onto_first}
+use Rattle.std.specs.List.{list_all, onto_first}
 use Rattle.std.proofs.lemmas.List.Folds.{list_all_at}
 use Rattle.grammar.specs.Lines.{is_plain, lines_of}
 
