@@ -1,4 +1,5 @@
 pub mod ChainLemmas
+pub mod DigitTable
 pub mod DirectiveLemmas
 pub mod EachToken
 pub mod FirstToken
@@ -11,4 +12,5 @@ pub mod NumeralLemmas
 pub mod Open
 pub mod OperandLemmas
 pub mod PermissionTexts
+pub mod PlainTexts
 pub mod TokenLemmas

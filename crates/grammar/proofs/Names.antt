@@ -4,12 +4,15 @@ use Rattle.grammar.proofs.LineLemmas.{each_plain, after_blanks_some, after_blank
 use Rattle.grammar.proofs.LawfulTypes.{unsealed_lawful, sentry_lawful, sealable_lawful}
 use Rattle.grammar.proofs.OperandLemmas.{without_bracket, at_bracket}
 use Rattle.grammar.proofs.PermissionTexts.{no_name_beyond_text}
+use Rattle.grammar.proofs.PlainTexts.{each_line_plain}
 
 pub ruleset count = (length_of_texts)
 
 pub ruleset token = (token_at_text, token_at_none)
 
 pub ruleset plain = (each_plain)
+
+pub ruleset all_plain = (each_line_plain)
 
 pub ruleset begun = (after_blanks_some, after_blanks_none)
 

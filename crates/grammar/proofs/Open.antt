@@ -5,9 +5,15 @@ use Rattle.cheri_model.specs.declared.perms.Perms.{Perms}
 use Rattle.grammar.specs.declared.fault.ListingFaultKind.{ListingFaultKind}
 use Rattle.grammar.specs.declared.operands.MemoryOperand.{MemoryOperand}
 use Rattle.grammar.specs.declared.operands.TypeOperand.{TypeOperand}
+use Rattle.grammar.specs.declared.mnemonics.Mnemonic.{Mnemonic}
+use Rattle.grammar.specs.Mnemonics.{names_from, mnemonic_table}
 use Rattle.grammar.specs.Permissions.{permission_named, permissions_of}
 use Rattle.grammar.specs.Operands.{memory_operand_of, type_in_range}
 use Rattle.grammar.specs.Capability.{optional_type}
+
+unfoldable pub letters : ℕ → List (List ℕ × Mnemonic)
+unfolding names_from mnemonic_table
+letters letter = names_from letter
 
 unfoldable pub named : List ℕ → Option ℕ
 unfolding permission_named

@@ -1,10 +1,15 @@
 -- Numbers of listings: decimal digits, or `0x` and hexadecimal digits of either case (this project's own format).
-use Rattle.std.specs.Prelude.{ℕ, ◌+◌, ◌*◌, ◌^◌, ◌==◌, nat_lt, nat_le, Bool, not, ◌&&◌, if◌then◌else◌, List, length, drop, slice_index, Option, Some, None, Result, Ok, Err}
+use Rattle.std.specs.Prelude.{ℕ, ◌+◌, ◌*◌, ◌^◌, ◌==◌, nat_lt, nat_le, Bool, true, not, ◌&&◌, if◌then◌else◌, List, [], ◌∷◌, length, drop, slice_index, Option, Some, None, Result, Ok, Err}
 use Rattle.std.specs.Char.{digit_value}
 use Rattle.std.specs.List.{list_all}
 use Rattle.std.specs.Str.Parse.{digits_value}
 use Rattle.grammar.specs.declared.fault.ListingFaultKind.{ListingFaultKind}
 use Rattle.grammar.specs.declared.fault.ListingFaultKind.TheVariants.{Operand, Range}
+
+-- whether a table has the values as digits of the bytes from this one on
+unfoldable pub values_from : ℕ → List ℕ → Bool
+values_from byte [] = true
+values_from byte (value ∷ values) = (value == digit_value byte) && values_from (byte + 1) values
 
 -- one digit of the base or more, and nothing else
 abbrev pub are_digits : ℕ → List ℕ → Bool

@@ -141,6 +141,7 @@ const X_NAMES: &[(&[u8], Mnemonic)] = &[
 ];
 
 /// The instructions whose names begin with this letter.
+#[tactic(auto, unfolding(crate::proofs::Open::letters))]
 fn names_from(letter: u8) -> &'static [(&'static [u8], Mnemonic)]
     ensures { rows_of result.now ≡ names_from letter }
 {

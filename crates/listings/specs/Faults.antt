@@ -21,6 +21,12 @@ GivesLine (Ok x) meaning = meaning ≡ Ok x
 GivesLine (Err line_faults.NoMemory) meaning = ⊤
 GivesLine (Err (line_faults.Kind kind)) meaning = meaning ≡ Err kind
 
+-- a line was read by its meaning into what it fills: what that is then, or its kind of fault, or out of memory
+abbrev pub FillsLine : {X : Type 0} → Result (Unit {0}) LineFault → X → Result X ListingFaultKind → Type 0
+FillsLine (Ok done) new meaning = meaning ≡ Ok new
+FillsLine (Err line_faults.NoMemory) new meaning = ⊤
+FillsLine (Err (line_faults.Kind kind)) new meaning = meaning ≡ Err kind
+
 -- a listing was read by its meaning: what it means, or its fault, or out of memory
 abbrev pub Gives : {X : Type 0} → Result X ListingFault → Result X ListingFault → Type 0
 Gives (Ok x) meaning = meaning ≡ Ok x

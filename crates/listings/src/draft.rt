@@ -1,7 +1,7 @@
 //! What the lines of a listing make, one after another.
 
 ghost use Rattle.std.specs.Prelude.{◌≡◌, IfOk};
-ghost use Rattle.listings.specs.Faults.{Gives, GivesLine};
+ghost use Rattle.listings.specs.Faults.{Gives, FillsLine};
 ghost use Rattle.listings.specs.Draft.{
   empty_draft,
   with_ram,
@@ -129,8 +129,8 @@ impl Draft {
 
     /// RAM of this size, before any line has settled it.
     #[tactic(auto, unfolding(crate::specs::Draft::with_ram))]
-    pub fn with_ram(mut self, alloc: Global, size: Option<u128>) -> Result<Draft, LineFault>
-        ensures { GivesLine result (with_ram self size) }
+    pub fn with_ram(&mut self, alloc: Global, size: Option<u128>) -> Result<(), LineFault>
+        ensures { FillsLine result self.new (with_ram self.old size) }
     {
         if self.sized {
             return Err(LineFault::Kind(ListingFaultKind::Twice));
@@ -145,26 +145,26 @@ impl Draft {
             Err(MemFault::NoMemory) => return Err(LineFault::NoMemory),
         };
         self.sized = true;
-        Ok(self)
+        Ok(())
     }
 
     /// One more hart, of at most 8, with this PCC.
     #[tactic(auto, unfolding(crate::specs::Draft::add_hart))]
-    fn add_hart(mut self, pcc: Value) -> Result<Draft, LineFault>
-        ensures { GivesLine result (add_hart self pcc) }
+    fn add_hart(&mut self, pcc: Value) -> Result<(), LineFault>
+        ensures { FillsLine result self.new (add_hart self.old pcc) }
     {
         if self.harts.len() >= MAX_HARTS {
             return Err(LineFault::Kind(ListingFaultKind::Size));
         }
         self.harts.push(hart_from(pcc))?;
         self.set = [false; 32];
-        Ok(self)
+        Ok(())
     }
 
     /// One more hart, whose PCC has these parts.
     #[tactic(auto, unfolding(crate::specs::Draft::with_hart))]
-    pub fn with_hart(self, parts: CapParts) -> Result<Draft, LineFault>
-        ensures { GivesLine result (with_hart self parts) }
+    pub fn with_hart(&mut self, parts: CapParts) -> Result<(), LineFault>
+        ensures { FillsLine result self.new (with_hart self.old parts) }
     {
         let pcc = parts.capability()?;
         self.add_hart(pcc.value())
@@ -172,8 +172,8 @@ impl Draft {
 
     /// The value of a register of the latest hart, not of `c0`, of which no hart keeps a value.
     #[tactic(auto, unfolding(crate::specs::Draft::set_register))]
-    fn set_register(mut self, reg: Reg, value: Value) -> Result<Draft, LineFault>
-        ensures { GivesLine result (set_register self reg value) }
+    fn set_register(&mut self, reg: Reg, value: Value) -> Result<(), LineFault>
+        ensures { FillsLine result self.new (set_register self.old reg value) }
     {
         if self.harts.is_empty() {
             return Err(LineFault::Kind(ListingFaultKind::NoHart));
@@ -184,13 +184,13 @@ impl Draft {
         hart.regs[number.saturating_sub(1)] = value;
         self.harts[last] = hart;
         self.set[number] = true;
-        Ok(self)
+        Ok(())
     }
 
     /// The same of a register that was not set before.
     #[tactic(auto, unfolding(crate::specs::Draft::with_set))]
-    pub fn with_set(self, reg: Reg, setting: Setting) -> Result<Draft, LineFault>
-        ensures { GivesLine result (with_set self reg setting) }
+    pub fn with_set(&mut self, reg: Reg, setting: Setting) -> Result<(), LineFault>
+        ensures { FillsLine result self.new (with_set self.old reg setting) }
     {
         if self.set[usize::from(reg.number())] {
             return Err(LineFault::Kind(ListingFaultKind::Twice));
@@ -201,8 +201,8 @@ impl Draft {
 
     /// At most 4,096 bytes, stored from an address on, wholly in RAM.
     #[tactic(auto, unfolding(crate::specs::Draft::with_bytes))]
-    pub fn with_bytes(mut self, addr: u64, stored: Data) -> Result<Draft, LineFault>
-        ensures { GivesLine result (with_bytes self addr stored) }
+    pub fn with_bytes(&mut self, addr: u64, stored: Data) -> Result<(), LineFault>
+        ensures { FillsLine result self.new (with_bytes self.old addr stored) }
     {
         let bytes = stored.bytes.as_slice();
         if bytes.len() > BYTES_LIMIT || !is_in_ram(&self.ram, addr, bytes.len()) {
@@ -210,13 +210,13 @@ impl Draft {
         }
         store_bytes(&mut self.ram, addr, bytes);
         self.sized = true;
-        Ok(self)
+        Ok(())
     }
 
     /// A capability of these parts in the granule at an address.
     #[tactic(auto, unfolding(crate::specs::Draft::with_capability))]
-    pub fn with_capability(mut self, addr: u64, parts: CapParts) -> Result<Draft, LineFault>
-        ensures { GivesLine result (with_capability self addr parts) }
+    pub fn with_capability(&mut self, addr: u64, parts: CapParts) -> Result<(), LineFault>
+        ensures { FillsLine result self.new (with_capability self.old addr parts) }
     {
         if !self.ram.fits(addr, 16) {
             return Err(LineFault::Kind(ListingFaultKind::Range));
@@ -224,19 +224,19 @@ impl Draft {
         let value = parts.capability()?;
         self.ram.store_cap(addr, value);
         self.sized = true;
-        Ok(self)
+        Ok(())
     }
 
     /// One more instruction, of at most 16,384.
     #[tactic(auto, unfolding(crate::specs::Draft::with_instruction))]
-    pub fn with_instruction(mut self, instr: Instr) -> Result<Draft, LineFault>
-        ensures { GivesLine result (with_instruction self instr) }
+    pub fn with_instruction(&mut self, instr: Instr) -> Result<(), LineFault>
+        ensures { FillsLine result self.new (with_instruction self.old instr) }
     {
         if self.program.len() >= MAX_INSTRUCTIONS {
             return Err(LineFault::Kind(ListingFaultKind::Size));
         }
         self.program.push(instr)?;
-        Ok(self)
+        Ok(())
     }
 
     /// The image of all lines.

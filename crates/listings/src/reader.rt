@@ -1,8 +1,9 @@
 //! Reading a listing.
 
-ghost use Rattle.std.specs.Prelude.{◌≡◌, ◌≤◌, ◌<◌, ◌^◌, length};
-ghost use Rattle.listings.specs.Faults.{Gives, GivesLine};
-ghost use Rattle.grammar.specs.Lines.{lines_of};
+ghost use Rattle.std.specs.Prelude.{◌≡◌, ◌≤◌, ◌<◌, ◌^◌, length, true};
+ghost use Rattle.std.specs.List.{list_all};
+ghost use Rattle.listings.specs.Faults.{Gives, FillsLine};
+ghost use Rattle.grammar.specs.Lines.{lines_of, is_plain};
 ghost use Rattle.grammar.specs.Places.{shown};
 ghost use Rattle.listings.specs.Draft.{empty_draft};
 ghost use Rattle.listings.specs.Meaning.{line_meaning, lines_meaning, listing_meaning};
@@ -13,27 +14,30 @@ use crate::statement::with_line;
 use cheri_model::Image;
 use grammar::fault::ListingFaultKind;
 use grammar::labels::{Places, places_of};
-use grammar::lines::is_plain;
+use grammar::lines::{are_plain, is_plain};
 use grammar::tokens::read_tokens;
 use std::alloc::Global;
 
 /// The most bytes of a listing.
 pub const LISTING_LIMIT: usize = 1_048_576;
 
-/// What a line of this number makes of what the lines before it made. `tokens` is a buffer, whose
-/// content does not count.
+/// What a line of this number makes of what the lines before it made. `plain` says that the line is
+/// known to be plain, and `tokens` is a buffer, whose content does not count.
 #[tactic(auto, unfolding(crate::specs::Meaning::line_meaning))]
 fn read_line<'a>(
     alloc: Global,
     places: &Places<'_>,
     number: usize,
-    draft: Draft,
+    draft: &mut Draft,
     line: &'a [u8],
+    plain: bool,
     tokens: &mut Vec<&'a [u8]>,
-) -> Result<Draft, LineFault>
-    ensures { GivesLine result (line_meaning (shown places.now) number draft line.now) }
+) -> Result<(), LineFault>
+    requires { plain ≡ true → list_all is_plain line.now ≡ true }
+    ensures { FillsLine result draft.new
+        (line_meaning (shown places.now) number draft.old line.now) }
 {
-    if !is_plain(line) {
+    if !plain && !is_plain(line) {
         return Err(LineFault::Kind(ListingFaultKind::NotAscii));
     }
     read_tokens(line, tokens)?;
@@ -47,13 +51,13 @@ fn read_lines(alloc: Global, places: &Places<'_>, text: &[u8]) -> Result<Draft, 
 {
     let mut draft = Draft::new(alloc)?;
     let mut tokens = Vec::new(alloc);
+    let plain = are_plain(text);
     let mut number = 1;
     for line in text.split(|byte| *byte == b'\n') {
-        draft = match read_line(alloc, places, number, draft, line, &mut tokens) {
-            Ok(next) => next,
+        match read_line(alloc, places, number, &mut draft, line, plain, &mut tokens) {
+            Ok(()) => number += 1,
             Err(fault) => return Err(fault.at(number)),
-        };
-        number += 1;
+        }
     }
     Ok(draft)
 }

@@ -3,7 +3,7 @@
 ghost use Rattle.std.specs.Prelude.{◌≡◌};
 ghost use Rattle.grammar.specs.Tokens.{texts, token_at};
 ghost use Rattle.grammar.specs.Mnemonics.{mnemonic_of};
-ghost use Rattle.listings.specs.Faults.{GivesLine};
+ghost use Rattle.listings.specs.Faults.{FillsLine, GivesLine};
 ghost use Rattle.grammar.specs.Places.{shown};
 ghost use Rattle.listings.specs.Statement.{
   ram_line,
@@ -41,8 +41,8 @@ use std::alloc::Global;
 
 /// `.ram N`
 #[tactic(auto, unfolding(crate::specs::Statement::ram_line))]
-fn ram_line(alloc: Global, draft: Draft, tokens: &[&[u8]]) -> Result<Draft, LineFault>
-    ensures { GivesLine result (ram_line draft (texts tokens.now)) }
+fn ram_line(alloc: Global, draft: &mut Draft, tokens: &[&[u8]]) -> Result<(), LineFault>
+    ensures { FillsLine result draft.new (ram_line draft.old (texts tokens.now)) }
 {
     counted(2, tokens)?;
     let size = number_of(token_at(tokens, 1))?;
@@ -51,8 +51,8 @@ fn ram_line(alloc: Global, draft: Draft, tokens: &[&[u8]]) -> Result<Draft, Line
 
 /// `.hart BASE LEN ADDR PERMS`
 #[tactic(auto, unfolding(crate::specs::Statement::hart_line))]
-fn hart_line(draft: Draft, tokens: &[&[u8]]) -> Result<Draft, LineFault>
-    ensures { GivesLine result (hart_line draft (texts tokens.now)) }
+fn hart_line(draft: &mut Draft, tokens: &[&[u8]]) -> Result<(), LineFault>
+    ensures { FillsLine result draft.new (hart_line draft.old (texts tokens.now)) }
 {
     counted(5, tokens)?;
     let operands = cap_operands_of(tokens, 1, TypeOperand::Unsealed)?;
@@ -110,8 +110,8 @@ fn setting_of(tokens: &[&[u8]]) -> Result<Setting, ListingFaultKind>
 
 /// `.set cN int V`, `.set cN word V`, `.set cN cap BASE LEN ADDR PERMS [TYPE]`
 #[tactic(auto, unfolding(crate::specs::Statement::set_line))]
-fn set_line(draft: Draft, tokens: &[&[u8]]) -> Result<Draft, LineFault>
-    ensures { GivesLine result (set_line draft (texts tokens.now)) }
+fn set_line(draft: &mut Draft, tokens: &[&[u8]]) -> Result<(), LineFault>
+    ensures { FillsLine result draft.new (set_line draft.old (texts tokens.now)) }
 {
     let reg = settable_register_of(token_at(tokens, 1))?;
     let setting = setting_of(tokens)?;
@@ -135,8 +135,8 @@ fn hex_bytes(alloc: Global, token: &[u8]) -> Result<Data, LineFault>
 
 /// `.bytes A HEX`
 #[tactic(auto, unfolding(crate::specs::Statement::bytes_line))]
-fn bytes_line(alloc: Global, draft: Draft, tokens: &[&[u8]]) -> Result<Draft, LineFault>
-    ensures { GivesLine result (bytes_line draft (texts tokens.now)) }
+fn bytes_line(alloc: Global, draft: &mut Draft, tokens: &[&[u8]]) -> Result<(), LineFault>
+    ensures { FillsLine result draft.new (bytes_line draft.old (texts tokens.now)) }
 {
     counted(3, tokens)?;
     let addr = number_of(token_at(tokens, 1))?;
@@ -147,8 +147,8 @@ fn bytes_line(alloc: Global, draft: Draft, tokens: &[&[u8]]) -> Result<Draft, Li
 
 /// `.cap A BASE LEN ADDR PERMS [TYPE]`
 #[tactic(auto, unfolding(crate::specs::Statement::cap_line))]
-fn cap_line(draft: Draft, tokens: &[&[u8]]) -> Result<Draft, LineFault>
-    ensures { GivesLine result (cap_line draft (texts tokens.now)) }
+fn cap_line(draft: &mut Draft, tokens: &[&[u8]]) -> Result<(), LineFault>
+    ensures { FillsLine result draft.new (cap_line draft.old (texts tokens.now)) }
 {
     let addr = number_of(token_at(tokens, 1))?;
     let operands = cap_tokens(tokens, 2)?;
@@ -160,11 +160,11 @@ fn cap_line(draft: Draft, tokens: &[&[u8]]) -> Result<Draft, LineFault>
 #[tactic(auto, unfolding(crate::specs::Statement::directive_line))]
 fn directive_line(
     alloc: Global,
-    draft: Draft,
+    draft: &mut Draft,
     directive: Directive,
     tokens: &[&[u8]],
-) -> Result<Draft, LineFault>
-    ensures { GivesLine result (directive_line draft directive (texts tokens.now)) }
+) -> Result<(), LineFault>
+    ensures { FillsLine result draft.new (directive_line draft.old directive (texts tokens.now)) }
 {
     match directive {
         Directive::Ram => ram_line(alloc, draft, tokens),
@@ -179,12 +179,12 @@ fn directive_line(
 #[tactic(auto, unfolding(crate::specs::Statement::instruction_line))]
 fn instruction_line(
     places: &Places<'_>,
-    draft: Draft,
+    draft: &mut Draft,
     mnemonic: Mnemonic,
     tokens: &[&[u8]],
-) -> Result<Draft, LineFault>
-    ensures { GivesLine result
-        (instruction_line (shown places.now) draft mnemonic (texts tokens.now)) }
+) -> Result<(), LineFault>
+    ensures { FillsLine result draft.new
+        (instruction_line (shown places.now) draft.old mnemonic (texts tokens.now)) }
 {
     let form = form_from(places, mnemonic, tokens)?;
     draft.with_instruction(form.instr())
@@ -195,14 +195,15 @@ fn instruction_line(
 fn label_line(
     places: &Places<'_>,
     number: usize,
-    draft: Draft,
+    draft: &mut Draft,
     tokens: &[&[u8]],
-) -> Result<Draft, LineFault>
-    ensures { GivesLine result (label_line (shown places.now) number draft (texts tokens.now)) }
+) -> Result<(), LineFault>
+    ensures { FillsLine result draft.new
+        (label_line (shown places.now) number draft.old (texts tokens.now)) }
 {
     counted(1, tokens)?;
     label_fault(places, number, label_name(token_at(tokens, 0)))?;
-    Ok(draft)
+    Ok(())
 }
 
 /// A line that begins with no directive: an instruction's, or a label's.
@@ -210,10 +211,10 @@ fn label_line(
 fn other_line(
     places: &Places<'_>,
     number: usize,
-    draft: Draft,
+    draft: &mut Draft,
     tokens: &[&[u8]],
-) -> Result<Draft, LineFault>
-    ensures { GivesLine result (other_line (shown places.now) number draft
+) -> Result<(), LineFault>
+    ensures { FillsLine result draft.new (other_line (shown places.now) number draft.old
         (mnemonic_of (token_at (texts tokens.now) 0)) (texts tokens.now)) }
 {
     let first = token_at(tokens, 0);
@@ -230,13 +231,14 @@ pub fn with_line(
     alloc: Global,
     places: &Places<'_>,
     number: usize,
-    draft: Draft,
+    draft: &mut Draft,
     tokens: &[&[u8]],
-) -> Result<Draft, LineFault>
-    ensures { GivesLine result (tokens_meaning (shown places.now) number draft (texts tokens.now)) }
+) -> Result<(), LineFault>
+    ensures { FillsLine result draft.new
+        (tokens_meaning (shown places.now) number draft.old (texts tokens.now)) }
 {
     if tokens.is_empty() {
-        return Ok(draft);
+        return Ok(());
     }
     match directive_of(token_at(tokens, 0)) {
         Some(directive) => directive_line(alloc, draft, directive, tokens),

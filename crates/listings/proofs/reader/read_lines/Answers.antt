@@ -1,12 +1,20 @@
-use Rattle.std.proofs.Common.{◌≡◌, ◌+◌, ◌≤◌, ◌==◌, length, rules, tests, arith}
+use Rattle.std.proofs.Common.{◌≡◌, ◌+◌, ◌≤◌, ◌==◌, length, rules, tests, arith, sym, ◌∙◌}
 use Rattle.std.proofs.lemmas.List.{length_push}
 use Rattle.std.proofs.lemmas.Iterator.Consumers.{YieldsList-at}
 use Rattle.std.proofs.lemmas.Iterator.Splits.{YieldsList-from_slice_split}
 use Rattle.grammar.specs.Lines.{lines_of}
 use Rattle.grammar.specs.Places.{shown}
 use Rattle.grammar.proofs.ChainLemmas.{turn_of, end_of, from_here}
+use Rattle.grammar.proofs.PlainTexts.{plain_at}
 use Rattle.listings.proofs.ReaderLemmas.{after_line, at_fault, after_last}
 use Rattle.listings.proofs.reader.read_lines.Goals as goal
+
+pub read_line-requires : goal.read_line-requires
+read_line-requires c =
+    let turn = turn_of c.loop-line.yielded _ c.loop-line.yielded_by _ _ c.in-Some.line c.in-Some.is c.next.ensures.steps
+    (YieldsList-at c.into_iter-line-iterator.ensures.into_iter_gives
+    (YieldsList-from_slice_split _ (λ b. b == 10) c.args.text.now c.split-line-items.ensures.rest c.split-line-items.ensures.done c.split-line-items.ensures.closure (λ x b q k. search (rules, tests)))) in
+    λ plain. plain_at c.args.text.now c.in-Some.line.now (length c.loop-line.yielded) turn.0 turn.1 (sym c.are_plain-plain.ensures ∙ plain)
 
 pub returns-in-Err : goal.returns-in-Err
 returns-in-Err c =
@@ -14,7 +22,7 @@ returns-in-Err c =
     (YieldsList-at c.into_iter-line-iterator.ensures.into_iter_gives
     (YieldsList-from_slice_split _ (λ b. b == 10) c.args.text.now c.split-line-items.ensures.rest c.split-line-items.ensures.done c.split-line-items.ensures.closure (λ x b q k. search (rules, tests)))) in
     let here = from_here (lines_of c.args.text.now) (length c.loop-line.yielded) c.in-Some.line.now turn.0 turn.1 in
-    rw c.at.ensures (at_fault _ _ _ _ _ _ c.in-Err.fault c.in-Err.ensures (rw here at c.loop-line.invariant.1))
+    rw c.at.ensures (at_fault _ _ _ _ _ _ c.in-Err.fault _ c.in-Err.ensures (rw here at c.loop-line.invariant.1))
 
 pub loop-line-preserved : goal.loop-line-preserved
 loop-line-preserved c =
@@ -25,7 +33,7 @@ loop-line-preserved c =
     let more = length_push c.loop-line.yielded c.in-Some.line in
     let place : c.loop-line.number ≡ length c.loop-line.yielded + 1 = c.loop-line.invariant.0 in (
       omega (arith, more, place),
-      rw more (after_line (shown c.args.places.now) _ _ _ _ _ c.in-Ok.next c.in-Ok.ensures (rw here at c.loop-line.invariant.1)),
+      rw more (after_line (shown c.args.places.now) _ _ _ _ _ _ c.in-Ok.ensures (rw here at c.loop-line.invariant.1)),
     )
 
 pub returns : goal.returns
