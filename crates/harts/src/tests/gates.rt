@@ -10,23 +10,23 @@ const LOOKS: u32 = 1_000_000;
 
 /// A flag that one thread sets and others look for.
 #[derive(Drop)]
-pub struct Flag(AtomicBool);
+pub(super) struct Flag(AtomicBool);
 
 impl Flag {
-    pub(crate) fn new() -> Flag {
+    pub(super) fn new() -> Flag {
         Flag(AtomicBool::new(false))
     }
 
-    pub(crate) fn set(&self) {
+    pub(super) fn set(&self) {
         self.0.store(true, Ordering::SeqCst);
     }
 
-    pub(crate) fn is_set(&self) -> bool {
+    pub(super) fn is_set(&self) -> bool {
         self.0.load(Ordering::SeqCst)
     }
 
     /// Waits until the flag is set, and gives up after a number of looks.
-    pub(crate) fn comes(&self) -> bool {
+    pub(super) fn comes(&self) -> bool {
         for _ in 0..LOOKS {
             if self.is_set() {
                 return true;
@@ -41,17 +41,17 @@ impl Flag {
 /// then the second waits until the first has stepped. After its first turn the first waits until
 /// the second has stepped.
 #[derive(Drop)]
-pub struct Meeting {
+pub(super) struct Meeting {
     first: u8,
-    pub zero_came: Flag,
-    pub one_came: Flag,
-    pub first_stepped: Flag,
-    pub second_stepped: Flag,
-    pub gave_up: Flag,
+    pub(super) zero_came: Flag,
+    pub(super) one_came: Flag,
+    pub(super) first_stepped: Flag,
+    pub(super) second_stepped: Flag,
+    pub(super) gave_up: Flag,
 }
 
 impl Meeting {
-    pub(crate) fn new(first: u8) -> Meeting {
+    pub(super) fn new(first: u8) -> Meeting {
         Meeting {
             first,
             zero_came: Flag::new(),
@@ -101,7 +101,7 @@ impl Gate for Meeting {
 
 /// A gate that ends each hart before the turn that stands at its number, and no other hart.
 #[derive(Drop)]
-pub struct EndsAt<'a>(pub &'a [u32]);
+pub(super) struct EndsAt<'a>(pub(super) &'a [u32]);
 
 impl Gate for EndsAt<'_> {
     fn before(&self, hart: u8, turn: u32) -> Turn {

@@ -16,7 +16,7 @@ const LOOKS: u32 = 1_000_000;
 const YIELDS: u32 = 1_000;
 
 /// A look of a watch, tried again while there is none.
-pub fn look_of<J: Naming>(watch: Watch<J>) -> Result<Look<J>, Watch<J>> {
+pub(super) fn look_of<J: Naming>(watch: Watch<J>) -> Result<Look<J>, Watch<J>> {
     let mut watch = watch;
     for _ in 0..LOOKS {
         match watch.look() {
@@ -30,18 +30,18 @@ pub fn look_of<J: Naming>(watch: Watch<J>) -> Result<Look<J>, Watch<J>> {
 
 /// A viewer that looks until it sees a whole race, and compares each look with the one before.
 #[derive(Drop)]
-pub struct Follower {
+pub(super) struct Follower {
     whole: usize,
     seen: Vec<Entry>,
-    pub was_called: bool,
-    pub saw_all: bool,
-    pub went_back: bool,
-    pub had_no_memory: bool,
+    pub(super) was_called: bool,
+    pub(super) saw_all: bool,
+    pub(super) went_back: bool,
+    pub(super) had_no_memory: bool,
 }
 
 impl Follower {
     /// A viewer of a race that ends with this many entries.
-    pub fn new(alloc: Global, whole: usize) -> Follower {
+    pub(super) fn new(alloc: Global, whole: usize) -> Follower {
         Follower {
             whole,
             seen: Vec::new(alloc),
@@ -88,13 +88,13 @@ impl Viewer for Follower {
 
 /// A gate at which each hart waits before its second turn until a viewer has seen a step.
 #[derive(Drop)]
-pub struct Viewed {
-    pub step_seen: Flag,
-    pub gave_up: Flag,
+pub(super) struct Viewed {
+    pub(super) step_seen: Flag,
+    pub(super) gave_up: Flag,
 }
 
 impl Viewed {
-    pub fn new() -> Viewed {
+    pub(super) fn new() -> Viewed {
         Viewed {
             step_seen: Flag::new(),
             gave_up: Flag::new(),
@@ -116,9 +116,9 @@ impl Gate for Viewed {
 
 /// A viewer that looks until it sees a step, and tells the gate.
 #[derive(Drop)]
-pub struct Spotter<'a> {
-    pub gate: &'a Viewed,
-    pub was_called: bool,
+pub(super) struct Spotter<'a> {
+    pub(super) gate: &'a Viewed,
+    pub(super) was_called: bool,
 }
 
 impl Viewer for Spotter<'_> {
@@ -146,15 +146,15 @@ impl Viewer for Spotter<'_> {
 
 /// A viewer that keeps one look for a while, and compares what it shows before and after.
 #[derive(Drop)]
-pub struct Keeper {
+pub(super) struct Keeper {
     seen: Vec<Entry>,
-    pub was_called: bool,
-    pub was_kept: bool,
-    pub has_changed: bool,
+    pub(super) was_called: bool,
+    pub(super) was_kept: bool,
+    pub(super) has_changed: bool,
 }
 
 impl Keeper {
-    pub fn new(alloc: Global) -> Keeper {
+    pub(super) fn new(alloc: Global) -> Keeper {
         Keeper {
             seen: Vec::new(alloc),
             was_called: false,
