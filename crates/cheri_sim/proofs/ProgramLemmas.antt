@@ -16,7 +16,8 @@ use Rattle.cheri_sim.specs.declared.faults.Fault.{Fault}
 use Rattle.cheri_sim.specs.declared.faults.Fault.TheVariants as faults
 use Rattle.cheri_sim.specs.declared.program.TheConstants.{GREATEST_ADDRESS, GREATEST_WORD}
 use Rattle.cheri_sim.specs.Answers.{number_given, bounds_line, check_line, decode_line}
-use Rattle.cheri_sim.specs.Faults.{status_of, command_fault, listing_fault}
+use Rattle.cheri_sim.specs.Faults.{fault_text, status_of, command_fault, listing_fault}
+use Rattle.reports.specs.Report.{line}
 use Rattle.cheri_sim.specs.Files.{KnownFiles, AreBytesOf}
 use Rattle.cheri_sim.specs.Printing.{Prints}
 use Rattle.cheri_sim.specs.Program.{Begins, BeginsAlone, BeginsAnswer, Fails, FailsAlone, FailsWith, IsQuiet, IsRaceAnswer, IsRunAnswer}
@@ -209,7 +210,9 @@ pub ruleset answer_failures = (nothing_printed, command_fails, fails_alone)
 -- what `check` fails for
 pub ruleset check_failures = (nothing_printed, check_fails, check_unwritten)
 
--- a fault and its status
-pub fails_with : (files : KnownFiles) (request : Option Asked) (fault : Fault) (status : ℕ) (old new : Option (List ℕ)) →
-    status ≡ status_of fault → Fails files request fault old new → FailsWith files request status old new
-fails_with files request fault status old new is fails = record { fault = fault; status_is = is; fails = fails }
+-- a fault, its status and its line, before which nothing was written
+pub fails_with : (files : KnownFiles) (request : Option Asked) (fault : Fault) (status : ℕ) (old new err_old err_now err_new : Option (List ℕ)) →
+    status ≡ status_of fault → Fails files request fault old new → err_now ≡ err_old →
+    TakesBeginning err_now err_new (line (fault_text fault)) → FailsWith files request status old new err_old err_new
+fails_with files request fault status old new err_old err_now err_new is fails same told =
+    record { fault = fault; status_is = is; fails = fails; told = rw same at told }

@@ -14,7 +14,9 @@ use Rattle.cheri_sim.specs.declared.program.TheConstants.{GREATEST_ADDRESS, GREA
 use Rattle.cheri_sim.specs.declared.faults.Fault.{Fault}
 use Rattle.cheri_sim.specs.declared.faults.Fault.TheVariants.{Usage, NoMemory, BadNumber, CannotReadListing, CannotReadOrder, CannotWrite, CannotStart, ImageDiffers, Listing, Order, Step}
 use Rattle.cheri_sim.specs.Answers.{number_given, bounds_line, check_line, decode_line}
-use Rattle.cheri_sim.specs.Faults.{status_of}
+use Rattle.reports.specs.Report.{line}
+use Rattle.reports.specs.Sinks.{TakesBeginning}
+use Rattle.cheri_sim.specs.Faults.{fault_text, status_of}
 use Rattle.cheri_sim.specs.Files.{KnownFiles, AreBytesOf}
 use Rattle.cheri_sim.specs.Printing.{Prints, PrintsBeginning}
 use Rattle.cheri_sim.specs.Races.{IsRace}
@@ -174,8 +176,9 @@ FailsAlone request BadNumber old new = HasBadNumber request × (new ≡ old)
 FailsAlone request CannotWrite old new = BeginsAlone request old new
 FailsAlone request _ old new = ⊥
 
--- a request fails with this exit status
-pub record FailsWith (files : KnownFiles) (request : Option Asked) (status : ℕ) (old new : Option (List ℕ)) : Type 0 where
+-- a request fails with this exit status; standard error got the fault's line, or a beginning of it
+pub record FailsWith (files : KnownFiles) (request : Option Asked) (status : ℕ) (old new err_old err_new : Option (List ℕ)) : Type 0 where
   pub fault : Fault
   pub status_is : status ≡ status_of fault
   pub fails : Fails files request fault old new
+  pub told : TakesBeginning err_old err_new (line (fault_text fault))

@@ -1,16 +1,19 @@
 //! What is printed: a text, or a report while it is made.
 
-ghost use Rattle.std.specs.Prelude.{◌≡◌, OnOk, IfErr};
+ghost use Rattle.std.specs.Prelude.{◌≡◌, OnOk, IfErr, IfSome};
 ghost use Rattle.std.specs.Io.KnownBytes.{Appends, Keeps};
 ghost use Rattle.hart_step.specs.View.{state_of};
-ghost use Rattle.reports.specs.Report.{report};
+ghost use Rattle.reports.specs.Report.{line, report};
 ghost use Rattle.reports.specs.Sinks.{TakesBeginning};
+ghost use Rattle.cheri_sim.specs.Faults.{fault_text};
 ghost use Rattle.cheri_sim.specs.Printing.{IsUnwritten};
 
 use crate::faults::Fault;
+use arrayvec::ArrayString;
 use hart_step::View;
 use reports::{ReportFault, SinkFailed, ToWrite, put_whole, write_report};
 use std::alloc::Global;
+use std::fmt::Write as _;
 use std::io::Write;
 
 /// Flushes a writer.
@@ -34,6 +37,33 @@ fn write_text<O: Write>(out: &mut O, text: &str) -> Result<(), SinkFailed>
     let writer = sink.into_writer();
     let _ = &*writer;
     written
+}
+
+/// More bytes than the line of a fault has.
+const FAULT_ROOM: usize = 128;
+
+/// The line of a fault, which takes no memory: the fault may be that there is none.
+fn fault_line(fault: Fault) -> Option<ArrayString<FAULT_ROOM>>
+    ensures { IfSome result (λ text. text.bytes ≡ line (fault_text fault)) }
+{
+    let mut text = ArrayString::new();
+    match writeln!(text, "{fault}") {
+        Ok(()) => Some(text),
+        Err(_) => None,
+    }
+}
+
+/// Writes the line of a fault.
+pub fn write_fault<E: Write>(err: &mut E, fault: Fault) -> Result<(), SinkFailed>
+    ensures whole { OnOk result (Appends
+        (E.contents err.old) (E.contents err.new) (line (fault_text fault))) }
+    ensures beginning { TakesBeginning
+        (E.contents err.old) (E.contents err.new) (line (fault_text fault)) }
+{
+    match fault_line(fault) {
+        Some(text) => write_text(err, text.as_str()),
+        None => Err(SinkFailed),
+    }
 }
 
 /// Writes all of a text, and flushes. After a fault a beginning of it was written.

@@ -1,13 +1,13 @@
 //! The program: runs one command, or reports why it failed.
 
-ghost use Rattle.std.specs.Prelude.{None, ◌≡◌, ◌≢◌, ◌≤◌, ◌⊎◌, IfOk, IfErr, OnOk, Err, Some};
-ghost use Rattle.std.specs.Io.KnownBytes.{Appends};
+ghost use Rattle.std.specs.Prelude.{None, ◌≡◌, ◌≢◌, ◌≤◌, ◌⊎◌, IfOk, IfErr, OnErr, OnOk, Err, Some};
 ghost use Rattle.command_line.specs.Requests.{Asked, asked, Check, Run, Race, Bounds, Decode};
 ghost use Rattle.grammar.specs.Tokens.{texts};
 ghost use Rattle.cheri_sim.specs.Answers.{number_given};
 ghost use Rattle.cheri_sim.specs.Faults.{fault_text, status_of};
 ghost use Rattle.cheri_sim.specs.Files.{AreBytesOf};
 ghost use Rattle.reports.specs.Report.{line};
+ghost use Rattle.reports.specs.Sinks.{TakesBeginning};
 ghost use Rattle.cheri_sim.specs.Program.{command_line, Fails, FailsAlone, FailsWith, IsAnswer};
 ghost use Rattle.cheri_sim.specs.Program.{IsBoundsAnswer, IsCheckAnswer, IsDecodeAnswer};
 ghost use Rattle.cheri_sim.specs.Printing.{Prints};
@@ -16,7 +16,7 @@ ghost use Rattle.cheri_sim.specs.Program.{IsQuiet, IsRaceAnswer, IsRunAnswer, Pr
 use crate::answers::{bounds_text, check_text, decode_text};
 use crate::faults::Fault;
 use crate::files::{FileFault, Files};
-use crate::printing::print;
+use crate::printing::{print, write_fault};
 use crate::races::print_race;
 use crate::runs::print_run;
 use cheri_model::{ADDRESS_SPACE, NoMemory};
@@ -24,7 +24,7 @@ use command_line::{ReportForm, Request, parse};
 use grammar::numerals::number_of;
 use listings::{LISTING_LIMIT, read_listing};
 use std::alloc::Global;
-use std::io::{self, Write};
+use std::io::Write;
 use std::sync::Wait;
 use std::thread::Threads;
 
@@ -133,6 +133,7 @@ fn race<F: Files, O: Write, E: Write, R: Threads + Wait + Sync>(
     ensures command { result ≢ Err Fault.Usage }
     ensures quiet { IsQuiet (Some (Race listing.now turns watch))
         (E.contents err.old) (E.contents err.new) }
+    ensures spared { OnErr result (E.contents err.new ≡ E.contents err.old) }
 {
     let text = read(files, listing, LISTING_READ, Fault::CannotReadListing)?;
     print_race(rt, alloc, text.as_slice(), turns, watch, out, err)
@@ -208,6 +209,7 @@ fn answer<F: Files, O: Write, E: Write, R: Threads + Wait + Sync>(
         → (result ≡ Err Fault.Usage) ⊎ (result ≡ Err Fault.NoMemory) }
     ensures quiet { IsQuiet (asked (command_line words.now))
         (E.contents err.old) (E.contents err.new) }
+    ensures spared { OnErr result (E.contents err.new ≡ E.contents err.old) }
 {
     let words = with_program_name(alloc, words)?;
     match parse(alloc, words.as_slice())? {
@@ -227,17 +229,11 @@ fn answer<F: Files, O: Write, E: Write, R: Threads + Wait + Sync>(
     }
 }
 
-/// Writes the line of a fault.
-fn write_fault<E: Write>(err: &mut E, fault: Fault) -> io::Result<()>
-    ensures { OnOk result (Appends
-        (E.contents err.old) (E.contents err.new) (line (fault_text fault))) }
-{
-    writeln!(err, "{fault}")
-}
-
 /// Reports a fault in one line, and gives its status, whether the line was taken or not.
 pub fn report_fault<E: Write>(err: &mut E, fault: Fault) -> u8
-    ensures { result ≡ status_of fault }
+    ensures status { result ≡ status_of fault }
+    ensures told { TakesBeginning (E.contents err.old) (E.contents err.new)
+        (line (fault_text fault)) }
 {
     let _ = write_fault(err, fault);
     fault.status()
@@ -264,9 +260,11 @@ pub fn perform<F: Files, O: Write, E: Write, R: Threads + Wait + Sync>(
     ensures quiet { result ≡ 0 → IsQuiet (asked (command_line words.now))
         (E.contents err.old) (E.contents err.new) }
 
-    // With any other status there is a fault that has this status, and what it says is so.
+    // With any other status there is a fault that has this status, what it says is so, and `err`
+    // got its line, or a beginning of it where a write failed.
     ensures failed { result ≢ 0 → FailsWith (F.bytes_of files.old)
-        (asked (command_line words.now)) result (O.contents out.old) (O.contents out.new) }
+        (asked (command_line words.now)) result (O.contents out.old) (O.contents out.new)
+        (E.contents err.old) (E.contents err.new) }
     ensures nothing { asked (command_line words.now) ≡ None → (result ≡ 2) ⊎ (result ≡ 3) }
 {
     match answer(rt, alloc, words, files, out, err) {

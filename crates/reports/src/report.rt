@@ -61,7 +61,7 @@ fn write_entry(out: &mut String, place: usize, entry: &Entry) -> Result<(), NoMe
     out.push_str(" hart=")?;
     out.push_str(number.format(entry.hart))?;
     out.push_str(" pc=")?;
-    write!(out, "{}", HexWord(entry.pc))?;
+    out.push_str(number.format(HexWord(entry.pc)))?;
     write_ending(out, entry.outcome)?;
     Ok(())
 }

@@ -1,7 +1,7 @@
 //! Races of a listing's harts.
 
 use crate::faults::Fault;
-use crate::program::tests::{FIRST, Folder, Full, answer, compare, owned};
+use crate::program::tests::{FIRST, Folder, Full, Unflushed, answer, compare, owned};
 use crate::program::{perform, report_fault};
 use std::str;
 use std::test::Fail;
@@ -83,8 +83,18 @@ fn refusals(rt: HostRuntime) -> Result<(), Fail> {
         &mut Full,
         &mut err,
     );
-    assert_eq!(rt; status, 3);
+    let mut other = Vec::new(alloc);
+    let unflushed = perform(
+        &rt,
+        alloc,
+        words.as_slice(),
+        &mut folder,
+        &mut Unflushed,
+        &mut other,
+    );
+    assert_eq!(rt; (status, unflushed), (3, 3));
     assert_eq!(rt; str::from_utf8(err.as_slice())?, "cannot write\n");
+    assert_eq!(rt; str::from_utf8(other.as_slice())?, "cannot write\n");
     Ok(())
 }
 

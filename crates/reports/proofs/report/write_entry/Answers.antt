@@ -6,7 +6,8 @@ pub returns : goal.returns
 unfolding entry_line ending
 returns c =
     let e = simp (
-      c.in_ok-write.ensures.bytes,
+      c.in_ok-push_str-5.ensures.bytes,
+      c.format-3.ensures.text,
       c.in_ok-push_str-4.ensures.bytes,
       c.in_ok-push_str-3.ensures.bytes,
       c.format-2.ensures.text,

@@ -1,0 +1,5 @@
+use Rattle.reports.proofs.SinkLemmas.{takes_none}
+use Rattle.cheri_sim.proofs.printing.write_fault.Goals as goal
+
+pub returns-in-None-clause-beginning : goal.returns-in-None-clause-beginning
+returns-in-None-clause-beginning g c = (_, takes_none _ _)
