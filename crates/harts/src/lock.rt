@@ -7,6 +7,10 @@ ghost use Rattle.machine.specs.Cores.{IsCore};
 use machine::{Machine, Naming, Watch, WatchFault};
 use std::marker::Model;
 use std::sync::{Mutex, MutexGuard, Wait};
+use std::thread;
+
+/// How often a thread asks for the lock, giving way to others in between, before it sleeps.
+const TRIES: u32 = 1_000;
 
 /// A machine under a lock. Contracts see its image. Each time that the lock is got, the machine is
 /// a core of that image: its state is the replay of its trace.
@@ -35,15 +39,31 @@ impl<J: Naming> Shared<J> {
         }
     }
 
-    /// Waits for the lock, and lends the machine until the guard is dropped.
+    /// Waits for the lock, and lends the machine until the guard is dropped. A step is far shorter
+    /// than it takes to send a thread to sleep and to wake it, so a thread asks a number of times
+    /// before it sleeps.
     pub fn lock<'a, R: Wait>(&'a self, rt: &R) -> MutexGuard<'a, Machine<J>>
         ensures image { (mutex_guard_value result).image ≡ self.now }
         ensures core { IsCore (mutex_guard_value result) }
     {
-        let guard = self.machine.lock(rt);
+        let guard = match self.try_often() {
+            Some(guard) => guard,
+            None => self.machine.lock(rt),
+        };
         // what the contracts of a core say of every core
         let _refusal = guard.core().refusal(0);
         guard
+    }
+
+    /// The lock, if it is free one of a number of times.
+    fn try_often(&self) -> Option<MutexGuard<'_, Machine<J>>> {
+        for _ in 0..TRIES {
+            if let Some(guard) = self.machine.try_lock() {
+                return Some(guard);
+            }
+            thread::yield_now();
+        }
+        None
     }
 
     /// Waits for the lock, and gives a watch of the machine, which needs it no more.
