@@ -32,8 +32,6 @@ impl<J: Naming> Shared<J> {
     pub fn new(machine: Machine<J>) -> Shared<J>
         ensures { result ≡ machine.image }
     {
-        // what the core's contract says of the image
-        let _core = machine.core();
         Shared {
             machine: Mutex::new(machine),
         }
