@@ -1,6 +1,7 @@
 -- What copies of a core keep, and what was seen of their order.
-use Rattle.std.proofs.Common.{◌≡◌, ◌≢◌, ℕ, ◌≤◌, Bool, true, false, not, List, [], ◌∷◌, ◌++◌, length, map, fold, refl, sym, ap, subst, ◌∙◌, arith, append_assoc, ⊎_elim, inl, inr, ◌+◌, ◌<◌, length-append}
+use Rattle.std.proofs.Common.{◌≡◌, ◌≢◌, ℕ, ◌≤◌, Bool, true, false, not, List, [], ◌∷◌, ◌++◌, length, map, fold, refl, sym, ap, subst, ◌∙◌, arith, append_assoc, ⊎_elim, inl, inr, ◌+◌, ◌-◌, ◌<◌, length-append, get_or}
 use Rattle.std.specs.Prelude.{None, Some, Option, ◌⊎◌, Result, Ok, Err, nat_lt, if◌then◌else◌}
+use Rattle.std.proofs.Math.Seq.{get_or-append_seam}
 use Rattle.std.proofs.lemmas.List.{append-nil, map-append, length-map}
 use mathlib.Core.List.{IsPrefix}
 use Rattle.cheri_model.specs.declared.trace.Entry.{Entry}
@@ -136,3 +137,12 @@ unfolding core_after
 after_some core after hart is =
     let count : length after.trace ≡ length (core.trace ++ entry_of core.image core.state (step_of hart) ∷ []) = ap (λ (k : CoreParts). length k.trace) is in
     omega (arith, count, length-append core.trace (entry_of core.image core.state (step_of hart) ∷ []))
+
+-- the newest of some entries stands at the last place
+pub read_newest : (entries before : List Entry) (newest other : Entry) → entries ≡ before ++ newest ∷ [] →
+    get_or entries (length entries - 1) other ≡ newest
+read_newest entries before newest other is =
+    let count : length entries ≡ length (before ++ newest ∷ []) = ap length is in
+    let place : length entries - 1 ≡ length before = omega (arith, count, length-append before (newest ∷ [])) in
+    ap (λ n. get_or entries n other) place
+    ∙ (ap (λ (es : List Entry). get_or es (length before) other) is ∙ get_or-append_seam before newest [] other)

@@ -1,5 +1,5 @@
 -- A step that is taken is counted for its hart, and a share's hart is one of the machine's.
-use Rattle.std.proofs.Common.{◌≡◌, sym, ap, length, ◌∙◌}
+use Rattle.std.proofs.Common.{◌≡◌, refl, sym, ap, length, ◌∙◌}
 use Rattle.std.specs.Prelude.{None}
 use Rattle.cheri_model.specs.Image.{ImageParts}
 use Rattle.cheri_model.specs.Machine.{step_of}
@@ -61,3 +61,12 @@ returns-clause-applied g c =
     sym (c.in-None.ensures.value ∙ (λ i. refused (c.core.ensures.core i) (step_of (c.hart-hart.ensures.hart i)))) in
     after ∙ (sym (applied_after c.self.inside.watched (Step hart) none)
     ∙ ap (λ (k : CoreParts). applied k (step_of hart)) c.self.view_is)
+
+pub returns-clause-counted : goal.returns-clause-counted
+returns-clause-counted g c = c.add.ensures.share
+
+pub returns-in-Some-clause-kept : goal.returns-in-Some-clause-kept
+returns-in-Some-clause-kept g c = (refl, refl)
+
+pub returns-in_default-clause-kept : goal.returns-in_default-clause-kept
+returns-in_default-clause-kept g c = (c.in_default.ensures.err ∙ c.self.view_is, refl)
