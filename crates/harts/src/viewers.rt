@@ -10,7 +10,7 @@ pub trait Viewer {
 
 /// Nobody looks on.
 #[derive(Drop)]
-pub struct Nobody;
+pub(crate) struct Nobody;
 
 impl Viewer for Nobody {
     fn view<J: Naming>(&mut self, watch: Watch<J>) -> Watch<J> {
@@ -20,14 +20,14 @@ impl Viewer for Nobody {
 
 /// A viewer, and the watch that it looks through, if one was given.
 #[derive(Drop)]
-pub struct Onlooker<'a, J: Naming, V: Viewer> {
-    pub viewer: &'a mut V,
-    pub watch: Option<Watch<J>>,
+pub(crate) struct Onlooker<'a, J: Naming, V: Viewer> {
+    pub(crate) viewer: &'a mut V,
+    pub(crate) watch: Option<Watch<J>>,
 }
 
 impl<J: Naming, V: Viewer> Onlooker<'_, J, V> {
     /// Has the viewer look on once, where a watch was given.
-    pub fn look_on(self) {
+    pub(crate) fn look_on(self) {
         let Onlooker { viewer, watch } = self;
         if let Some(watch) = watch {
             let _ended = viewer.view(watch);
