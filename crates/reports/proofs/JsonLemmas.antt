@@ -20,6 +20,13 @@ use Rattle.cheri_model.specs.Machine.{MachineState}
 use Rattle.reports.specs.ReportText.{hex_text}
 use Rattle.reports.specs.Json.{count, value_data, entry_data, outcome_data, put_listed, put_registers, status_data, hart_data, put_granules, image_data, json_report}
 
+-- a value was put under its name
+pub listed_put : (name key : List ℕ) (held : CapValue) (value : Data) (listed : Bool) (before after : Members)
+    → listed ≡ is_listed held → listed ≡ true → key ≡ name → value ≡ value_data held
+    → after ≡ put key value before → after ≡ put_listed name held before
+listed_put name key held value listed before after tested is_so same shown put_now =
+    rw (put_now, same, shown, ← tested, is_so) refl
+
 -- one register more
 pub register_put : (hart : HartState) (number which more count : ℕ) (before after all : Members)
     → more ≡ suc count → which ≡ number

@@ -19,10 +19,20 @@ takes_more before now after left rest text n rest_is so_far more = record {
 }
 
 -- all was taken
-pub takes_all : (before after : Option (List ℕ)) (text : List ℕ) → TakesAllBut before after [] text → Appends before after text
-takes_all before after text all =
-    let same : all.taken ≡ text = rw append-nil at all.parts in
+pub takes_all : (before after : Option (List ℕ)) (left text : List ℕ)
+    → left ≡ [] → TakesAllBut before after left text → Appends before after text
+takes_all before after left text none all =
+    let same : all.taken ≡ text = rw append-nil at (rw none at all.parts) in
     rw same at all.grown
+
+-- all that was kept was put
+pub puts_all : (before after : Option (List ℕ)) (still text put : List ℕ)
+    → still ≡ [] → put ≡ text → Appends before after put → TakesAllBut before after still text
+puts_all before after still text put none same more = record {
+  taken = put;
+  grown = more;
+  parts = rw (none, append-nil) same;
+}
 
 -- what is kept was put, up to what is still kept, and rest follows
 pub takes_then : (before now after : Option (List ℕ)) (kept rest left still text : List ℕ)

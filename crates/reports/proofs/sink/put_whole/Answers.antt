@@ -1,6 +1,6 @@
 use Rattle.std.proofs.Common.{arith}
 use Rattle.std.proofs.lemmas.Grind.{common_steps}
-use Rattle.reports.proofs.SinkLemmas.{takes_more}
+use Rattle.reports.proofs.SinkLemmas.{takes_more, takes_all}
 use Rattle.reports.proofs.sink.put_whole.Goals as goal
 
 pub loop-left-preserved : goal.loop-left-preserved
@@ -10,3 +10,6 @@ loop-left-preserved g c = record {
   failures = cc (c.in_ok-taken.ensures.count, c.loop-left.invariant.failures);
   place = cc (c.put.ensures.place, c.loop-left.invariant.place);
 }
+
+pub returns-clause-whole : goal.returns-clause-whole
+returns-clause-whole g c = takes_all _ _ _ _ (grind (arith, common_steps)) c.loop-left.invariant.taken

@@ -1,0 +1,8 @@
+use Rattle.std.proofs.Common.{arith}
+use Rattle.std.proofs.lemmas.Grind.{common_steps}
+use Rattle.texts.specs.Instructions.{form_text}
+use Rattle.texts.proofs.instructions.InstructionTextDisplay.fmt.Goals as goal
+
+pub returns-in-Two-clause-writes : goal.returns-in-Two-clause-writes
+unfolding form_text
+returns-in-Two-clause-writes g c = grind (arith, common_steps)
