@@ -1,0 +1,9 @@
+use Rattle.std.proofs.Common.{arith}
+use Rattle.std.proofs.lemmas.Grind.{common_steps}
+use Rattle.cap_ops.proofs.cap.Cap.high.Goals as goal
+
+pub returns-clause-value : goal.returns-clause-value
+returns-clause-value c = grind (arith, common_steps)
+
+pub returns-clause-parts : goal.returns-clause-parts
+returns-clause-parts c = grind (arith, common_steps)
