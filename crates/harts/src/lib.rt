@@ -14,6 +14,3 @@ pub use lock::Shared;
 pub use races::{run_harts, run_watched};
 pub use viewers::Viewer;
 pub use workers::{HartReport, Why, hart_loop};
-
-#[cfg(test)]
-mod tests;

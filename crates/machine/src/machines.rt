@@ -216,6 +216,3 @@ fn step_count(entries: &[Entry], hart: u8) -> u64
 {
     entries.iter().filter(|entry| entry.hart == hart).count() as u64
 }
-
-#[cfg(test)]
-mod tests;

@@ -31,6 +31,3 @@ pub fn run_order(
     }
     Ok((core, None))
 }
-
-#[cfg(test)]
-mod tests;

@@ -13,9 +13,6 @@ use crate::shown::Shown;
 use history::Seen;
 use std::marker::Model;
 
-#[cfg(test)]
-mod tests;
-
 /// What somebody has seen of a machine's trace. Contracts see that trace.
 #[derive(Drop)]
 pub struct Receipt<J: Naming> {

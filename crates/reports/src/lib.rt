@@ -12,6 +12,3 @@ pub use report::write_report;
 pub use sink::memory::MemSink;
 pub use sink::writer::ToWrite;
 pub use sink::{Sink, SinkFailed, put_whole};
-
-#[cfg(test)]
-mod tests;

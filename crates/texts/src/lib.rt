@@ -6,6 +6,3 @@ pub mod laws;
 mod writer;
 
 pub use writer::write_listing;
-
-#[cfg(test)]
-mod tests;

@@ -1,5 +1,0 @@
--- the machine's ledgers are the new ones, and its image is the booted core's
-use Rattle.harts.proofs.tests.run.Given as goal
-
-abbrev pub ghosts-looped : goal.ghosts-looped
-ghosts-looped g a = record { names = a.blanks; image = a.core.image }

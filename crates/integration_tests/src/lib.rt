@@ -1,0 +1,16 @@
+//! Tests of `texts`, `reports`, `machine` and `harts` by their public calls alone, as their users
+//! make them.
+#![tactic(auto)]
+
+#[cfg(test)]
+mod canonical;
+#[cfg(test)]
+mod machines;
+#[cfg(test)]
+mod races;
+#[cfg(test)]
+mod reporting;
+#[cfg(test)]
+mod runs;
+#[cfg(test)]
+mod watches;

@@ -1,0 +1,272 @@
+//! Races of real threads, and loops of one thread: harts that meet at a gate and swap one granule,
+//! gates that end each hart at each turn, full traces, and eight harts.
+
+ghost use Rattle.std.specs.Prelude.{◌≡◌};
+
+use cheri_model::{Image, Reg};
+use gates::{EndsAt, Meeting};
+use harts::{Gate, HartReport, RunFault, Shared, Why, hart_loop, run_harts};
+use listings::read_listing;
+use machine::{Blanks, BootFault, Core, Machine, Naming, StepFault, run_order};
+use std::alloc::Global;
+use std::marker::Brand;
+use std::process::Abort;
+use std::sync::Wait;
+use std::test::Fail;
+use std::thread::Threads;
+
+mod gates;
+mod viewers;
+mod watching;
+
+/// Two harts that swap a value of their own with the same granule: hart 0 the integer 1, hart 1 a
+/// capability.
+const SWAP: &[u8] = b".hart 0x10000000 16 0x10000000 execute+load\n\
+.set c5 cap 0x80000000 16 0x80000000 all\n.set c6 int 1\n\
+.hart 0x10000000 16 0x10000000 execute+load\n\
+.set c5 cap 0x80000000 16 0x80000000 all\n\
+.set c6 cap 0x80000000 16 0x80000000 global+load\n\
+amoswap.c c7, c6, c5\necall\n";
+
+/// The word of hart 1's capability.
+const CAPABILITY: u128 = 0x0005000004058004_0000000080000000;
+
+/// Eight harts that may each run two instructions.
+const EIGHT_HARTS: &[u8] = b".hart 0x10000000 16 0x10000000 execute\n\
+.hart 0x10000000 16 0x10000000 execute\n.hart 0x10000000 16 0x10000000 execute\n\
+.hart 0x10000000 16 0x10000000 execute\n.hart 0x10000000 16 0x10000000 execute\n\
+.hart 0x10000000 16 0x10000000 execute\n.hart 0x10000000 16 0x10000000 execute\n\
+.hart 0x10000000 16 0x10000000 execute\naddi c6, c0, 1\necall\n";
+
+/// Eight harts that never stop.
+const EIGHT_LOOPS: &[u8] = b".hart 0x10000000 16 0x10000000 execute\n\
+.hart 0x10000000 16 0x10000000 execute\n.hart 0x10000000 16 0x10000000 execute\n\
+.hart 0x10000000 16 0x10000000 execute\n.hart 0x10000000 16 0x10000000 execute\n\
+.hart 0x10000000 16 0x10000000 execute\n.hart 0x10000000 16 0x10000000 execute\n\
+.hart 0x10000000 16 0x10000000 execute\naddi c6, c6, 1\ncjal c0, @0\n";
+
+fn image_of(rt: &impl Abort, alloc: Global, listing: &[u8]) -> Image {
+    read_listing(alloc, listing).expect(rt, "the listing is good")
+}
+
+/// Whether harts run in threads of their own, or one after another in this thread.
+#[derive(Clone, Copy, PartialEq, Eq)]
+enum Runner {
+    Race,
+    Loops,
+}
+
+/// Runs the harts of a listing, and answers the core that they left and their reports.
+fn run<G: Gate + Sync, R: Abort + Threads + Wait + Sync>(
+    rt: &R,
+    alloc: Global,
+    runner: Runner,
+    listing: &[u8],
+    turns: u32,
+    limit: u32,
+    gate: &G,
+) -> (Core, Vec<HartReport>) {
+    let image = image_of(rt, alloc, listing);
+    match runner {
+        Runner::Race => run_harts(rt, alloc, image, turns, limit, gate).expect(rt, "it runs"),
+        Runner::Loops => {
+            let core = Core::boot(alloc, image, limit).expect(rt, "it boots");
+            looped::<Brand, G, R>(rt, alloc, core, turns, gate, Blanks::new())
+        }
+    }
+}
+
+/// Runs the loop of each hart of a core, one after another.
+fn looped<J: Naming, G: Gate, R: Abort + Wait>(
+    rt: &R,
+    alloc: Global,
+    core: Core,
+    turns: u32,
+    gate: &G,
+    blanks: Blanks,
+) -> (Core, Vec<HartReport>)
+    requires names { blanks ≡ J.names }
+    requires image { core.image ≡ J.image }
+{
+    let (machine, shares) = Machine::<J>::open(alloc, core, blanks).expect(rt, "it opens");
+    let shared = Shared::new(machine);
+    let mut reports = Vec::new(alloc);
+    let mut back = Vec::new(alloc);
+    for share in shares {
+        let (report, share) = hart_loop(rt, &shared, turns, gate, share);
+        reports.push(report).expect(rt, "there is memory");
+        back.push(share).expect(rt, "there is memory");
+    }
+    (shared.into_machine().close(rt, back), reports)
+}
+
+/// Compares a core with the run of its own trace's order on one thread.
+fn is_replayed(rt: &impl Abort, alloc: Global, core: &Core, listing: &[u8], limit: u32) {
+    let mut order = Vec::new(alloc);
+    for entry in core.view().entries {
+        order.push(entry.hart).expect(rt, "there is memory");
+    }
+    let image = image_of(rt, alloc, listing);
+    let ran = run_order(alloc, image, order.as_slice(), limit);
+    let (alone, refused) = ran.expect(rt, "it boots");
+    assert!(rt; refused.is_none());
+    assert!(rt; alone.view().entries == core.view().entries);
+    assert!(rt; alone.view().harts == core.view().harts);
+}
+
+/// Checks what two swaps leave, where this hart went first.
+fn is_swapped(rt: &impl Abort, core: &Core, first: u8) {
+    let view = core.view();
+    assert_eq!(rt; view.harts.len(), 2);
+    assert!(rt; view.ram.granule_count() > 0);
+    let zero = view.harts[0].register(Reg::new(7));
+    let one = view.harts[1].register(Reg::new(7));
+    let granule = view.ram.granule(0);
+    assert_eq!(rt; zero.tag(), first == 1);
+    assert_eq!(rt; zero.bits(), if first == 1 { CAPABILITY } else { 0 });
+    assert!(rt; !one.tag());
+    assert_eq!(rt; one.bits(), if first == 1 { 0 } else { 1 });
+    assert_eq!(rt; granule.tag(), first == 0);
+    assert_eq!(rt; granule.bits(), if first == 1 { 1 } else { CAPABILITY });
+}
+
+#[test]
+fn harts_meet_and_swap_both_ways_round(rt: HostRuntime) -> Result<(), Fail> {
+    for first in [0, 1] {
+        let gate = Meeting::new(first);
+        let (core, reports) = run(&rt, rt.alloc(), Runner::Race, SWAP, 2, 100, &gate);
+        assert!(rt; !gate.gave_up.is_set());
+        assert!(rt; gate.zero_came.is_set() && gate.one_came.is_set());
+        assert!(rt; gate.first_stepped.is_set() && gate.second_stepped.is_set());
+        let entries = core.view().entries;
+        assert_eq!(rt; entries.len(), 4);
+        assert_eq!(rt; entries[0].hart, first);
+        is_swapped(&rt, &core, first);
+        assert_eq!(rt; reports.len(), 2);
+        for report in reports {
+            assert_eq!(rt; report.steps, 2);
+            assert!(rt; report.why == Why::Stopped);
+        }
+    }
+    Ok(())
+}
+
+#[test]
+fn swaps_happen_in_the_order_of_the_trace(rt: HostRuntime) -> Result<(), Fail> {
+    for order in [[0, 1], [1, 0]] {
+        let image = image_of(&rt, rt.alloc(), SWAP);
+        let (core, _) = run_order(rt.alloc(), image, &order, 100).expect(&rt, "it boots");
+        is_swapped(&rt, &core, order[0]);
+    }
+    let (core, _) = run(&rt, rt.alloc(), Runner::Race, SWAP, 2, 100, &EndsAt(&[]));
+    let entries = core.view().entries;
+    assert_eq!(rt; entries.len(), 4);
+    is_swapped(&rt, &core, entries[0].hart);
+    Ok(())
+}
+
+#[test]
+fn harts_are_stopped_at_each_turn(rt: HostRuntime) -> Result<(), Fail> {
+    for runner in [Runner::Race, Runner::Loops] {
+        for zero in 0..3u32 {
+            for one in 0..3u32 {
+                let ends = [zero, one];
+                let (core, reports) = run(&rt, rt.alloc(), runner, SWAP, 3, 100, &EndsAt(&ends));
+                is_replayed(&rt, rt.alloc(), &core, SWAP, 100);
+                assert_eq!(rt; reports.len(), 2);
+                for (report, end) in reports.iter().zip(&ends) {
+                    assert_eq!(rt; report.steps, *end);
+                    let why = if *end < 2 { Why::Gate } else { Why::Stopped };
+                    assert!(rt; report.why == why);
+                }
+            }
+        }
+    }
+    Ok(())
+}
+
+#[test]
+fn full_traces_refuse(rt: HostRuntime) -> Result<(), Fail> {
+    for runner in [Runner::Race, Runner::Loops] {
+        for (limit, most, fewest) in [(3, 2, 1), (1, 1, 0)] {
+            let (core, reports) = run(&rt, rt.alloc(), runner, SWAP, 3, limit, &EndsAt(&[]));
+            is_replayed(&rt, rt.alloc(), &core, SWAP, limit);
+            assert_eq!(rt; core.view().entries.len(), limit as usize);
+            assert_eq!(rt; reports.len(), 2);
+            let (a, b) = (reports[0], reports[1]);
+            let (more, fewer) = if a.steps > b.steps { (a, b) } else { (b, a) };
+            assert_eq!(rt; more.steps, most);
+            assert_eq!(rt; fewer.steps, fewest);
+            assert!(rt; fewer.why == Why::Refused(StepFault::TraceFull));
+            assert!(rt; limit == 3 || more.why == Why::Refused(StepFault::TraceFull));
+            assert!(rt; limit == 1 || more.why == Why::Stopped);
+        }
+    }
+    Ok(())
+}
+
+#[test]
+fn limits_are_refused(rt: HostRuntime) -> Result<(), Fail> {
+    for limit in [0, 100_001] {
+        let image = image_of(&rt, rt.alloc(), SWAP);
+        let ran = run_harts(&rt, rt.alloc(), image, 3, limit, &EndsAt(&[]));
+        let fault = ran.err().ok_or("the limit is refused")?;
+        assert!(rt; fault == RunFault::Boot(BootFault::Limit));
+        assert_eq!(rt; fault.number(), 1);
+    }
+    Ok(())
+}
+
+#[test]
+fn eight_harts_are_counted(rt: HostRuntime) -> Result<(), Fail> {
+    let ends = [0, 1, 2, 0, 1, 2, 0, 1];
+    for runner in [Runner::Race, Runner::Loops] {
+        let gate = EndsAt(&ends);
+        let (core, reports) = run(&rt, rt.alloc(), runner, EIGHT_HARTS, 3, 100, &gate);
+        is_replayed(&rt, rt.alloc(), &core, EIGHT_HARTS, 100);
+        assert_eq!(rt; core.view().entries.len(), 7);
+        assert_eq!(rt; reports.len(), 8);
+        for (report, steps) in reports.iter().zip(&ends) {
+            assert_eq!(rt; report.steps, *steps);
+        }
+    }
+    Ok(())
+}
+
+#[test]
+fn a_hundred_thousand_steps_are_replayed(rt: HostRuntime) -> Result<(), Fail> {
+    let gate = EndsAt(&[]);
+    let (core, reports) = run(
+        &rt,
+        rt.alloc(),
+        Runner::Race,
+        EIGHT_LOOPS,
+        12_500,
+        100_000,
+        &gate,
+    );
+    is_replayed(&rt, rt.alloc(), &core, EIGHT_LOOPS, 100_000);
+    assert_eq!(rt; core.view().entries.len(), 100_000);
+    assert_eq!(rt; reports.len(), 8);
+    for report in reports {
+        assert_eq!(rt; report.steps, 12_500);
+        assert!(rt; report.why == Why::Turns);
+    }
+    Ok(())
+}
+
+#[test]
+fn refused_memory_is_reported(rt: HostRuntime) -> Result<(), Fail> {
+    let Ok(image) = read_listing(rt.alloc(), SWAP) else {
+        return Ok(());
+    };
+    match run_harts(&rt, rt.alloc(), image, 2, 100, &EndsAt(&[])) {
+        Ok((core, reports)) => {
+            assert_eq!(rt; core.view().entries.len(), 4);
+            assert_eq!(rt; reports.len(), 2);
+        }
+        Err(RunFault::Boot(fault)) => assert!(rt; fault == BootFault::NoMemory),
+        Err(fault) => assert!(rt; fault == RunFault::Spawn || fault == RunFault::NoMemory),
+    }
+    Ok(())
+}

@@ -1,0 +1,181 @@
+//! Viewers of the tests: one that compares its looks, one that a gate waits for, and one that keeps
+//! a look.
+
+use super::gates::Flag;
+use cheri_model::Entry;
+use harts::{Gate, Turn, Viewer};
+use machine::{Look, Naming, Watch};
+use std::alloc::Global;
+use std::thread;
+
+/// How often a viewer looks before it gives up.
+const LOOKS: u32 = 1_000_000;
+
+/// How often a viewer yields while it keeps a look.
+const YIELDS: u32 = 1_000;
+
+/// A look of a watch, tried again while there is none.
+pub(super) fn look_of<J: Naming>(watch: Watch<J>) -> Result<Look<J>, Watch<J>> {
+    let mut watch = watch;
+    for _ in 0..LOOKS {
+        match watch.look() {
+            Ok(look) => return Ok(look),
+            Err(back) => watch = back,
+        }
+        thread::yield_now();
+    }
+    Err(watch)
+}
+
+/// A viewer that looks until it sees a whole race, and compares each look with the one before.
+#[derive(Drop)]
+pub(super) struct Follower {
+    whole: usize,
+    seen: Vec<Entry>,
+    pub(super) was_called: bool,
+    pub(super) saw_all: bool,
+    pub(super) went_back: bool,
+    pub(super) had_no_memory: bool,
+}
+
+impl Follower {
+    /// A viewer of a race that ends with this many entries.
+    pub(super) fn new(alloc: Global, whole: usize) -> Follower {
+        Follower {
+            whole,
+            seen: Vec::new(alloc),
+            was_called: false,
+            saw_all: false,
+            went_back: false,
+            had_no_memory: false,
+        }
+    }
+
+    /// Keeps the entries of a look, which begin with those of the look before.
+    fn follow(&mut self, entries: &[Entry]) {
+        if !entries.starts_with(self.seen.as_slice()) {
+            self.went_back = true;
+        }
+        self.seen.clear();
+        if self.seen.extend_from_slice(entries).is_err() {
+            self.had_no_memory = true;
+        }
+        self.saw_all = entries.len() == self.whole;
+    }
+}
+
+impl Viewer for Follower {
+    fn view<J: Naming>(&mut self, watch: Watch<J>) -> Watch<J> {
+        self.was_called = true;
+        let mut watch = watch;
+        for _ in 0..LOOKS {
+            match watch.look() {
+                Ok(look) => {
+                    self.follow(look.core().view().entries);
+                    watch = look.end();
+                }
+                Err(back) => watch = back,
+            }
+            if self.saw_all {
+                return watch;
+            }
+            thread::yield_now();
+        }
+        watch
+    }
+}
+
+/// A gate at which each hart waits before its second turn until a viewer has seen a step.
+#[derive(Drop)]
+pub(super) struct Viewed {
+    pub(super) step_seen: Flag,
+    pub(super) gave_up: Flag,
+}
+
+impl Viewed {
+    pub(super) fn new() -> Viewed {
+        Viewed {
+            step_seen: Flag::new(),
+            gave_up: Flag::new(),
+        }
+    }
+}
+
+impl Gate for Viewed {
+    fn before(&self, _hart: u8, turn: u32) -> Turn {
+        if turn == 1 && !self.step_seen.comes() {
+            self.gave_up.set();
+            return Turn::End;
+        }
+        Turn::Go
+    }
+
+    fn after(&self, _hart: u8, _turn: u32) {}
+}
+
+/// A viewer that looks until it sees a step, and tells the gate.
+#[derive(Drop)]
+pub(super) struct Spotter<'a> {
+    pub(super) gate: &'a Viewed,
+    pub(super) was_called: bool,
+}
+
+impl Viewer for Spotter<'_> {
+    fn view<J: Naming>(&mut self, watch: Watch<J>) -> Watch<J> {
+        self.was_called = true;
+        let mut watch = watch;
+        for _ in 0..LOOKS {
+            match watch.look() {
+                Ok(look) => {
+                    let is_seen = !look.core().view().entries.is_empty();
+                    watch = look.end();
+                    if is_seen {
+                        self.gate.step_seen.set();
+                        return watch;
+                    }
+                }
+                Err(back) => watch = back,
+            }
+            thread::yield_now();
+        }
+        self.gate.gave_up.set();
+        watch
+    }
+}
+
+/// A viewer that keeps one look for a while, and compares what it shows before and after.
+#[derive(Drop)]
+pub(super) struct Keeper {
+    seen: Vec<Entry>,
+    pub(super) was_called: bool,
+    pub(super) was_kept: bool,
+    pub(super) has_changed: bool,
+}
+
+impl Keeper {
+    pub(super) fn new(alloc: Global) -> Keeper {
+        Keeper {
+            seen: Vec::new(alloc),
+            was_called: false,
+            was_kept: false,
+            has_changed: false,
+        }
+    }
+}
+
+impl Viewer for Keeper {
+    fn view<J: Naming>(&mut self, watch: Watch<J>) -> Watch<J> {
+        self.was_called = true;
+        let look = match look_of(watch) {
+            Ok(look) => look,
+            Err(watch) => return watch,
+        };
+        let entries = look.core().view().entries;
+        self.was_kept = self.seen.extend_from_slice(entries).is_ok();
+        for _ in 0..YIELDS {
+            thread::yield_now();
+        }
+        self.has_changed = look.core().view().entries != self.seen.as_slice();
+        look.end()
+    }
+}

@@ -1,5 +1,0 @@
--- the machine's ledgers are the new ones, and its image is the core's
-use Rattle.machine.proofs.machines.tests.refused_memory_is_reported.Given as goal
-
-abbrev pub ghosts-stepped : goal.ghosts-stepped
-ghosts-stepped g a = record { names = a.blanks; image = a.core.image }
