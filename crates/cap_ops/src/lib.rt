@@ -17,6 +17,3 @@ mod sealing;
 
 pub use cap::Cap;
 pub use making::MakeFault;
-
-#[cfg(test)]
-mod tests;

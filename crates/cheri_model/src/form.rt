@@ -162,7 +162,7 @@ pub enum Form {
 impl ThreeOp {
     /// The instruction of this name with these operands.
     #[tactic(auto, unfolding(crate::specs::Form::three_instr))]
-    pub fn instr(self, cd: Reg, c1: Reg, c2: Reg) -> Instr
+    fn instr(self, cd: Reg, c1: Reg, c2: Reg) -> Instr
         ensures { result ≡ three_instr self cd c1 c2 }
     {
         match self {
@@ -199,7 +199,7 @@ impl ThreeOp {
 impl TwoOp {
     /// The instruction of this name with these operands.
     #[tactic(auto, unfolding(crate::specs::Form::two_instr))]
-    pub fn instr(self, cd: Reg, c1: Reg) -> Instr
+    fn instr(self, cd: Reg, c1: Reg) -> Instr
         ensures { result ≡ two_instr self cd c1 }
     {
         match self {
@@ -225,7 +225,7 @@ impl TwoOp {
 impl ImmediateOp {
     /// The instruction of this name with these operands.
     #[tactic(auto, unfolding(crate::specs::Form::immediate_instr))]
-    pub fn instr(self, cd: Reg, c1: Reg, imm: i16) -> Instr
+    fn instr(self, cd: Reg, c1: Reg, imm: i16) -> Instr
         ensures { result ≡ immediate_instr self cd c1 imm }
     {
         match self {
@@ -244,7 +244,7 @@ impl ImmediateOp {
 impl ShiftOp {
     /// The instruction of this name with these operands.
     #[tactic(auto, unfolding(crate::specs::Form::shift_instr))]
-    pub fn instr(self, cd: Reg, c1: Reg, amount: u8) -> Instr
+    fn instr(self, cd: Reg, c1: Reg, amount: u8) -> Instr
         ensures { result ≡ shift_instr self cd c1 amount }
     {
         match self {
@@ -258,7 +258,7 @@ impl ShiftOp {
 impl WordShiftOp {
     /// The instruction of this name with these operands.
     #[tactic(auto, unfolding(crate::specs::Form::word_shift_instr))]
-    pub fn instr(self, cd: Reg, c1: Reg, amount: u8) -> Instr
+    fn instr(self, cd: Reg, c1: Reg, amount: u8) -> Instr
         ensures { result ≡ word_shift_instr self cd c1 amount }
     {
         match self {
@@ -272,7 +272,7 @@ impl WordShiftOp {
 impl UpperOp {
     /// The instruction of this name with these operands.
     #[tactic(auto, unfolding(crate::specs::Form::upper_instr))]
-    pub fn instr(self, cd: Reg, imm: u32) -> Instr
+    fn instr(self, cd: Reg, imm: u32) -> Instr
         ensures { result ≡ upper_instr self cd imm }
     {
         match self {
@@ -285,7 +285,7 @@ impl UpperOp {
 impl LoadOp {
     /// The instruction of this name with these operands.
     #[tactic(auto, unfolding(crate::specs::Form::load_instr))]
-    pub fn instr(self, cd: Reg, c1: Reg, imm: i16) -> Instr
+    fn instr(self, cd: Reg, c1: Reg, imm: i16) -> Instr
         ensures { result ≡ load_instr self cd c1 imm }
     {
         match self {
@@ -305,7 +305,7 @@ impl LoadOp {
 impl StoreOp {
     /// The instruction of this name with these operands.
     #[tactic(auto, unfolding(crate::specs::Form::store_instr))]
-    pub fn instr(self, c2: Reg, c1: Reg, imm: i16) -> Instr
+    fn instr(self, c2: Reg, c1: Reg, imm: i16) -> Instr
         ensures { result ≡ store_instr self c2 c1 imm }
     {
         match self {
@@ -321,7 +321,7 @@ impl StoreOp {
 impl BranchOp {
     /// The instruction of this name with these operands.
     #[tactic(auto, unfolding(crate::specs::Form::branch_instr))]
-    pub fn instr(self, c1: Reg, c2: Reg, target: Target) -> Instr
+    fn instr(self, c1: Reg, c2: Reg, target: Target) -> Instr
         ensures { result ≡ branch_instr self c1 c2 target }
     {
         match self {

@@ -204,6 +204,3 @@ impl Image {
         })
     }
 }
-
-#[cfg(test)]
-mod tests;

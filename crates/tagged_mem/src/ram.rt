@@ -191,6 +191,3 @@ impl Ram {
         old
     }
 }
-
-#[cfg(test)]
-mod tests;

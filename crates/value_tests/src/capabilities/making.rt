@@ -1,7 +1,7 @@
 //! Making capabilities from their parts.
 
 use super::*;
-use crate::making::MakeFault;
+use cap_ops::MakeFault;
 use cheri_model::OType;
 
 /// Base, length, address, object type, and the upper half or why there is none.

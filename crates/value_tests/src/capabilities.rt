@@ -1,8 +1,8 @@
 //! Worked values: the words and tags of results, and what is read off a value. Each expected word
 //! was computed by a model that follows the definitions over whole numbers.
 
-use crate::cap::Cap;
 use bitflags::Flags;
+use cap_ops::Cap;
 use cheri_model::Perms;
 use std::process::Abort;
 

@@ -1,6 +1,7 @@
 //! The limits of an image's sizes, and how its granules are listed, at each limit and past it.
 
-use super::*;
+use cheri_model::{HartImage, Image, Instr, NoMemory, Value};
+use std::alloc::Global;
 use std::test::Fail;
 
 fn repeated<T: Copy>(alloc: Global, item: T, count: usize) -> Result<Vec<T>, NoMemory> {

@@ -1,9 +1,10 @@
 //! Expected values are those of a plain list of bytes, the least significant first.
 
-use super::*;
-use cheri_model::Perms;
+use cap_ops::Cap;
+use cheri_model::{Perms, Width};
 use std::process::Abort;
 use std::test::Fail;
+use tagged_mem::{MemFault, Ram};
 
 const WIDTHS: [Width; 4] = [Width::Byte, Width::Half, Width::Word, Width::Double];
 

@@ -1,0 +1,10 @@
+//! Tests of `cheri_model`, `cap_ops` and `tagged_mem` by their public calls alone, as their users
+//! make them.
+#![tactic(auto)]
+
+#[cfg(test)]
+mod capabilities;
+#[cfg(test)]
+mod images;
+#[cfg(test)]
+mod memory;
