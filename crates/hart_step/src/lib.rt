@@ -15,6 +15,3 @@ pub use cheri_model::Access;
 pub use execute::step;
 pub use hart::Hart;
 pub use view::View;
-
-#[cfg(test)]
-mod tests;

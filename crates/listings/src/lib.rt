@@ -9,6 +9,3 @@ mod statement;
 
 pub use fault::ListingFault;
 pub use reader::{LISTING_LIMIT, read_listing};
-
-#[cfg(test)]
-mod tests;

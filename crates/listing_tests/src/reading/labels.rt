@@ -1,7 +1,7 @@
 //! Labels, and the targets of jumps.
 
-use crate::read_listing;
-use crate::tests::{HART, all_read, first_refused, joined, second_refused};
+use listings::read_listing;
+use crate::reading::{HART, all_read, first_refused, joined, second_refused};
 use cheri_model::{Instr, Reg, Target};
 use grammar::fault::ListingFaultKind;
 use std::test::Fail;

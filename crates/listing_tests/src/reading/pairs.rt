@@ -1,7 +1,7 @@
 //! Lines of which two kinds of fault hold: the lesser is reported. Of no line hold Word and a later
 //! kind, Range and Label, Label and a later one but Size, Twice and NoHart, or NoHart and Size.
 
-use crate::tests::{Answer, HART, answer_of, each_gives, first_refused, joined, second_refused};
+use crate::reading::{Answer, HART, answer_of, each_gives, first_refused, joined, second_refused};
 use grammar::fault::ListingFaultKind;
 use std::test::Fail;
 

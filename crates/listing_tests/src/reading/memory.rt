@@ -1,7 +1,7 @@
 //! RAM: its size, bytes and capabilities in it.
 
-use crate::read_listing;
-use crate::tests::{Answer, HART, answer_of, each_gives, first_refused, joined, second_refused};
+use listings::read_listing;
+use crate::reading::{Answer, HART, answer_of, each_gives, first_refused, joined, second_refused};
 use grammar::fault::ListingFaultKind;
 use std::alloc::Global;
 use std::process::Abort;

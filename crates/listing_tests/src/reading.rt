@@ -8,7 +8,7 @@ mod pairs;
 mod registers;
 mod whole;
 
-use crate::read_listing;
+use listings::read_listing;
 use grammar::fault::ListingFaultKind;
 use std::alloc::Global;
 use std::process::Abort;

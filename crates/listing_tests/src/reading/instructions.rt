@@ -1,6 +1,6 @@
 //! The operands of instructions.
 
-use crate::tests::{all_read, first_refused};
+use crate::reading::{all_read, first_refused};
 use grammar::fault::ListingFaultKind;
 use std::test::Fail;
 

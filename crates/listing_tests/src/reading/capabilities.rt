@@ -1,6 +1,6 @@
 //! Capabilities of listings, of which harts, registers and memory have the same.
 
-use crate::tests::{Answer, HART, all_read, each_gives, first_refused};
+use crate::reading::{Answer, HART, all_read, each_gives, first_refused};
 use grammar::fault::ListingFaultKind;
 use std::test::Fail;
 

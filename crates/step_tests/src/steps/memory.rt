@@ -1,7 +1,7 @@
 //! The checks of accesses, and what loads and stores leave.
 
 use super::*;
-use crate::{Access, access_check};
+use hart_step::{Access, access_check};
 use cheri_model::Width;
 
 /// The cause of a trap of a check, or 0 where it passes.

@@ -1,7 +1,7 @@
 //! Registers of harts.
 
-use crate::read_listing;
-use crate::tests::{Answer, HART, all_read, each_gives, first_refused, joined, second_refused};
+use listings::read_listing;
+use crate::reading::{Answer, HART, all_read, each_gives, first_refused, joined, second_refused};
 use grammar::fault::ListingFaultKind;
 use std::test::Fail;
 
