@@ -8,8 +8,8 @@ mod pairs;
 mod registers;
 mod whole;
 
-use listings::read_listing;
 use grammar::fault::ListingFaultKind;
+use listings::read_listing;
 use std::alloc::Global;
 use std::process::Abort;
 use std::test::Fail;

@@ -1,10 +1,10 @@
 //! Rows of one step: an instruction, the registers and the memory before it, and what it leaves.
 //! The expected values were computed by a model that follows the definitions over whole numbers.
 
-use hart_step::{Hart, step};
 use bitflags::Flags;
 use cap_ops::Cap;
 use cheri_model::{HartImage, Instr, Outcome, Perms, Reg, Status, Trap, Value};
+use hart_step::{Hart, step};
 use std::alloc::Global;
 use std::process::Abort;
 use tagged_mem::Ram;

@@ -1,9 +1,9 @@
 //! Labels, and the targets of jumps.
 
-use listings::read_listing;
 use crate::reading::{HART, all_read, first_refused, joined, second_refused};
 use cheri_model::{Instr, Reg, Target};
 use grammar::fault::ListingFaultKind;
+use listings::read_listing;
 use std::test::Fail;
 
 #[test]

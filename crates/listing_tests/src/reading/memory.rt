@@ -1,8 +1,8 @@
 //! RAM: its size, bytes and capabilities in it.
 
-use listings::read_listing;
 use crate::reading::{Answer, HART, answer_of, each_gives, first_refused, joined, second_refused};
 use grammar::fault::ListingFaultKind;
+use listings::read_listing;
 use std::alloc::Global;
 use std::process::Abort;
 use std::test::Fail;

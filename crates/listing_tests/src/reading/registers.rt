@@ -1,8 +1,8 @@
 //! Registers of harts.
 
-use listings::read_listing;
 use crate::reading::{Answer, HART, all_read, each_gives, first_refused, joined, second_refused};
 use grammar::fault::ListingFaultKind;
+use listings::read_listing;
 use std::test::Fail;
 
 #[test]

@@ -1,8 +1,8 @@
 //! The whole of a listing: its lines, and how many of each there may be.
 
-use listings::read_listing;
 use crate::reading::{Answer, HART, all_read, answer_of, each_gives, first_refused};
 use grammar::fault::ListingFaultKind;
+use listings::read_listing;
 use std::alloc::Global;
 use std::test::Fail;
 

@@ -1,8 +1,8 @@
 //! The checks of accesses, and what loads and stores leave.
 
 use super::*;
-use hart_step::{Access, access_check};
 use cheri_model::Width;
+use hart_step::{Access, access_check};
 
 /// The cause of a trap of a check, or 0 where it passes.
 fn cause(checked: Result<(), Trap>) -> u8 {
