@@ -2,13 +2,12 @@ use Rattle.std.proofs.Common.{arith}
 use Rattle.std.proofs.lemmas.Grind.{common_steps}
 use Rattle.cheri_model.specs.Actions.{action}
 use Rattle.cheri_model.specs.Form.{three_instr}
-use Rattle.hart_step.specs.Actions.{asks}
 use Rattle.hart_step.proofs.actions.registers.three_action.Goals as goal
 
 pub returns-in-Slt : goal.returns-in-Slt
-unfolding asks action three_instr
+unfolding action three_instr
 returns-in-Slt c = grind (arith, common_steps)
 
 pub returns-in-Sltu : goal.returns-in-Sltu
-unfolding asks action three_instr
+unfolding action three_instr
 returns-in-Sltu c = grind (arith, common_steps)
