@@ -41,7 +41,7 @@ impl Cap {
     }
 
     /// The unsealed capability of just the `len` addresses from `base` on, with this address and
-    /// these permissions.
+    /// these permissions. Where there is none the fault is the first that applies, by number.
     pub fn make(base: u64, len: u128, addr: u64, perms: Perms) -> Result<Cap, MakeFault>
         ensures { result ≡ made base len addr perms.0 unsealed_type }
     {
@@ -49,7 +49,7 @@ impl Cap {
     }
 
     /// The same, sealed with an object type: a sealable one, or sentry. With the unsealed type this
-    /// is `make`.
+    /// is `make`, and the faults are the same.
     pub fn make_sealed(
         base: u64,
         len: u128,

@@ -127,7 +127,7 @@ impl Cap {
     }
 
     /// Whether this has the permission with this number: 0 to 11, or 15 to 18 for one left to
-    /// software.
+    /// software. Nothing has 12 to 14.
     pub fn has_permission(self, number: u32) -> bool
         requires { number < 19 }
         ensures { result ≡ has_permission self number }

@@ -1,6 +1,6 @@
--- The capability instructions on two registers, c1 and c2, with the value that each writes (CHERI ISA version 9,
--- chapter 7). An immediate form is the register form with the immediate, as an integer, in place of c2. The last is
--- no instruction by itself: it is the unsealing that a jump does.
+-- The capability instructions on two registers, c1 and c2, with the value that each writes (CHERI ISA version 9, the
+-- instructions' own pages). An immediate form is the register form with the immediate, as an integer, in place of c2.
+-- The last is no instruction by itself: it is the unsealing that a jump does.
 use Rattle.cheri_model.specs.CapValue.{CapValue}
 use Rattle.cheri_model.specs.Results.{address_of, moved, clear_tag, set_address, inc_offset, set_bounds, set_bounds_exact}
 use Rattle.cheri_model.specs.FieldResults.{and_perm, set_flags, set_high}

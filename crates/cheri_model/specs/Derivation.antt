@@ -1,4 +1,5 @@
--- Monotonicity of one instruction: what a tagged result is to its sources (CHERI ISA version 9, section 2.4).
+-- Monotonicity of one instruction: what a tagged result is to its sources (CHERI ISA version 9, "provenance and
+-- monotonicity").
 use Rattle.std.specs.Prelude.{◌≡◌, ◌⊎◌, true}
 use Rattle.cheri_model.specs.CapValue.{CapValue, tag_of, parts_of}
 use Rattle.cheri_model.specs.Results.{address_of}

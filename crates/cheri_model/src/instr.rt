@@ -11,14 +11,16 @@ use std::fmt::{Debug, Error, Formatter, Write};
 
 /// One instruction, named as the standard names it (CHERI ISA v9, "CHERI-RISC-V instructions";
 /// RISC-V unprivileged ISA, "RV64I"), with the destination `cd` and the sources `c1` and `c2`.
-/// Where a register is read as an integer its address counts.
+/// Where a register is read as an integer its address counts. A capability that is changed keeps
+/// its tag only where the instruction may make it from `c1`; the value is written in either case.
+/// Listings have immediates of 12 bits, of `lui` and `auipcc` of 20, and shift amounts below 64.
 #[derive(Clone, Copy)]
 pub enum Instr {
     /// `c1` with the address that is `c2`'s.
     CSetAddr { cd: Reg, c1: Reg, c2: Reg },
     /// `c1` with its address raised by `c2`'s, modulo 2^64.
     CIncOffset { cd: Reg, c1: Reg, c2: Reg },
-    /// `c1` with its bounds narrowed to its address and the length `c2`.
+    /// `c1` with its bounds narrowed to its address and the length `c2`, and rounded outwards.
     CSetBounds { cd: Reg, c1: Reg, c2: Reg },
     /// As `CSetBounds`, without a tag where the bounds would be rounded.
     CSetBoundsExact { cd: Reg, c1: Reg, c2: Reg },
@@ -30,7 +32,8 @@ pub enum Instr {
     CSetHigh { cd: Reg, c1: Reg, c2: Reg },
     /// `c1` sealed with the object type that is the address of the authority `c2`.
     CSeal { cd: Reg, c1: Reg, c2: Reg },
-    /// `c1` unsealed by the authority `c2`, whose address is the object type.
+    /// `c1` unsealed by the authority `c2`, whose address is the object type; Global only where
+    /// both have it.
     CUnseal { cd: Reg, c1: Reg, c2: Reg },
     /// 1 where `c2`'s bounds and permissions lie in `c1`'s and the tags are equal, else 0.
     CTestSubset { cd: Reg, c1: Reg, c2: Reg },
@@ -92,7 +95,8 @@ pub enum Instr {
     CGetAddr { cd: Reg, c1: Reg },
     /// The upper half of `c1`'s word.
     CGetHigh { cd: Reg, c1: Reg },
-    /// The least length, from `c1`'s address on, that bounds at an aligned base can have.
+    /// The least length, from `c1`'s address on, that bounds at an aligned base can have, modulo
+    /// 2^64.
     Crrl { cd: Reg, c1: Reg },
     /// The mask that aligns a base for the length `c1`'s address.
     Cram { cd: Reg, c1: Reg },
@@ -125,7 +129,7 @@ pub enum Instr {
     Srliw { cd: Reg, c1: Reg, amount: u8 },
     /// As `Srliw`, and the sign of the 32 bits fills the high ones.
     Sraiw { cd: Reg, c1: Reg, amount: u8 },
-    /// `c1` with its bounds narrowed to its address and the length `len`.
+    /// `c1` with its bounds narrowed to its address and the length `len`, and rounded outwards.
     CSetBoundsImm { cd: Reg, c1: Reg, len: u16 },
     /// The immediate times 2^12, modulo 2^32, sign-extended from 32 bits.
     Lui { cd: Reg, imm: u32 },
@@ -145,9 +149,10 @@ pub enum Instr {
     Lwu { cd: Reg, c1: Reg, imm: i16 },
     /// Eight bytes.
     Ld { cd: Reg, c1: Reg, imm: i16 },
-    /// A capability with its tag.
+    /// A granule's value, with its tag only where `c1` has Load_Capability.
     Lc { cd: Reg, c1: Reg, imm: i16 },
-    /// Jumps through `c1` with the immediate added to its address, and leaves a link in `cd`.
+    /// Jumps through `c1`, unsealed where it is a sentry, to its address plus the immediate with
+    /// bit 0 cleared, and leaves a link in `cd`.
     CJalr { cd: Reg, c1: Reg, imm: i16 },
     /// Stores the low byte of `c2`'s address.
     Sb { c2: Reg, c1: Reg, imm: i16 },
@@ -159,7 +164,7 @@ pub enum Instr {
     Sd { c2: Reg, c1: Reg, imm: i16 },
     /// Stores the capability `c2` with its tag.
     Sc { c2: Reg, c1: Reg, imm: i16 },
-    /// Loads the granule at `c1`'s address into `cd` and stores `c2` there.
+    /// Loads the granule at `c1`'s address into `cd` as `Lc` does, and stores `c2` there.
     AmoSwapC { cd: Reg, c2: Reg, c1: Reg },
     /// Jumps where the addresses are equal.
     Beq { c1: Reg, c2: Reg, target: Target },
@@ -175,8 +180,8 @@ pub enum Instr {
     Bgeu { c1: Reg, c2: Reg, target: Target },
     /// Jumps, and leaves a link in `cd`.
     CJal { cd: Reg, target: Target },
-    /// Jumps through the sealed `c1`, and leaves the sealed `c2`, of the same type, unsealed in
-    /// c31.
+    /// Jumps through the sealed `c1`, unsealed and with bit 0 of its address cleared, and leaves
+    /// the sealed `c2`, of the same type, unsealed in c31.
     CInvoke { c1: Reg, c2: Reg },
     /// Halts the hart.
     Ecall,

@@ -37,7 +37,7 @@ pub fn check_text(alloc: Global, image: &Image) -> Result<String, NoMemory>
 }
 
 /// The line of the rounding of the `len` addresses from `base` on (CHERI Concentrate,
-/// "representable region"): the fields IE, E, T and B, the bounds, and whether they are the asked
+/// "encoding"): the fields IE, E, T and B, the bounds, and whether they are the asked
 /// range. Fails only when out of memory.
 #[tactic(auto, unfolding(crate::specs::Answers::bounds_line))]
 pub fn bounds_text(alloc: Global, base: u64, len: u128) -> Result<String, NoMemory>

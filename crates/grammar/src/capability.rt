@@ -38,7 +38,7 @@ pub struct CapParts {
     pub otype: LawfulType,
 }
 
-/// BASE, LEN, ADDR and PERMS, from the token at `place` on, by their shapes.
+/// BASE, LEN, ADDR and PERMS, from the token at `place` on, by their shapes. Fails with `Operand`.
 #[tactic(auto, unfolding(crate::specs::Capability::cap_operands_of))]
 pub fn cap_operands_of(
     tokens: &[&[u8]],
@@ -73,7 +73,7 @@ fn optional_type(tokens: &[&[u8]], place: usize) -> Result<TypeOperand, ListingF
 }
 
 /// BASE, LEN, ADDR, PERMS and perhaps TYPE, from the token at `place` to the last one, by their
-/// shapes.
+/// shapes. Fails with `Operand`.
 #[tactic(auto, unfolding(crate::specs::Capability::cap_tokens))]
 pub fn cap_tokens(tokens: &[&[u8]], place: usize) -> Result<CapOperands, ListingFaultKind>
     requires { place < 2 ^ 16 }
@@ -83,7 +83,7 @@ pub fn cap_tokens(tokens: &[&[u8]], place: usize) -> Result<CapOperands, Listing
     cap_operands_of(tokens, place, otype)
 }
 
-/// The operands of a capability in their ranges.
+/// The operands of a capability in their ranges. Fails with `Range`.
 #[tactic(auto, unfolding(crate::specs::Capability::cap_parts_of))]
 pub fn cap_parts_of(operands: CapOperands) -> Result<CapParts, ListingFaultKind>
     ensures { result ≡ cap_parts_of operands }

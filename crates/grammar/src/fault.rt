@@ -10,21 +10,24 @@ use std::fmt;
 pub enum ListingFaultKind {
     /// A byte of the line, its comment included, is neither a tab nor from 0x20 to 0x7E.
     NotAscii = 1,
-    /// The first word is no directive and no instruction.
+    /// The first token is no directive, no instruction and no label.
     Word,
-    /// The count of words is wrong, or a word does not have its operand's shape.
+    /// The count of tokens is wrong, or a token does not have its operand's shape.
     Operand,
-    /// A number is outside its range.
+    /// A number is outside its range, a `.bytes` line has too many bytes, or the bytes or the
+    /// granule of a line are not wholly in RAM.
     Range,
-    /// A name is malformed, or a target's name is not defined.
+    /// A label's name is malformed, or no line defines a target's name.
     Label,
-    /// A register of the hart was set before.
+    /// A line before this one defines the name or sets the register, or `.ram` comes after a line
+    /// that sizes or fills RAM.
     Twice,
     /// There is no such capability.
     Capability,
-    /// There is no hart.
+    /// A register is set before the first hart, or the listing has no hart.
     NoHart,
-    /// The listing, its harts or its instructions are too many, or there is no instruction.
+    /// The size of RAM is not allowed, the listing is too long, it has too many harts or
+    /// instructions, or it has no instruction.
     Size,
     /// Out of memory, which says nothing of the listing.
     NoMemory,

@@ -33,7 +33,7 @@ use cheri_model::form::{
     BranchOp, Form, ImmediateOp, LoadOp, ShiftOp, StoreOp, ThreeOp, TwoOp, UpperOp, WordShiftOp,
 };
 
-/// Refuses a line of more or fewer tokens.
+/// Refuses a line of more or fewer tokens with `Operand`.
 #[tactic(auto, using(crate::proofs::Names::count), unfolding(crate::specs::Forms::counted))]
 pub fn counted(count: usize, tokens: &[&[u8]]) -> Result<(), ListingFaultKind>
     ensures { result ≡ counted count (texts tokens.now) }

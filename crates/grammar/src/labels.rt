@@ -181,7 +181,7 @@ impl Places<'_> {
     }
 }
 
-/// The target that a token writes: `@` and decimal digits, or a label's name.
+/// The target that a token writes: `@` and decimal digits, or a label's name. Fails with `Operand`.
 #[tactic(auto, unfolding(crate::specs::Labels::target_operand_of))]
 pub fn target_operand_of(
     places: &Places<'_>,
@@ -200,6 +200,7 @@ pub fn target_operand_of(
 }
 
 /// The instruction that a target names. The place after the last instruction line may be named.
+/// Fails with `Range` past it, and with `Label` where no line defines the name.
 #[tactic(auto, unfolding(crate::specs::Labels::target_of))]
 pub fn target_of(places: &Places<'_>, operand: TargetOperand) -> Result<Target, ListingFaultKind>
     ensures { result ≡ target_of (shown places.now) operand }
@@ -214,7 +215,8 @@ pub fn target_of(places: &Places<'_>, operand: TargetOperand) -> Result<Target, 
     }
 }
 
-/// Refuses a name that is malformed, or that a line before this one defines.
+/// Refuses a name that is malformed with `Label`, and one that a line before this one defines with
+/// `Twice`.
 #[tactic(auto, unfolding(crate::specs::Labels::label_fault))]
 pub fn label_fault(places: &Places<'_>, number: usize, name: &[u8]) -> Result<(), ListingFaultKind>
     ensures { result ≡ label_fault (shown places.now) number name.now }

@@ -101,8 +101,8 @@ pub fn number_of_digits(base: u8, token: &[u8]) -> Result<Option<u128>, ListingF
     }
 }
 
-/// The number that a token writes, in decimal or after `0x` in hexadecimal; `None` from 2^128 on.
-/// Fails with `Operand` where the token is no number.
+/// The number that a token writes, in decimal or after `0x` in hexadecimal; `None` at or above
+/// 2^128. Fails with `Operand` where the token is no number.
 #[tactic(auto, unfolding(crate::specs::Numerals::number_of))]
 pub fn number_of(token: &[u8]) -> Result<Option<u128>, ListingFaultKind>
     ensures { result ≡ number_of token.now }
@@ -113,7 +113,7 @@ pub fn number_of(token: &[u8]) -> Result<Option<u128>, ListingFaultKind>
     }
 }
 
-/// A number in its range.
+/// A number from 0 to a limit. Fails with `Range`.
 pub fn at_most(limit: u128, number: Option<u128>) -> Result<u128, ListingFaultKind>
     ensures { result ≡ at_most limit number }
 {

@@ -90,7 +90,7 @@ fn register_numbered(number: u8) -> Result<Reg, ListingFaultKind>
     }
 }
 
-/// The register that a token names, `c0` to `c31` without leading zeros.
+/// The register that a token names, `c0` to `c31` without leading zeros. Fails with `Operand`.
 #[tactic(auto, unfolding(crate::specs::Operands::register_of))]
 pub fn register_of(token: &[u8]) -> Result<Reg, ListingFaultKind>
     ensures { result ≡ register_of token.now }
@@ -104,7 +104,7 @@ pub fn register_of(token: &[u8]) -> Result<Reg, ListingFaultKind>
     }
 }
 
-/// The immediate that a token writes.
+/// The immediate that a token writes. Fails with `Operand`.
 #[tactic(auto, unfolding(crate::specs::Operands::immediate_of))]
 pub fn immediate_of(token: &[u8]) -> Result<Immediate, ListingFaultKind>
     ensures { result ≡ immediate_of token.now }
@@ -121,7 +121,7 @@ pub fn immediate_of(token: &[u8]) -> Result<Immediate, ListingFaultKind>
     }
 }
 
-/// An immediate in the range of 12 bits, from -2,048 to 2,047.
+/// An immediate in the range of 12 bits, from -2,048 to 2,047. Fails with `Range`.
 #[tactic(auto, unfolding(crate::specs::Operands::immediate_of_12_bits))]
 pub fn immediate_of_12_bits(imm: Immediate) -> Result<i16, ListingFaultKind>
     ensures { result ≡ immediate_of_12_bits imm }
@@ -133,7 +133,7 @@ pub fn immediate_of_12_bits(imm: Immediate) -> Result<i16, ListingFaultKind>
     }
 }
 
-/// An immediate from 0 to a limit.
+/// An immediate from 0 to a limit. Fails with `Range`.
 #[tactic(auto, unfolding(crate::specs::Operands::immediate_up_to))]
 pub fn immediate_up_to(limit: u128, imm: Immediate) -> Result<u128, ListingFaultKind>
     ensures value { result ≡ immediate_up_to limit imm }
@@ -167,7 +167,8 @@ fn memory_operand_from(imm: Immediate, part: &[u8]) -> Result<MemoryOperand, Lis
     }
 }
 
-/// The memory operand that a token writes: an immediate and a register in brackets.
+/// The memory operand that a token writes: an immediate and a register in brackets. Fails with
+/// `Operand`.
 #[tactic(auto, using(crate::proofs::Names::bracket), unfolding(crate::proofs::Open::memory))]
 pub fn memory_operand_of(token: &[u8]) -> Result<MemoryOperand, ListingFaultKind>
     ensures { result ≡ memory_operand_of token.now }
@@ -180,7 +181,7 @@ pub fn memory_operand_of(token: &[u8]) -> Result<MemoryOperand, ListingFaultKind
     memory_operand_from(imm, part)
 }
 
-/// The object type that a token writes: `sentry` or a number.
+/// The object type that a token writes: `sentry` or a number. Fails with `Operand`.
 #[tactic(auto, unfolding(crate::specs::Operands::type_operand_of))]
 pub fn type_operand_of(token: &[u8]) -> Result<TypeOperand, ListingFaultKind>
     ensures { result ≡ type_operand_of token.now }
@@ -191,7 +192,8 @@ pub fn type_operand_of(token: &[u8]) -> Result<TypeOperand, ListingFaultKind>
     Ok(TypeOperand::Number(number_of(token)?))
 }
 
-/// An object type in its range: below the reserved types, or a sentry, or unsealed.
+/// An object type in its range: below the reserved types, or a sentry, or unsealed. Fails with
+/// `Range`.
 #[tactic(auto, using(crate::proofs::Names::lawful), unfolding(crate::proofs::Open::in_range))]
 pub fn type_in_range(operand: TypeOperand) -> Result<LawfulType, ListingFaultKind>
     ensures { result ≡ type_in_range operand }

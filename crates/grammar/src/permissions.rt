@@ -44,7 +44,8 @@ fn joined_permissions(token: &[u8]) -> Option<Perms>
         })
 }
 
-/// The permission set that a token writes: `all`, `none`, or names joined by `+`.
+/// The permission set that a token writes: `all`, `none`, or names joined by `+`. Fails with
+/// `Operand`.
 #[tactic(auto, unfolding(crate::proofs::Open::permissions))]
 pub fn permissions_of(token: &[u8]) -> Result<Perms, ListingFaultKind>
     ensures { result ≡ permissions_of token.now }

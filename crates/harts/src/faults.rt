@@ -8,11 +8,11 @@ use std::alloc::AllocError;
 /// Why a race has no result, tried in this order.
 #[derive(Clone, Copy, Debug, PartialEq, Eq)]
 pub enum RunFault {
-    /// The machine could not be booted.
+    /// The machine could not be booted: the limit is refused, or it was out of memory.
     Boot(BootFault),
     /// A worker could not be started. Those that were are joined.
     Spawn,
-    /// Out of memory.
+    /// Out of memory, after the machine was booted.
     NoMemory,
     /// The machine's stored image is not the one that was handed in.
     ImageDiffers,

@@ -64,7 +64,8 @@ impl<J: Naming> Shared<J> {
         None
     }
 
-    /// Waits for the lock, and gives a watch of the machine, which needs it no more.
+    /// Waits for the lock, and gives a watch of the machine, which needs it no more. Fails as
+    /// `Machine::watch` does.
     pub fn watch<R: Wait>(&self, rt: &R) -> Result<Watch<J>, WatchFault>
         ensures image { IfOk result (λ watch. watch.image ≡ self.now) }
     {

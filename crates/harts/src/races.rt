@@ -22,8 +22,9 @@ use std::thread::{Promise, Scope, Threads};
 /// them. Answers the core that they left and a report for each hart, in hart order, whose steps are
 /// the hart's entries in the core's trace. Fails with `Boot` and `Limit` exactly where the limit is
 /// not from 1 to 100,000; with `Spawn` where a worker could not be started, after those that were
-/// are joined; and with `NoMemory` when out of memory. The stored image is compared with the given
-/// one at the end.
+/// are joined; with `ImageDiffers` where the image that the machine stores at the end is not the
+/// given one; and when out of memory, with `Boot` and `NoMemory` while the machine is booted and
+/// with `NoMemory` after that.
 pub fn run_harts<G: Gate + Sync, R: Threads + Wait + Sync>(
     rt: &R,
     alloc: Global,

@@ -96,8 +96,9 @@ impl From<ReportFault> for SimFault {
 
 /// Runs the machine of a listing in an order, with a trace of at most `limit` entries, and writes
 /// its report. Answers the step that was refused, if one was, with its place in the order counted
-/// from 0. Nothing is written before both texts are good; the listing is judged first. After a
-/// fault of the report the sink took a beginning of it.
+/// from 0. Nothing is written before both texts are good; the listing is judged first, then the
+/// order, then the limit, which is from 1 to 100,000. After a fault of the report the sink took a
+/// beginning of it.
 pub fn simulate<S: Sink>(
     alloc: Global,
     listing: &[u8],

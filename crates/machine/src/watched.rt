@@ -96,8 +96,8 @@ impl<J: Naming> Watched<J> {
         }
     }
 
-    /// A watch of the machine, which has seen its trace of now. The first one needs memory for two
-    /// copies of the core.
+    /// A watch of the machine, which has seen its trace of now. Fails with `NoPlace` where no place
+    /// is free, and with `NoMemory` where the first one finds none for two copies of the core.
     pub fn watch(&mut self) -> Result<Watch<J>, WatchFault>
         ensures watch { IfOk result (λ watch. watch ≡ watch_of self.old.image self.old.trace) }
         ensures same { self.new ≡ self.old }

@@ -129,8 +129,9 @@ impl<J: Naming> Watch<J> {
     }
 
     /// Looks at the machine. The trace of the core that is shown begins with all that this watch
-    /// saw or learnt. With an error the watch comes back as it was. Takes no lock and no memory,
-    /// and waits for nobody.
+    /// saw or learnt. Where no copy can be read, or the one that is shown was not told its trace or
+    /// is older than what this watch knows, the watch comes back as it was. Takes no lock and no
+    /// memory, and waits for nobody.
     pub fn look(self) -> Result<Look<J>, Watch<J>>
         ensures image { IfOk result (λ look. look.image ≡ self.image) }
         ensures later { IfOk result (λ look. IsBeginning self.trace look.trace) }

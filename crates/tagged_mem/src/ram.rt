@@ -70,7 +70,9 @@ fn granule_number(addr: u64) -> usize
 }
 
 impl Ram {
-    /// RAM of this size in bytes, with an untagged 0 in every granule.
+    /// RAM of this size in bytes, with an untagged 0 in every granule. Fails with `Size` exactly
+    /// where the size is not a multiple of 16 from 16 to 1,048,576, and otherwise only when out of
+    /// memory.
     pub fn new(alloc: Global, bytes: u32) -> Result<Ram, MemFault>
         ensures cleared { IfOk result (λ ram. ram ≡ cleared_memory bytes) }
         ensures size { (result ≡ Err MemFault.Size) ↔ (is_ram_size bytes ≡ false) }
