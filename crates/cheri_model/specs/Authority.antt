@@ -1,6 +1,6 @@
 -- Authority: what a tagged capability can reach, and that every one of a run lies within one that was there before
 -- (CHERI ISA v9, "capability monotonicity").
-use Rattle.std.specs.Prelude.{◌≡◌, ℕ, ◌/◌, ◌%◌, ◌^◌, ◌<◌, ◌≤◌, ◌⊎◌, List, ◌∷◌, ◌++◌, map, bit_and, All, Contains, ⊤}
+use Rattle.std.specs.Prelude.{◌≡◌, ℕ, ◌/◌, ◌%◌, ◌^◌, ◌<◌, ◌≤◌, ◌⊎◌, List, [], ◌∷◌, ◌++◌, map, bit_and, All, Contains, ⊤}
 use Rattle.std.specs.List.{flat_map}
 use Rattle.cheri_model.specs.declared.image.HartImage.{HartImage}
 use Rattle.cheri_model.specs.declared.trace.Entry.{Entry}
@@ -77,6 +77,10 @@ IsConfined image state = EachOfState (IsGrantedValue (values_of_image image)) st
 -- every tagged value of a state is granted by the values of another
 abbrev pub IsConfinedTo : MachineState → MachineState → Type 0
 IsConfinedTo before state = EachOfState (IsGrantedValue (values_of_state before)) state
+
+-- the state of a machine of this one hart
+abbrev pub alone : HartState → List CapValue → MachineState
+alone hart memory = record { harts = hart ∷ []; memory = memory }
 
 -- for every beginning of a trace, every tagged value of a state is granted by the values that its replay left
 abbrev pub IsMonotone : ImageParts → List Entry → MachineState → Type 0

@@ -78,6 +78,14 @@ is_store LoadCap = false
 is_store StoreCap = true
 is_store Swap = true
 
+-- whether an access stores a capability; what else it may be handed doesn't count
+abbrev pub stores_capability : Access → Bool
+stores_capability (Load width) = false
+stores_capability (Store width) = false
+stores_capability LoadCap = false
+stores_capability StoreCap = true
+stores_capability Swap = true
+
 -- whether what is stored, as a capability, is tagged; a data store stores none
 abbrev pub is_tagged : Option CapValue → Bool
 is_tagged None = false
@@ -94,8 +102,9 @@ access_table auth reg ea kind stored granules =
     ∷ check_line (not (has_type auth unsealed_type)) cause.SEAL reg
     ∷ check_line (is_load kind && not (has_permission auth permission.LOAD)) cause.LOAD reg
     ∷ check_line (is_store kind && not (has_permission auth permission.STORE)) cause.STORE reg
-    ∷ check_line (is_tagged stored && not (has_permission auth permission.STORE_CAP)) cause.STORE_CAP reg
-    ∷ check_line (is_tagged stored && not (is_global stored) && not (has_permission auth permission.STORE_LOCAL)) cause.STORE_LOCAL reg
+    ∷ check_line (stores_capability kind && is_tagged stored && not (has_permission auth permission.STORE_CAP)) cause.STORE_CAP reg
+    ∷ check_line (stores_capability kind && is_tagged stored && not (is_global stored) && not (has_permission auth permission.STORE_LOCAL))
+        cause.STORE_LOCAL reg
     ∷ check_line (not (in_bounds auth ea (size_of kind))) cause.LENGTH reg
     ∷ check_line (not (ea % size_of kind == 0)) cause.ALIGNMENT reg
     ∷ check_line (not (is_in_ram granules ea (size_of kind))) cause.PLACE reg

@@ -2,8 +2,7 @@
 -- "capability instructions"; what is this project's own is said at the definition). Each gives a tagged
 -- capability where a condition holds, and else the same edited word without a tag. The other results are in
 -- `FieldResults`, `SealResults` and `Readings`.
-use Rattle.std.specs.Prelude.{ℕ, ℤ, ◌+◌, ◌-◌, ◌/◌, ◌%◌, ◌^◌, ◌==◌, nat_le, min, Bool, ◌&&◌}
-use Rattle.std.specs.Int.{cast_unsigned, w64}
+use Rattle.std.specs.Prelude.{ℕ, ◌+◌, ◌-◌, ◌/◌, ◌%◌, ◌^◌, ◌==◌, nat_le, min, Bool, ◌&&◌}
 use Rattle.cheri_model.specs.Window.{is_in_window}
 use Rattle.cheri_model.specs.Rounding.{rounded_base, rounded_top}
 use Rattle.cheri_model.specs.Capability.{Capability, unsealed_type}
@@ -30,10 +29,6 @@ in_bounds v p n = nat_le (parts_of v).base p && nat_le (p + n) (parts_of v).top
 abbrev pub keeps_bounds : CapValue → ℕ → Bool
 keeps_bounds v a = is_in_window (parts_of v).base ((parts_of v).top - (parts_of v).base) a
 
--- an address and a signed immediate, modulo 2^64
-unfoldable pub address_sum : ℕ → ℤ → ℕ
-address_sum a imm = (a + cast_unsigned w64 imm) % 2 ^ 64
-
 -- the value with another address; for a valid one this is meant where the address is in the window
 unfoldable pub with_address : CapValue → ℕ → CapValue
 with_address (valid c) a = valid (record c { addr = a })
@@ -56,10 +51,6 @@ set_address v a =
 -- CIncOffset: the address raised by an offset, modulo 2^64; the tag as in CSetAddr
 unfoldable pub inc_offset : CapValue → ℕ → CapValue
 inc_offset v offset = set_address v ((address_of v + offset) % 2 ^ 64)
-
--- CIncOffset with an immediate
-unfoldable pub inc_offset_immediate : CapValue → ℤ → CapValue
-inc_offset_immediate v imm = set_address v (address_sum (address_of v) imm)
 
 -- a value's parts with the bounds of the rounding of its address and a length
 abbrev pub with_bounds_of_rounding : CapValue → ℕ → Capability

@@ -12,6 +12,7 @@ ghost use Rattle.cheri_model.specs.Actions.{
   StoreCap,
   Swap,
 };
+ghost use Rattle.cheri_model.specs.Authority.{IsConfinedTo, alone};
 ghost use Rattle.cheri_model.specs.CapValue.{IsLawfulValue};
 ghost use Rattle.cheri_model.specs.HartStep.{execute, hart_step, loaded, permitted};
 ghost use Rattle.cheri_model.specs.Results.{address_of, in_bounds, is_open};
@@ -295,12 +296,16 @@ fn execute(action: Action, hart: &mut Hart, ram: &mut Ram) -> Outcome
 }
 
 /// One step of a hart that runs: the first failing check of the fetch traps and changes nothing but
-/// the status, else the instruction at PCC acts. Takes no memory.
+/// the status, else the instruction at PCC acts. No step makes authority (CHERI ISA v9, "capability
+/// monotonicity"). Takes no memory.
 #[tactic(auto, unfolding(crate::proofs::Open::step))]
 pub fn step(program: &[Instr], hart: &mut Hart, ram: &mut Ram) -> Outcome
-    ensures { hart_step program.now hart.old ram.old
+    ensures value { hart_step program.now hart.old ram.old
         ≡ record { hart = hart.new; memory = ram.new; outcome = result } }
+    ensures confined { IsConfinedTo (alone hart.old ram.old) (alone hart.new ram.new) }
 {
+    // The count's clause says that every granule's value is lawful.
+    let _granules = ram.granule_count();
     match fetch(program, hart.pcc()) {
         Ok(instr) => {
             let action = asked(instr, hart);

@@ -77,6 +77,7 @@ impl Hart {
     pub fn pcc(&self) -> Cap
         ensures value { result ≡ self.now.pcc }
         ensures lawful { IsLawfulValue result }
+        ensures hart { EachOfHart IsLawfulValue self.now }
     {
         self.pcc
     }

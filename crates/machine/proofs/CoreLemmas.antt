@@ -5,11 +5,10 @@ use Rattle.std.specs.Prelude.{All, slice_set, nat_lt, nat_le, Some, None, Result
 use Rattle.std.proofs.lemmas.Bool.{and_parts}
 use Rattle.std.proofs.lemmas.Bool.Decides.{nat_tests}
 use Rattle.std.proofs.lemmas.List.{get_or_read, length-map}
-use Rattle.std.proofs.lemmas.List.Elements.{All-from_get_or}
 use Rattle.cheri_model.specs.declared.instr.Instr.{Instr}
 use Rattle.cheri_model.specs.declared.trace.Entry.{Entry}
-use Rattle.cheri_model.specs.CapValue.{CapValue, raw, IsLawfulValue}
-use Rattle.cheri_model.specs.Memory.{granule_at, IsMemory}
+use Rattle.cheri_model.specs.CapValue.{CapValue, IsLawfulValue}
+use Rattle.cheri_model.specs.Memory.{IsMemory}
 use Rattle.cheri_model.specs.Hart.{HartState}
 use Rattle.cheri_model.specs.Image.{ImageParts, opening_hart, opening_memory}
 use Rattle.cheri_model.specs.Machine.{MachineState, Operation, step_of, opening_state, is_running, hart_at, no_hart, may_take, entry_of, state_after_one}
@@ -17,7 +16,7 @@ use Rattle.cheri_model.specs.Replay.{IsReplay, operations_of, state_after, repla
 use Rattle.cheri_model.specs.ImageForm.{is_between, are_sizes, is_image}
 use Rattle.cheri_model.specs.Authority.{EachOfHart, IsLawfulState, IsConfined, IsMonotone}
 use Rattle.cheri_model.proofs.Runs.Replays.{IsReplay-opening, IsReplay_push, operations_of_push, operation-entry_of}
-use Rattle.cheri_model.proofs.Runs.RunsConfined.{run_lawful, replay_monotone}
+use Rattle.cheri_model.proofs.Runs.RunsConfined.{memory_lawful, run_lawful, replay_monotone}
 use Rattle.machine.specs.declared.faults.StepFault.{StepFault}
 use Rattle.machine.specs.declared.faults.StepFault.TheVariants.{NoSuchHart, TraceFull, HartStopped}
 use Rattle.machine.specs.Cores.{CoreParts, parts_of_core, is_limit, IsCore, IsHartStep, refused, unless_refused, answered, core_after}
@@ -28,11 +27,6 @@ pub state_opened : (image : ImageParts) (harts : List HartState) (memory : List 
     ◌≡◌ {A = MachineState} (record { harts = harts; memory = memory }) (opening_state image)
 unfolding opening_state
 state_opened image harts memory e f i = record { harts = e i; memory = f i }
-
--- every value of a memory is lawful
-memory_lawful : (memory : List CapValue) → IsMemory memory → All IsLawfulValue memory
-unfolding granule_at
-memory_lawful memory is = All-from_get_or IsLawfulValue memory (raw 0) (λ k inside. is.lawful k)
 
 pub booted : (image : ImageParts) (limit : ℕ) (harts : List HartState) (memory : List CapValue) →
     harts ≡ map opening_hart image.harts → memory ≡ opening_memory image.ram image.granules →

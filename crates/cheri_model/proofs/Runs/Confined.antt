@@ -36,7 +36,7 @@ within_granule addr Word base aligned = omega arith
 within_granule addr Double base aligned = omega arith
 
 module _ (sources : List CapValue) where
-  abbrev Good : CapValue → Type 0
+  abbrev pub Good : CapValue → Type 0
   Good = IsGood sources
 
   -- past the end of a list there is the default
@@ -177,9 +177,9 @@ module _ (sources : List CapValue) where
 
   -- ---- what a step leaves
 
-  record StepGood (after : Stepped) : Type 0 where
-    hart : EachOfHart Good after.hart
-    memory : All Good after.memory
+  pub record StepGood (after : Stepped) : Type 0 where
+    pub hart : EachOfHart Good after.hart
+    pub memory : All Good after.memory
 
   unless_good : (verdict : Result (Unit {0}) Trap) (hart : HartState) (memory : List CapValue) (after : Stepped) →
       EachOfHart Good hart → All Good memory → (verdict ≡ Ok tt → StepGood after) → StepGood (unless_trapped verdict hart memory after)
@@ -292,7 +292,7 @@ module _ (sources : List CapValue) where
   execute_good Halt hart memory tagged moved value good granules =
       record { hart = record { pcc = good.pcc; regs = good.regs }; memory = granules }
 
-  step_good : (program : List Instr) (hart : HartState) (memory : List CapValue) →
+  pub step_good : (program : List Instr) (hart : HartState) (memory : List CapValue) →
       EachOfHart Good hart → All Good memory → StepGood (hart_step program hart memory)
   unfolding hart_step
   step_good program hart memory good granules =

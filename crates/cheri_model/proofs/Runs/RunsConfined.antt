@@ -4,17 +4,19 @@ use Rattle.std.specs.Prelude.{All, Contains, replicate, fold, slice_set}
 use Rattle.std.specs.List.{flat_map}
 use Rattle.std.specs.Int.Bits.{and_self}
 use Rattle.std.proofs.lemmas.List.{map-append}
-use Rattle.std.proofs.lemmas.List.Elements.{All-set, All-map, All-replicate, All-nil, All-cons, All-head, All-tail, All-weaker, All-contains_itself}
+use Rattle.std.proofs.lemmas.List.Elements.{All-set, All-map, All-replicate, All-nil, All-cons, All-head, All-tail, All-weaker, All-contains_itself, All-from_get_or}
+use Rattle.cheri_model.specs.declared.instr.Instr.{Instr}
 use Rattle.cheri_model.specs.declared.trace.Entry.{Entry}
 use Rattle.cheri_model.specs.CapValue.{CapValue, valid, raw, IsLawfulValue}
-use Rattle.cheri_model.specs.Hart.{null}
+use Rattle.cheri_model.specs.Hart.{HartState, null}
+use Rattle.cheri_model.specs.HartStep.{Stepped, hart_step}
 use Rattle.cheri_model.specs.Image.{ImageParts, opening_hart, opening_memory}
-use Rattle.cheri_model.specs.Memory.{granule_number, store_capability}
+use Rattle.cheri_model.specs.Memory.{granule_number, granule_at, store_capability, IsMemory}
 use Rattle.cheri_model.specs.Machine.{MachineState, Operation, opening_state, state_after_one}
 use Rattle.cheri_model.specs.Replay.{state_after, replayed_state, operation_of, operations_of, IsReplay}
-use Rattle.cheri_model.specs.Authority.{IsGrantedValue, EachOfHart, EachOfState, IsLawfulState, IsConfined, IsConfinedTo, IsMonotone, values_of_hart, values_of_image, values_in_hart, values_of_state}
+use Rattle.cheri_model.specs.Authority.{IsGrantedValue, EachOfHart, EachOfState, IsLawfulState, IsConfined, IsConfinedTo, IsMonotone, alone, values_of_hart, values_of_image, values_in_hart, values_of_state}
 use Rattle.cheri_model.proofs.Runs.Granted.{IsGood}
-use Rattle.cheri_model.proofs.Runs.Confined.{run_good}
+use Rattle.cheri_model.proofs.Runs.Confined.{step_good, run_good}
 
 module _ {X : Type 0} (P : X → Type 0) where
   All-left : (xs ys : List X) → All P (xs ++ ys) → All P xs
@@ -101,6 +103,34 @@ granted_half sources state good = record {
   harts = λ k d inside. record { pcc = (good.harts k d inside).pcc.granted; regs = λ n v within. ((good.harts k d inside).regs n v within).granted };
   memory = λ k v inside. (good.memory k v inside).granted;
 }
+
+-- What a step leaves is granted by what was there before it.
+pub step_confined : (program : List Instr) (hart : HartState) (memory : List CapValue) → IsLawfulState (alone hart memory) →
+    IsConfinedTo (alone hart memory) (alone (hart_step program hart memory).hart (hart_step program hart memory).memory)
+step_confined program hart memory lawful =
+    let before = alone hart memory in
+    let sources = values_of_state before in
+    let granted = state_each (IsGrantedValue sources) before (λ k d inside. granted_itself sources _ (All-contains_itself sources k d inside)) in
+    let good = both sources before lawful granted in
+    let left = step_good sources program hart memory (All-head (EachOfHart (IsGood sources)) hart [] good.harts) good.memory in
+    granted_half sources (alone (hart_step program hart memory).hart (hart_step program hart memory).memory) record {
+      harts = All-cons (EachOfHart (IsGood sources)) _ [] left.hart (All-nil (EachOfHart (IsGood sources)));
+      memory = left.memory;
+    }
+
+-- every value of a memory is lawful
+pub memory_lawful : (memory : List CapValue) → IsMemory memory → All IsLawfulValue memory
+unfolding granule_at
+memory_lawful memory is = All-from_get_or IsLawfulValue memory (raw 0) (λ k inside. is.lawful k)
+
+-- the same of what a step is known to leave
+pub left_confined : (program : List Instr) (hart : HartState) (memory : List CapValue) (after : Stepped) →
+    hart_step program hart memory ≡ after → EachOfHart IsLawfulValue hart → IsMemory memory →
+    IsConfinedTo (alone hart memory) (alone after.hart after.memory)
+left_confined program hart memory after is lawful of_memory =
+    let each = All-cons (EachOfHart IsLawfulValue) hart [] lawful (All-nil (EachOfHart IsLawfulValue)) in
+    let confined = step_confined program hart memory record { harts = each; memory = memory_lawful memory of_memory } in
+    subst (λ left. IsConfinedTo (alone hart memory) (alone left.hart left.memory)) is confined
 
 -- What holds after any order: every value is lawful, and every tagged one is granted by the initial capabilities.
 pub run_lawful : (image : ImageParts) (order : List Operation) → IsLawfulState (opening_state image) →

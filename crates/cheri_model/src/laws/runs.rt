@@ -1,7 +1,11 @@
-//! The laws of runs: a legal operation keeps the replay, and no run makes authority.
+//! The laws of runs: a legal operation keeps the replay, and neither a step nor a run makes authority.
 
 ghost use Rattle.std.specs.Prelude.{◌≡◌, List, [], ◌∷◌, ◌++◌, true};
+ghost use Rattle.cheri_model.specs.declared.instr.Instr.{Instr};
 ghost use Rattle.cheri_model.specs.declared.trace.Entry.{Entry};
+ghost use Rattle.cheri_model.specs.CapValue.{CapValue};
+ghost use Rattle.cheri_model.specs.Hart.{HartState};
+ghost use Rattle.cheri_model.specs.HartStep.{hart_step};
 ghost use Rattle.cheri_model.specs.Image.{ImageParts};
 ghost use Rattle.cheri_model.specs.Machine.{
   MachineState,
@@ -12,7 +16,7 @@ ghost use Rattle.cheri_model.specs.Machine.{
   state_after_one,
 };
 ghost use Rattle.cheri_model.specs.Replay.{IsReplay, replayed_state};
-ghost use Rattle.cheri_model.specs.Authority.{IsLawfulState, IsConfined, IsConfinedTo};
+ghost use Rattle.cheri_model.specs.Authority.{IsLawfulState, IsConfined, IsConfinedTo, alone};
 
 /// The empty trace with the image's opening state is a replay, and a legal operation makes a longer
 /// one.
@@ -21,6 +25,14 @@ pub fn replay_grows()
     ensures one_more { (image : ImageParts) (trace : List Entry) (state : MachineState)
         (op : Operation) → IsReplay image trace state → may_take state op ≡ true
         → IsReplay image (trace ++ entry_of image state op ∷ []) (state_after_one image state op) }
+{}
+
+/// Where the values of a hart and of memory are lawful, every tagged one after a step of the hart is
+/// granted by those before it (CHERI ISA v9, "capability monotonicity").
+pub fn steps_are_confined()
+    ensures { (program : List Instr) (hart : HartState) (memory : List CapValue)
+        → IsLawfulState (alone hart memory) → IsConfinedTo (alone hart memory)
+        (alone (hart_step program hart memory).hart (hart_step program hart memory).memory) }
 {}
 
 /// Where the opening state's values are lawful, every value of each state of a run is lawful, and

@@ -9,6 +9,7 @@ ghost use Rattle.cheri_model.specs.Checks.{
   is_store,
   is_tagged,
   size_of,
+  stores_capability,
 };
 ghost use Rattle.cheri_model.specs.Memory.{fits, is_in_ram};
 
@@ -45,14 +46,22 @@ fn is_store(kind: Access) -> bool
     matches!(&kind, Access::Store(_) | Access::StoreCap | Access::Swap)
 }
 
-/// Whether what is stored, as a capability, is tagged, and whether it also lacks Global.
-fn stored_kind(stored: Option<Cap>) -> (bool, bool)
-    ensures tagged { result.0 ≡ is_tagged stored }
-    ensures local { result.1 ≡ (is_tagged stored && not (is_global stored)) }
+/// Whether an access stores a capability.
+fn stores_capability(kind: Access) -> bool
+    ensures { result ≡ stores_capability kind }
+{
+    matches!(&kind, Access::StoreCap | Access::Swap)
+}
+
+/// Whether what an access stores, as a capability, is tagged, and whether it also lacks Global.
+fn stored_kind(kind: Access, stored: Option<Cap>) -> (bool, bool)
+    ensures tagged { result.0 ≡ (stores_capability kind && is_tagged stored) }
+    ensures local { result.1 ≡ (stores_capability kind && is_tagged stored
+        && not (is_global stored)) }
 {
     match stored {
         Some(value) => {
-            let tagged = value.tag();
+            let tagged = stores_capability(kind) && value.tag();
             (tagged, lacks(tagged, value, GLOBAL))
         }
         None => (false, false),
@@ -80,7 +89,7 @@ fn table_verdict(
     ensures { result ≡ first_failing (access_table auth reg addr kind stored ram.now) }
 {
     let bytes = size_of(kind);
-    let (tagged, local) = stored_kind(stored);
+    let (tagged, local) = stored_kind(kind, stored);
     first_failing(&[
         untagged(auth, reg),
         sealed(auth, reg),
@@ -95,8 +104,8 @@ fn table_verdict(
 }
 
 /// The first check that fails of an access at `addr` through the register with the number `reg`,
-/// which holds `auth`. `stored` is the capability to be stored, which a data store has none of. An
-/// access that passes fits the memory.
+/// which holds `auth`. `stored` is the capability to be stored, which counts only where the access
+/// stores one. An access that passes fits the memory.
 pub fn access_check(
     auth: Cap,
     reg: u8,
