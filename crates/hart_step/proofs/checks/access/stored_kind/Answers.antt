@@ -2,12 +2,6 @@ use Rattle.std.proofs.Common.{arith}
 use Rattle.std.proofs.lemmas.Grind.{common_steps}
 use Rattle.hart_step.proofs.checks.access.stored_kind.Goals as goal
 
-pub returns-in-Some-clause-tagged : goal.returns-in-Some-clause-tagged
-returns-in-Some-clause-tagged c = grind (arith, common_steps)
-
-pub returns-in-Some-clause-local : goal.returns-in-Some-clause-local
-returns-in-Some-clause-local c = grind (arith, common_steps)
-
 pub returns-in-None-clause-tagged : goal.returns-in-None-clause-tagged
 returns-in-None-clause-tagged c = grind (arith, common_steps)
 
