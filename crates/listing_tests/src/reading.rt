@@ -1,5 +1,6 @@
 //! Listings that are read, and listings that are refused, as their format says.
 
+mod beginnings;
 mod capabilities;
 mod instructions;
 mod labels;

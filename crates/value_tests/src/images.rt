@@ -34,7 +34,7 @@ fn image_with(
 }
 
 #[test]
-fn sizes(rt: HostRuntime) -> Result<(), Fail> {
+fn sizes_have_limits(rt: HostRuntime) -> Result<(), Fail> {
     let rows = [
         (1, 16, 1, true),
         (16_384, 1_048_576, 8, true),
@@ -67,7 +67,7 @@ fn untagged(alloc: Global, words: &[(u64, u128)]) -> Result<Vec<(u64, Value)>, N
 }
 
 #[test]
-fn granules(rt: HostRuntime) -> Result<(), Fail> {
+fn granules_are_aligned_in_ram_and_rising(rt: HostRuntime) -> Result<(), Fail> {
     let rows = [
         ([].as_slice(), true),
         (
@@ -91,7 +91,7 @@ fn granules(rt: HostRuntime) -> Result<(), Fail> {
 }
 
 #[test]
-fn copies(rt: HostRuntime) -> Result<(), Fail> {
+fn a_copy_has_the_same_parts(rt: HostRuntime) -> Result<(), Fail> {
     let granules = [(0x8000_0010, Value::raw(1)), (0x8000_0020, Value::raw(2))];
     let image = image_with(rt.alloc(), 3, 48, &granules, 2)?.ok_or("no image")?;
     let copy = image.copy(rt.alloc())?;

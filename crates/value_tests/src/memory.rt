@@ -53,7 +53,7 @@ fn store_cap_at(rt: &impl Abort, ram: &mut Ram, addr: u64, value: Cap) {
 }
 
 #[test]
-fn sizes(rt: HostRuntime) -> Result<(), Fail> {
+fn sizes_are_multiples_of_sixteen(rt: HostRuntime) -> Result<(), Fail> {
     for bytes in [0, 8, 24, 1_048_592] {
         assert_eq!(rt;
             Ram::new(rt.alloc(), bytes).err(),
@@ -169,6 +169,21 @@ fn stores_at_each_offset(rt: HostRuntime) -> Result<(), Fail> {
             );
         }
     }
+    Ok(())
+}
+
+/// The bytes of a granule are its address, then its upper half, of each the least significant byte
+/// first.
+#[test]
+fn bytes_of_a_stored_capability(rt: HostRuntime) -> Result<(), Fail> {
+    let mut ram = Ram::new(rt.alloc(), 16)?;
+    store_cap_at(&rt, &mut ram, 0x8000_0000, readable(&rt));
+    let address = [0x00, 0x00, 0x00, 0x80, 0x00, 0x00, 0x00, 0x00];
+    let upper = [0x04, 0x80, 0x05, 0x04, 0x00, 0x00, 0x05, 0x00];
+    let bytes = ram.bytes();
+    assert_eq!(rt; bytes.len(), 16);
+    assert_eq!(rt; &bytes[..8], address.as_slice());
+    assert_eq!(rt; &bytes[8..], upper.as_slice());
     Ok(())
 }
 

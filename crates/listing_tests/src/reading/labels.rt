@@ -7,7 +7,7 @@ use listings::read_listing;
 use std::test::Fail;
 
 #[test]
-fn targets(rt: HostRuntime) -> Result<(), Fail> {
+fn targets_are_labels_or_places(rt: HostRuntime) -> Result<(), Fail> {
     let alloc = rt.alloc();
     all_read(
         &rt,

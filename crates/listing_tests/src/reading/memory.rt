@@ -100,7 +100,7 @@ fn lines_of_ram(rt: HostRuntime) -> Result<(), Fail> {
 }
 
 #[test]
-fn bytes(rt: HostRuntime) -> Result<(), Fail> {
+fn stored_bytes_lie_in_ram(rt: HostRuntime) -> Result<(), Fail> {
     let alloc = rt.alloc();
     small_read(
         &rt,
@@ -142,6 +142,16 @@ fn bytes(rt: HostRuntime) -> Result<(), Fail> {
             ".bytes 0x10000000000000000 00",
             ".bytes 0x80000000 000000000000000000000000000000000000000000000000000000000000000000",
         ],
+    )?;
+    each_gives(
+        &rt,
+        alloc,
+        ".ram 16\n.hart 0x10000000 16 0x10000000 execute\n",
+        &[".bytes 0x8000000f aabb"],
+        Answer::Fault {
+            line: 3,
+            kind: ListingFaultKind::Range,
+        },
     )
 }
 

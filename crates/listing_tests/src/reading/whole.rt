@@ -84,7 +84,7 @@ fn bytes_that_are_no_text(rt: HostRuntime) -> Result<(), Fail> {
 }
 
 #[test]
-fn first_words(rt: HostRuntime) -> Result<(), Fail> {
+fn unknown_first_words_are_refused(rt: HostRuntime) -> Result<(), Fail> {
     first_refused(
         &rt,
         rt.alloc(),

@@ -45,10 +45,12 @@ fn refuses_what_has_no_word(rt: HostRuntime) {
         ),
     ];
     for (base, len, addr, otype, want) in rows {
-        if otype != 0x3_fffd && otype != 0x3_fffc && otype < 0x4_0000 {
-            let made = Cap::make_sealed(base, len, addr, perms(ALL), OType::new(otype));
-            assert_eq!(rt; made.map(|cap| cap.high()), want, "{base:x} and {len:x}");
-        }
+        assert!(rt;
+            otype != 0x3_fffd && otype != 0x3_fffc && otype < 0x4_0000,
+            "{otype:x}"
+        );
+        let made = Cap::make_sealed(base, len, addr, perms(ALL), OType::new(otype));
+        assert_eq!(rt; made.map(|cap| cap.high()), want, "{base:x} and {len:x}");
     }
 }
 
@@ -83,13 +85,12 @@ fn makes_each_permission(rt: HostRuntime) {
             "permission {number}"
         );
         for (other, _, _) in ALONE {
-            if other < 19 {
-                assert_eq!(rt;
-                    cap.has_permission(other),
-                    other == number,
-                    "{number}, {other}"
-                );
-            }
+            assert!(rt; other < 19, "permission {other}");
+            assert_eq!(rt;
+                cap.has_permission(other),
+                other == number,
+                "{number}, {other}"
+            );
         }
     }
 }
