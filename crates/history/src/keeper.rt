@@ -76,6 +76,8 @@ fn new_pen(head: &Word<Link, u64, Law>, seen: &mut logbook::Seen<Link, u64, Law>
     let mut offer: Offer<Link, u64, Law, Nothing> = seen.plain::<Nothing, Draft, Add>(&blank);
     let mut pen = seen.no_pen();
     head.compare_exchange::<Make, Nothing>(0, 0, seen, &mut offer, &mut pen);
+    // The step gave the right to make a word. Making one, which is dropped, turns it into the right
+    // to write, which a link's pen has.
     let _word: Word<Link, u64, Law> = Word::tracked(0, &mut pen);
     pen
 }

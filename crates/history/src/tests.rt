@@ -1,42 +1,42 @@
-//! An order that two operations are added to, at a concrete type parameter.
+//! An order that two operations are added to, at a concrete type parameter. What it then is, and
+//! what was seen of it, is proved: the contract of `grown` says it, and no run could look at it.
 
 ghost use Rattle.std.specs.Prelude.{◌≡◌, ◌∷◌, []};
 ghost use Rattle.history.specs.declared.links.Operation.TheVariants.{Step};
 
 use crate::keeper::{Blank, Keeper};
 use crate::links::Operation;
-use crate::seen::{Order, Seen};
+use crate::seen::{Order, Seen, Token};
 use std::marker::Brand;
-use std::process::Abort;
+use std::mem::size_of;
 use std::test::Fail;
 
+/// What was seen of the order takes no memory.
 #[test]
-fn an_order_grows(rt: HostRuntime) -> Result<(), Fail> {
-    grow::<Brand, _>(&rt, Blank::new());
+fn tokens_of_a_grown_order_take_no_bytes(rt: HostRuntime) -> Result<(), Fail> {
+    grow::<Brand>(Blank::new());
+    assert_eq!(rt; size_of::<Token>(), 0);
     Ok(())
 }
 
 /// Adds two operations to a new order.
-fn grow<J: Order, R: Abort>(rt: &R, blank: Blank)
+fn grow<J: Order>(blank: Blank)
     requires { blank ≡ J.name }
 {
-    let (_early, _late) = grown::<J, R>(rt, blank);
+    let (_early, _late) = grown::<J>(blank);
 }
 
 /// Adds two operations, and has seen the order each time.
-fn grown<J: Order, R: Abort>(rt: &R, blank: Blank) -> (Seen<J>, Seen<J>)
+fn grown<J: Order>(blank: Blank) -> (Seen<J>, Seen<J>)
     requires { blank ≡ J.name }
     ensures first { result.0 ≡ Step 1 ∷ [] }
     ensures second { result.1 ≡ Step 1 ∷ Step 0 ∷ [] }
 {
     let mut keeper: Keeper<J> = blank.named::<J>();
-    let first = Operation::Step(1);
-    let second = Operation::Step(0);
-    keeper.add(first);
+    keeper.add(Operation::Step(1));
     let early = keeper.seen();
-    keeper.add(second);
+    keeper.add(Operation::Step(0));
     let late = keeper.seen();
     early.meet(&late);
-    assert!(rt; first != second);
     (early, late)
 }

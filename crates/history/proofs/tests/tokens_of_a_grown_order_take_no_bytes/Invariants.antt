@@ -1,4 +1,4 @@
-use Rattle.history.proofs.tests.an_order_grows.Given as goal
+use Rattle.history.proofs.tests.tokens_of_a_grown_order_take_no_bytes.Given as goal
 
 -- the order that was just opened
 abbrev pub ghosts-grow : goal.ghosts-grow
