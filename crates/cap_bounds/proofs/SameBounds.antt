@@ -28,26 +28,26 @@ top_alike e b base old new more most low same =
         ]
 
 -- equal bases come from regions that begin at the same place modulo 2^64
-pub start_from_base : (meta old new : ℕ) → raw_base meta new ≡ raw_base meta old →
-    region_start (word_exponent meta) (word_b meta) old % 2 ^ 64 ≡ region_start (word_exponent meta) (word_b meta) new % 2 ^ 64
+pub start_from_base : (upper old new : ℕ) → raw_base upper new ≡ raw_base upper old →
+    region_start (word_exponent upper) (word_b upper) old % 2 ^ 64 ≡ region_start (word_exponent upper) (word_b upper) new % 2 ^ 64
 unfolding raw_base
-start_from_base meta old new equal = omega arith
+start_from_base upper old new equal = omega arith
 
 -- and lead to equal bases
-pub base_from_start : (meta old new : ℕ) →
-    region_start (word_exponent meta) (word_b meta) old % 2 ^ 64 ≡ region_start (word_exponent meta) (word_b meta) new % 2 ^ 64 →
-    raw_base meta new ≡ raw_base meta old
+pub base_from_start : (upper old new : ℕ) →
+    region_start (word_exponent upper) (word_b upper) old % 2 ^ 64 ≡ region_start (word_exponent upper) (word_b upper) new % 2 ^ 64 →
+    raw_base upper new ≡ raw_base upper old
 unfolding raw_base
-base_from_start meta old new same = omega arith
+base_from_start upper old new same = omega arith
 
 -- and to equal tops
-pub top_from_start_of_word : (meta old new : ℕ) →
-    region_start (word_exponent meta) (word_b meta) old % 2 ^ 64 ≡ region_start (word_exponent meta) (word_b meta) new % 2 ^ 64 →
-    raw_top meta new ≡ raw_top meta old
+pub top_from_start_of_word : (upper old new : ℕ) →
+    region_start (word_exponent upper) (word_b upper) old % 2 ^ 64 ≡ region_start (word_exponent upper) (word_b upper) new % 2 ^ 64 →
+    raw_top upper new ≡ raw_top upper old
 unfolding raw_top uncorrected_top
-top_from_start_of_word meta old new same =
-    let equal : raw_base meta new ≡ raw_base meta old = base_from_start meta old new same in
+top_from_start_of_word upper old new same =
+    let equal : raw_base upper new ≡ raw_base upper old = base_from_start upper old new same in
     rw equal
-    (top_alike (word_exponent meta) (word_b meta) (raw_base meta old) old new
-    (region_offset (word_exponent meta) (word_b meta) (word_t14 meta))
-    (word_exponent_at_most meta) (raw_base_lt meta old) same)
+    (top_alike (word_exponent upper) (word_b upper) (raw_base upper old) old new
+    (region_offset (word_exponent upper) (word_b upper) (word_t14 upper))
+    (word_exponent_at_most upper) (raw_base_lt upper old) same)

@@ -9,20 +9,20 @@ use Rattle.cheri_model.proofs.Bounds.WindowsEnd.{same_bounds_in_window}
 use Rattle.cap_bounds.proofs.SameBounds.{start_from_base, base_from_start, top_from_start_of_word}
 
 -- the same start puts the address in the window
-pub window_from_start : (c : Capability) → IsLawful c → (meta old new : ℕ) → meta ≡ upper_of c → old ≡ c.addr →
-    region_start (word_exponent meta) (word_b meta) old % 2 ^ 64 ≡ region_start (word_exponent meta) (word_b meta) new % 2 ^ 64 →
+pub window_from_start : (c : Capability) → IsLawful c → (upper old new : ℕ) → upper ≡ upper_of c → old ≡ c.addr →
+    region_start (word_exponent upper) (word_b upper) old % 2 ^ 64 ≡ region_start (word_exponent upper) (word_b upper) new % 2 ^ 64 →
     IsInWindow c.base (c.top - c.base) new
-window_from_start c h meta old new its_upper its_addr same =
+window_from_start c h upper old new its_upper its_addr same =
     let there = same_bounds_in_window c h new in
-    (rw (← its_upper, ← its_addr) at there).0 (base_from_start meta old new same, top_from_start_of_word meta old new same)
+    (rw (← its_upper, ← its_addr) at there).0 (base_from_start upper old new same, top_from_start_of_word upper old new same)
 
 -- an address in the window has the same start
-pub start_from_window : (c : Capability) → IsLawful c → (meta old new : ℕ) → meta ≡ upper_of c → old ≡ c.addr →
+pub start_from_window : (c : Capability) → IsLawful c → (upper old new : ℕ) → upper ≡ upper_of c → old ≡ c.addr →
     IsInWindow c.base (c.top - c.base) new →
-    region_start (word_exponent meta) (word_b meta) old % 2 ^ 64 ≡ region_start (word_exponent meta) (word_b meta) new % 2 ^ 64
-start_from_window c h meta old new its_upper its_addr inside =
+    region_start (word_exponent upper) (word_b upper) old % 2 ^ 64 ≡ region_start (word_exponent upper) (word_b upper) new % 2 ^ 64
+start_from_window c h upper old new its_upper its_addr inside =
     let there = same_bounds_in_window c h new in
-    start_from_base meta old new ((rw (← its_upper, ← its_addr) at there).1 inside).0
+    start_from_base upper old new ((rw (← its_upper, ← its_addr) at there).1 inside).0
 
 -- equal bounds, regions that begin at one place, and the window
 pub ruleset same_bounds = (start_from_base, base_from_start, top_from_start_of_word, window_from_start, start_from_window)

@@ -44,7 +44,7 @@ mod tests {
     ];
 
     #[test]
-    fn aligns_the_table(rt: HostRuntime) {
+    fn crrl_and_cram_give_the_worked_rows(rt: HostRuntime) {
         for (len, length, mask) in ROWS {
             assert_eq!(rt; crrl(len), length, "length for {len}");
             assert_eq!(rt; cram(len), mask, "mask for {len}");

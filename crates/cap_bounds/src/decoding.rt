@@ -28,25 +28,25 @@ const FIRST_UNCORRECTED_EXPONENT: u8 = 51;
 /// The base is below 2^64 and the top below 2^65. The top of a word that no instruction makes may
 /// lie below its base.
 #[tactic(auto, using(crate::proofs::Regions::same_bounds), unfolding(crate::proofs::Open::raw))]
-pub fn decode(meta: u64, addr: u64) -> (u64, u128)
-    ensures base { result.0 ≡ raw_base meta addr }
-    ensures top { result.1 ≡ raw_top meta addr }
+pub fn decode(upper: u64, addr: u64) -> (u64, u128)
+    ensures base { result.0 ≡ raw_base upper addr }
+    ensures top { result.1 ≡ raw_top upper addr }
 {
-    let e = exponent_field(meta);
-    let b = b_digits(meta);
+    let e = exponent_field(upper);
+    let b = b_digits(upper);
     let start = region_steps(e, b, addr);
     let base = address_of_steps(e, start + offset_steps(b, b));
-    let top = top_of_steps(e, start + offset_steps(b, full_t_digits(meta)));
+    let top = top_of_steps(e, start + offset_steps(b, full_t_digits(upper)));
     (base, with_top_bit(e, base, top))
 }
 
 /// Where the region of the address begins, modulo 2^64.
 #[tactic(auto, using(crate::proofs::Regions::start_below_64))]
-pub(crate) fn region_origin(meta: u64, addr: u64) -> u64
-    ensures { result ≡ region_start (word_exponent meta) (word_b meta) addr % 2 ^ 64 }
+pub(crate) fn region_origin(upper: u64, addr: u64) -> u64
+    ensures { result ≡ region_start (word_exponent upper) (word_b upper) addr % 2 ^ 64 }
 {
-    let e = exponent_field(meta);
-    address_of_steps(e, region_steps(e, b_digits(meta), addr))
+    let e = exponent_field(upper);
+    address_of_steps(e, region_steps(e, b_digits(upper), addr))
 }
 
 /// Where regions begin, modulo their size, in steps of 2^E: one step of the top three bits of B
@@ -171,11 +171,11 @@ mod tests {
 
     #[test]
     fn decodes_known_words(rt: HostRuntime) {
-        for (meta, addr, base, top) in DECODED {
+        for (upper, addr, base, top) in DECODED {
             assert_eq!(rt;
-                decode(meta, addr),
+                decode(upper, addr),
                 (base, top),
-                "upper half {meta:x}, address {addr:x}"
+                "upper half {upper:x}, address {addr:x}"
             );
         }
     }
@@ -183,10 +183,10 @@ mod tests {
     #[test]
     fn caps_the_exponent(rt: HostRuntime) {
         for exponent in 0..64_u64 {
-            let meta = ((exponent / 8 ^ 6) << 14) + (exponent % 8 ^ 4);
+            let upper = ((exponent / 8 ^ 6) << 14) + (exponent % 8 ^ 4);
             let capped = if exponent < 52 { exponent } else { 52 };
             assert_eq!(rt;
-                decode(meta, 0),
+                decode(upper, 0),
                 (0, 1 << capped + 12),
                 "exponent {exponent}"
             );

@@ -13,13 +13,13 @@ use crate::decoding::region_origin;
 /// where two tops then differ in bit 64, the last correction takes them to one. For the word of a
 /// lawful capability the new address is then in its window.
 #[tactic(auto, using(crate::proofs::Windows::same_bounds))]
-pub fn representable(meta: u64, old: u64, new: u64) -> bool
-    ensures same { IsTrue result ↔ ((raw_base meta new ≡ raw_base meta old) × (raw_top meta new ≡
-        raw_top meta old)) }
-    ensures window { (c : Capability) → IsLawful c → meta ≡ upper_of c → old ≡ c.addr →
+pub fn representable(upper: u64, old: u64, new: u64) -> bool
+    ensures same { IsTrue result ↔ ((raw_base upper new ≡ raw_base upper old) × (raw_top upper new ≡
+        raw_top upper old)) }
+    ensures window { (c : Capability) → IsLawful c → upper ≡ upper_of c → old ≡ c.addr →
         (IsTrue result ↔ IsInWindow c.base (c.top - c.base) new) }
 {
-    region_origin(meta, old) == region_origin(meta, new)
+    region_origin(upper, old) == region_origin(upper, new)
 }
 
 #[cfg(test)]
@@ -44,11 +44,11 @@ mod tests {
 
     #[test]
     fn keeps_bounds_inside_the_window(rt: HostRuntime) {
-        for (meta, old, new, kept) in MOVED {
+        for (upper, old, new, kept) in MOVED {
             assert_eq!(rt;
-                representable(meta, old, new),
+                representable(upper, old, new),
                 kept,
-                "upper half {meta:x}, from {old:x} to {new:x}"
+                "upper half {upper:x}, from {old:x} to {new:x}"
             );
         }
     }

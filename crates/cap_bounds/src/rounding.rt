@@ -203,7 +203,7 @@ mod tests {
     ];
 
     #[test]
-    fn rounds_the_table(rt: HostRuntime) {
+    fn set_bounds_gives_the_worked_rows(rt: HostRuntime) {
         for (from, len, ie, e, t, b, base, top, exact) in ROWS {
             let want = Rounded {
                 ie,

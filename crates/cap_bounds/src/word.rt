@@ -20,109 +20,109 @@ use crate::parts::Fields;
 use cheri_model::{MAX_EXPONENT, NULL_FIELDS};
 
 /// The fields of the word with this upper half.
-pub fn fields(meta: u64) -> Fields
-    ensures perms { result.perms ≡ word_perms meta }
-    ensures otype { result.otype ≡ word_otype meta }
-    ensures flag { result.flag ≡ word_flag meta }
-    ensures reserved { result.reserved ≡ word_reserved meta }
-    ensures ie { result.ie ≡ word_ie meta }
-    ensures e { result.e ≡ word_exponent meta }
+pub fn fields(upper: u64) -> Fields
+    ensures perms { result.perms ≡ word_perms upper }
+    ensures otype { result.otype ≡ word_otype upper }
+    ensures flag { result.flag ≡ word_flag upper }
+    ensures reserved { result.reserved ≡ word_reserved upper }
+    ensures ie { result.ie ≡ word_ie upper }
+    ensures e { result.e ≡ word_exponent upper }
 {
     Fields {
-        perms: perms_field(meta),
-        otype: otype_field(meta),
-        flag: flag_field(meta),
-        reserved: reserved_field(meta),
-        ie: ie_field(meta),
-        e: exponent_field(meta),
+        perms: perms_field(upper),
+        otype: otype_field(upper),
+        flag: flag_field(upper),
+        reserved: reserved_field(upper),
+        ie: ie_field(upper),
+        e: exponent_field(upper),
     }
 }
 
 /// The fields without the exclusive-or.
 #[tactic(auto, unfolding(cheri_model::specs::Fields::with_null_fields))]
-fn plain_fields(meta: u64) -> u64
-    ensures { result ≡ with_null_fields meta }
+fn plain_fields(upper: u64) -> u64
+    ensures { result ≡ with_null_fields upper }
 {
-    meta ^ NULL_FIELDS
+    upper ^ NULL_FIELDS
 }
 
 #[tactic(auto, unfolding(cheri_model::specs::Fields::word_perms))]
-fn perms_field(meta: u64) -> u32
-    ensures { result ≡ word_perms meta }
+fn perms_field(upper: u64) -> u32
+    ensures { result ≡ word_perms upper }
 {
-    let field = (plain_fields(meta) >> 48) as u32;
+    let field = (plain_fields(upper) >> 48) as u32;
     (field >> 12 << 15) | (field & 0xfff)
 }
 
 #[tactic(auto, unfolding(cheri_model::specs::Fields::word_otype))]
-fn otype_field(meta: u64) -> u32
-    ensures { result ≡ word_otype meta }
+fn otype_field(upper: u64) -> u32
+    ensures { result ≡ word_otype upper }
 {
-    ((plain_fields(meta) >> 27) & 0x3_ffff) as u32
+    ((plain_fields(upper) >> 27) & 0x3_ffff) as u32
 }
 
 #[tactic(auto, unfolding(cheri_model::specs::Fields::word_flag))]
-fn flag_field(meta: u64) -> u8
-    ensures { result ≡ word_flag meta }
+fn flag_field(upper: u64) -> u8
+    ensures { result ≡ word_flag upper }
 {
-    ((plain_fields(meta) >> 45) & 1) as u8
+    ((plain_fields(upper) >> 45) & 1) as u8
 }
 
 #[tactic(auto, unfolding(cheri_model::specs::Fields::word_reserved))]
-fn reserved_field(meta: u64) -> u8
-    ensures { result ≡ word_reserved meta }
+fn reserved_field(upper: u64) -> u8
+    ensures { result ≡ word_reserved upper }
 {
-    ((plain_fields(meta) >> 46) & 3) as u8
+    ((plain_fields(upper) >> 46) & 3) as u8
 }
 
 #[tactic(auto, unfolding(cheri_model::specs::Fields::word_ie))]
-fn ie_field(meta: u64) -> u8
-    ensures value { result ≡ word_ie meta }
+fn ie_field(upper: u64) -> u8
+    ensures value { result ≡ word_ie upper }
     ensures below { result < 2 }
 {
-    ((plain_fields(meta) >> 26) & 1) as u8
+    ((plain_fields(upper) >> 26) & 1) as u8
 }
 
 /// T as stored: with IE 1 its low three bits are the exponent's high ones.
 #[tactic(auto, unfolding(cheri_model::specs::Fields::stored_t))]
-fn stored_t_field(meta: u64) -> u16
-    ensures value { result ≡ stored_t meta }
+fn stored_t_field(upper: u64) -> u16
+    ensures value { result ≡ stored_t upper }
     ensures below { result < 2 ^ 12 }
 {
-    ((plain_fields(meta) >> 14) & 0xfff) as u16
+    ((plain_fields(upper) >> 14) & 0xfff) as u16
 }
 
 /// B as stored: with IE 1 its low three bits are the exponent's low ones.
 #[tactic(auto, unfolding(cheri_model::specs::Fields::stored_b))]
-fn stored_b_field(meta: u64) -> u16
-    ensures value { result ≡ stored_b meta }
+fn stored_b_field(upper: u64) -> u16
+    ensures value { result ≡ stored_b upper }
     ensures below { result < 2 ^ 14 }
 {
-    (plain_fields(meta) & 0x3fff) as u16
+    (plain_fields(upper) & 0x3fff) as u16
 }
 
 /// The exponent E, at most 52.
 #[tactic(auto, unfolding(cheri_model::specs::Fields::word_exponent))]
-pub(crate) fn exponent_field(meta: u64) -> u8
-    ensures value { result ≡ word_exponent meta }
+pub(crate) fn exponent_field(upper: u64) -> u8
+    ensures value { result ≡ word_exponent upper }
     ensures at_most { result ≤ 52 }
 {
-    if ie_field(meta) == 0 {
+    if ie_field(upper) == 0 {
         return 0;
     }
-    let high = (stored_t_field(meta) & 7) as u8;
-    let low = (stored_b_field(meta) & 7) as u8;
+    let high = (stored_t_field(upper) & 7) as u8;
+    let low = (stored_b_field(upper) & 7) as u8;
     (8 * high + low).min(MAX_EXPONENT)
 }
 
 /// B, in which the bits of the exponent count as 0.
 #[tactic(auto, unfolding(cheri_model::specs::Fields::word_b))]
-pub(crate) fn b_digits(meta: u64) -> u16
-    ensures value { result ≡ word_b meta }
+pub(crate) fn b_digits(upper: u64) -> u16
+    ensures value { result ≡ word_b upper }
     ensures below { result < 2 ^ 14 }
 {
-    let stored = stored_b_field(meta);
-    if ie_field(meta) == 0 {
+    let stored = stored_b_field(upper);
+    if ie_field(upper) == 0 {
         stored
     } else {
         stored >> 3 << 3
@@ -131,12 +131,12 @@ pub(crate) fn b_digits(meta: u64) -> u16
 
 /// The twelve stored bits of T, in which the bits of the exponent count as 0.
 #[tactic(auto, unfolding(cheri_model::specs::Fields::word_t))]
-fn t_digits(meta: u64) -> u16
-    ensures value { result ≡ word_t meta }
+fn t_digits(upper: u64) -> u16
+    ensures value { result ≡ word_t upper }
     ensures below { result < 2 ^ 12 }
 {
-    let stored = stored_t_field(meta);
-    if ie_field(meta) == 0 {
+    let stored = stored_t_field(upper);
+    if ie_field(upper) == 0 {
         stored
     } else {
         stored >> 3 << 3
@@ -146,14 +146,14 @@ fn t_digits(meta: u64) -> u16
 /// T of fourteen bits: the two that are not stored follow from B, from a carry where T's stored
 /// bits lie below B's, and from IE (CHERI Concentrate, "decoding of bounds").
 #[tactic(auto, unfolding(cheri_model::specs::Fields::word_t14))]
-pub(crate) fn full_t_digits(meta: u64) -> u16
-    ensures value { result ≡ word_t14 meta }
+pub(crate) fn full_t_digits(upper: u64) -> u16
+    ensures value { result ≡ word_t14 upper }
     ensures below { result < 2 ^ 14 }
 {
-    let b = b_digits(meta);
-    let t = t_digits(meta);
+    let b = b_digits(upper);
+    let t = t_digits(upper);
     let carry = u16::from(t < (b & 0xfff));
-    let high = ((b >> 12) + carry + u16::from(ie_field(meta))) % 4;
+    let high = ((b >> 12) + carry + u16::from(ie_field(upper))) % 4;
     (high << 12) | t
 }
 
@@ -206,8 +206,8 @@ mod tests {
                 of_word(0xc, UNSEALED_TYPE, 0, 3, 0, 0),
             ),
         ];
-        for (meta, parts) in table {
-            assert_eq!(rt; fields(meta), parts, "upper half {meta:x}");
+        for (upper, parts) in table {
+            assert_eq!(rt; fields(upper), parts, "upper half {upper:x}");
         }
     }
 }
