@@ -7,7 +7,7 @@ use bitflags::Flags;
 use std::test::Fail;
 
 #[test]
-fn numbers(rt: HostRuntime) -> Result<(), Fail> {
+fn numbers_are_decimal_or_hexadecimal(rt: HostRuntime) -> Result<(), Fail> {
     for (token, want) in [
         ("0", 0),
         ("00", 0),
@@ -38,7 +38,7 @@ fn numbers(rt: HostRuntime) -> Result<(), Fail> {
 }
 
 #[test]
-fn permissions(rt: HostRuntime) -> Result<(), Fail> {
+fn each_permission_has_its_bit(rt: HostRuntime) -> Result<(), Fail> {
     for (token, want) in [
         ("global", 1),
         ("execute", 1 << 1),
@@ -68,7 +68,7 @@ fn permissions(rt: HostRuntime) -> Result<(), Fail> {
 }
 
 #[test]
-fn kinds_of_faults(rt: HostRuntime) -> Result<(), Fail> {
+fn each_kind_of_fault_has_its_number_and_name(rt: HostRuntime) -> Result<(), Fail> {
     for (kind, want) in [
         (ListingFaultKind::NotAscii, "1 NotAscii"),
         (ListingFaultKind::Word, "2 Word"),
