@@ -35,6 +35,7 @@ fn write_text<O: Write>(out: &mut O, text: &str) -> Result<(), SinkFailed>
     let mut sink = ToWrite::new(out);
     let written = put_whole(&mut sink, text.as_bytes());
     let writer = sink.into_writer();
+    // A last look at the writer tells the caller what it holds now.
     let _ = &*writer;
     written
 }
@@ -89,6 +90,7 @@ fn write_shown<O: Write>(alloc: Global, view: View<'_>, out: &mut O) -> Result<(
     let mut sink = ToWrite::new(out);
     let written = write_report(alloc, view, &mut sink);
     let writer = sink.into_writer();
+    // A last look at the writer tells the caller what it holds now.
     let _ = &*writer;
     written
 }

@@ -71,6 +71,7 @@ fn simulate_to<O: Write>(
     let mut sink = ToWrite::new(out);
     let ran = simulate(alloc, listing, order, GREATEST_TRACE_LIMIT, &mut sink);
     let writer = sink.into_writer();
+    // A last look at the writer tells the caller what it holds now.
     let _ = &*writer;
     ran
 }

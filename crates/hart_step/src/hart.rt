@@ -42,6 +42,7 @@ fn opening_registers(regs: &[Value; 31]) -> [Cap; 32]
     let mut opened = [Cap::null(); 32];
     for (i, value) in regs.iter().enumerate() {
         let cap = Cap::of_value(*value);
+        // The contract of `bits` says that the value is lawful, here and below.
         let _bits = cap.bits();
         opened[i + 1] = cap;
     }

@@ -48,7 +48,7 @@ impl<J: Naming> Shared<J> {
             Some(guard) => guard,
             None => self.machine.lock(rt),
         };
-        // what the contracts of a core say of every core
+        // The contract of `refusal` says that this is a core, whose state is the replay of its trace.
         let _refusal = guard.core().refusal(0);
         guard
     }
@@ -78,7 +78,7 @@ impl<J: Naming> Shared<J> {
         ensures core { IsCore result }
     {
         let machine = self.machine.into_inner();
-        // what the contracts of a core say of every core
+        // As above: that this is a core.
         let _refusal = machine.core().refusal(0);
         machine
     }

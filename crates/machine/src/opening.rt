@@ -40,6 +40,7 @@ pub fn opening_ram(alloc: Global, image: &Image) -> Result<Ram, NoMemory>
     for (addr, value) in granules {
         ram.store_cap(*addr, Cap::of_value(*value));
     }
+    // The count's contract says that every granule's value is lawful.
     let _count = ram.granule_count();
     Ok(ram)
 }

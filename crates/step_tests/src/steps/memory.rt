@@ -38,7 +38,7 @@ fn stored_value(rt: &impl Abort, stored: Stored) -> Option<Cap> {
 /// Permission bits, the address, the access, what is stored, and the cause. Bounds are
 /// [0x8000_0000, 0x8000_0080), of which RAM has the first 64 bytes. Where two checks fail the one
 /// that is earlier in the table is answered.
-const ACCESSES: [(u32, u64, Access, Stored, u8); 23] = [
+const ACCESSES: [(u32, u64, Access, Stored, u8); 26] = [
     (0x4, 0x8000_0000, WORD, Stored::Nothing, 0),
     (0x8, 0x8000_007e, WORD, Stored::Nothing, 4),
     (0x4, 0x8000_0000, STORED_WORD, Stored::Nothing, 5),
@@ -62,6 +62,10 @@ const ACCESSES: [(u32, u64, Access, Stored, u8); 23] = [
     (0x4, 0x8000_0000, Access::Swap, Stored::Untagged, 5),
     (0xc, 0x8000_0000, Access::Swap, Stored::Global, 6),
     (0xc, 0x8000_0000, Access::Swap, Stored::Untagged, 0),
+    // Only a store of a capability asks for what its value needs.
+    (0x4, 0x8000_0000, WORD, Stored::Local, 0),
+    (0x8, 0x8000_0000, STORED_WORD, Stored::Local, 0),
+    (0x4, 0x8000_0000, Access::LoadCap, Stored::Global, 0),
 ];
 
 #[test]
