@@ -36,6 +36,18 @@ fn tags_are_loaded_by_permission(rt: HostRuntime) {
     }
 }
 
+/// A word of a reserved type is untagged, and so nothing is loaded through it.
+#[test]
+fn reserved_types_load_nothing(rt: HostRuntime) {
+    let (cd, c1) = (Reg::new(7), Reg::new(5));
+    for upper in [0x0014_0000_1405_8004, 0x0014_0000_1c05_8004] {
+        let hart = hart_with(&rt, Given::Word(upper, 0x8000_0000), NULL);
+        let granule = value(&rt, GLOBAL);
+        let instr = Instr::Lc { cd, c1, imm: 0 };
+        traps(&rt, rt.alloc(), instr, hart, granule, (1, 5));
+    }
+}
+
 /// The permission bits of c5, the value of c6, and what is stored.
 #[test]
 fn capabilities_are_stored(rt: HostRuntime) {

@@ -34,9 +34,18 @@ const CODE_AT_14: Given = Given::Sealed(0x1000_0000, 16, 0x1000_000e, 0x102, 5);
 
 const CODE_AT_6: Given = Given::Sealed(0x1000_0000, 16, 0x1000_0006, 0x102, 5);
 
+/// Untagged code and data with CInvoke of the reserved types 2^18 - 3 and 2^18 - 4.
+const CODE_3: Given = Given::Word(0x0102_0000_1405_8004, 0x1000_0000);
+
+const DATA_3: Given = Given::Word(0x0104_0000_1405_8004, 0x8000_0000);
+
+const CODE_4: Given = Given::Word(0x0102_0000_1c05_8004, 0x1000_0000);
+
+const DATA_4: Given = Given::Word(0x0104_0000_1c05_8004, 0x8000_0000);
+
 /// The code in c5, the data in c6, and the trap. Where two checks fail the one that is earlier in
 /// the table is answered.
-const INVOKES: [(Given, Given, Trapped); 16] = [
+const INVOKES: [(Given, Given, Trapped); 20] = [
     (CODE_WORD, DATA_WORD, (1, 5)),
     (UNSEALED_CODE, DATA_WORD, (1, 6)),
     (UNSEALED_CODE, UNSEALED_DATA, (2, 5)),
@@ -61,6 +70,10 @@ const INVOKES: [(Given, Given, Trapped); 16] = [
     (CODE_PAST, DATA, (8, 5)),
     (CODE_AT_14, DATA, (8, 5)),
     (CODE_AT_6, DATA, (9, 5)),
+    (CODE_3, DATA_3, (1, 5)),
+    (CODE_4, DATA_4, (1, 5)),
+    (CODE, DATA_3, (1, 6)),
+    (CODE, DATA_4, (1, 6)),
 ];
 
 #[test]

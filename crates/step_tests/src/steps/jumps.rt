@@ -133,6 +133,9 @@ fn jumps_through_registers_are_checked_in_order(rt: HostRuntime) {
         // A sentry's word without the tag, with an offset.
         (Given::Word(0x0002_0000_0c05_8004, 0x1000_0000), 4, 1),
         (Given::Int(0x1000_0000), 0, 1),
+        // Words of the two reserved types.
+        (Given::Word(0x0002_0000_1405_8004, 0x1000_0000), 0, 1),
+        (Given::Word(0x0002_0000_1c05_8004, 0x1000_0000), 0, 1),
         (Given::Sealed(0x1000_0000, 16, 0x1000_0000, 0x4, 5), 0, 2),
         (Given::Sealed(0x1000_0000, 16, 0x1000_0000, 0x2, 5), 0, 2),
         (ENTRY, 4, 2),

@@ -14,11 +14,16 @@ const FLAGGED_WORD: Given = Given::Word(0xffff_2000_0405_8004, 0x8000_0000);
 /// A word whose exponent is above the greatest one.
 const LARGEST_WORD: Given = Given::Word(0x4000, 0);
 
+/// K's word with the reserved types 2^18 - 3 and 2^18 - 4.
+const RESERVED_3: Given = Given::Word(0xffff_0000_1405_8004, 0x8000_0000);
+
+const RESERVED_4: Given = Given::Word(0xffff_0000_1c05_8004, 0x8000_0000);
+
 /// Each reading with the value of c5, and the number that it writes to c7.
 #[test]
 fn fields_are_read(rt: HostRuntime) {
     let (cd, c1) = (Reg::new(7), Reg::new(5));
-    let rows: [(Instr, Given, u64); 22] = [
+    let rows: [(Instr, Given, u64); 24] = [
         (Instr::CGetPerm { cd, c1 }, PAIRED, 0x15),
         (Instr::CGetType { cd, c1 }, PAIRED, 6),
         (Instr::CGetBase { cd, c1 }, PAIRED, 0x8000_0000),
@@ -34,6 +39,16 @@ fn fields_are_read(rt: HostRuntime) {
         (Instr::CGetTag { cd, c1 }, K, 1),
         (Instr::CGetSealed { cd, c1 }, K, 0),
         (Instr::CGetType { cd, c1 }, K, 0xffff_ffff_ffff_ffff),
+        (
+            Instr::CGetType { cd, c1 },
+            RESERVED_3,
+            0xffff_ffff_ffff_fffd,
+        ),
+        (
+            Instr::CGetType { cd, c1 },
+            RESERVED_4,
+            0xffff_ffff_ffff_fffc,
+        ),
         (Instr::CGetPerm { cd, c1 }, K, 0x7_8fff),
         (Instr::CGetFlags { cd, c1 }, FLAGGED_WORD, 1),
         (Instr::CGetSealed { cd, c1 }, FLAGGED_WORD, 0),
