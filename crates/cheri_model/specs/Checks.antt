@@ -104,7 +104,7 @@ access_table auth reg ea kind stored granules =
     ∷ check_line (is_store kind && not (has_permission auth permission.STORE)) cause.STORE reg
     ∷ check_line (stores_capability kind && is_tagged stored && not (has_permission auth permission.STORE_CAP)) cause.STORE_CAP reg
     ∷ check_line (stores_capability kind && is_tagged stored && not (is_global stored) && not (has_permission auth permission.STORE_LOCAL))
-        cause.STORE_LOCAL reg
+    cause.STORE_LOCAL reg
     ∷ check_line (not (in_bounds auth ea (size_of kind))) cause.LENGTH reg
     ∷ check_line (not (ea % size_of kind == 0)) cause.ALIGNMENT reg
     ∷ check_line (not (is_in_ram granules ea (size_of kind))) cause.PLACE reg

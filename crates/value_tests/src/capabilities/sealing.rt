@@ -161,6 +161,53 @@ fn unseals_under_authority(rt: HostRuntime) {
     }
 }
 
+/// The untagged word of this upper half at an address.
+fn untagged(upper: u64, addr: u64) -> Cap {
+    Cap::from_word(u128::from(upper) << 64 | u128::from(addr))
+}
+
+/// Words of K with a reserved type, and words with one and Seal and Unseal, that point at 5.
+const RESERVED: [(u64, u64, u64, u64); 2] = [
+    (
+        0xffff_0000_1405_8004,
+        0x3_fffd,
+        0xffff_ffff_ffff_fffd,
+        0x0280_0000_1001_8002,
+    ),
+    (
+        0xffff_0000_1c05_8004,
+        0x3_fffc,
+        0xffff_ffff_ffff_fffc,
+        0x0280_0000_1801_8002,
+    ),
+];
+
+/// A word of a reserved type is not sealed and not unsealed, and is no authority for either.
+#[test]
+fn reserved_types_stay_untagged(rt: HostRuntime) {
+    let k = sixteen_bytes(&rt);
+    let sealer = authority(&rt, 0, 0x4_0000, 5, SEAL);
+    for (upper, otype, number, authority_upper) in RESERVED {
+        let word = untagged(upper, 0x8000_0000);
+        let unsealer = authority(&rt, 0, 0x8_0000, otype, UNSEAL + GLOBAL);
+        let hostile = untagged(authority_upper, 5);
+        assert_eq!(rt; word.otype(), number, "type {otype:x}");
+        let rows = [
+            (word.seal(sealer), 0xffff_1fff_d405_8004),
+            (word.unseal(unsealer), 0xffff_0000_0405_8004),
+            (k.seal(hostile), 0xffff_1fff_d405_8004),
+            (k.seal(sealer).unseal(hostile), 0xfffe_0000_0405_8004),
+        ];
+        for (left, expected) in rows {
+            assert_eq!(rt;
+                tagged_word(left),
+                (expected, 0x8000_0000, false),
+                "type {otype:x}"
+            );
+        }
+    }
+}
+
 /// Only Execute makes a sentry.
 #[test]
 fn seals_entries(rt: HostRuntime) {
