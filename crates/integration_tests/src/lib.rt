@@ -13,4 +13,6 @@ mod reporting;
 #[cfg(test)]
 mod runs;
 #[cfg(test)]
+mod samples;
+#[cfg(test)]
 mod watches;

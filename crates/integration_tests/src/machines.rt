@@ -3,6 +3,7 @@
 
 ghost use Rattle.std.specs.Prelude.{◌≡◌};
 
+use crate::samples::TWO_HARTS;
 use listings::read_listing;
 use machine::{Blanks, BootFault, Core, Machine, Naming, OpenFault, StepFault, run_order};
 use std::alloc::Global;
@@ -10,10 +11,6 @@ use std::marker::Brand;
 use std::process::Abort;
 use std::sync::Wait;
 use std::test::Fail;
-
-/// Two harts that may each run two instructions.
-const TWO_HARTS: &[u8] = b".hart 0x10000000 16 0x10000000 execute\n\
-.hart 0x10000000 16 0x10000000 execute\naddi c6, c0, 1\necall\n";
 
 /// The core of the two harts after an order, with room for a trace of this many entries.
 fn core_after(rt: &impl Abort, alloc: Global, order: &[u8], limit: u32) -> Core {
@@ -65,8 +62,12 @@ fn a_machine_steps_the_hart_of_a_share(rt: HostRuntime) -> Result<(), Fail> {
 
 #[test]
 fn refused_memory_is_reported(rt: HostRuntime) -> Result<(), Fail> {
-    let Ok(image) = read_listing(rt.alloc(), TWO_HARTS) else {
-        return Ok(());
+    let image = match read_listing(rt.alloc(), TWO_HARTS) {
+        Ok(image) => image,
+        Err(fault) => {
+            assert_eq!(rt; fault.kind.number(), 10);
+            return Ok(());
+        }
     };
     let (core, refused) = match run_order(rt.alloc(), image, &[1], 4) {
         Ok(ran) => ran,

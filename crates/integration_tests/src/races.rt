@@ -4,7 +4,7 @@
 ghost use Rattle.std.specs.Prelude.{◌≡◌};
 
 use cheri_model::{Image, Reg};
-use gates::{EndsAt, Meeting};
+use gates::{EndsAt, Meeting, Tally};
 use harts::{Gate, HartReport, RunFault, Shared, Why, hart_loop, run_harts};
 use listings::read_listing;
 use machine::{Blanks, BootFault, Core, Machine, Naming, StepFault, run_order};
@@ -31,12 +31,24 @@ amoswap.c c7, c6, c5\necall\n";
 /// The word of hart 1's capability.
 const CAPABILITY: u128 = 0x0005000004058004_0000000080000000;
 
-/// Eight harts that may each run two instructions.
-const EIGHT_HARTS: &[u8] = b".hart 0x10000000 16 0x10000000 execute\n\
-.hart 0x10000000 16 0x10000000 execute\n.hart 0x10000000 16 0x10000000 execute\n\
-.hart 0x10000000 16 0x10000000 execute\n.hart 0x10000000 16 0x10000000 execute\n\
-.hart 0x10000000 16 0x10000000 execute\n.hart 0x10000000 16 0x10000000 execute\n\
-.hart 0x10000000 16 0x10000000 execute\naddi c6, c0, 1\necall\n";
+/// Eight harts that are each like hart 0 of the two above.
+const EIGHT_HARTS: &[u8] = b".hart 0x10000000 16 0x10000000 execute+load\n\
+.set c5 cap 0x80000000 16 0x80000000 all\n.set c6 int 1\n\
+.hart 0x10000000 16 0x10000000 execute+load\n\
+.set c5 cap 0x80000000 16 0x80000000 all\n.set c6 int 1\n\
+.hart 0x10000000 16 0x10000000 execute+load\n\
+.set c5 cap 0x80000000 16 0x80000000 all\n.set c6 int 1\n\
+.hart 0x10000000 16 0x10000000 execute+load\n\
+.set c5 cap 0x80000000 16 0x80000000 all\n.set c6 int 1\n\
+.hart 0x10000000 16 0x10000000 execute+load\n\
+.set c5 cap 0x80000000 16 0x80000000 all\n.set c6 int 1\n\
+.hart 0x10000000 16 0x10000000 execute+load\n\
+.set c5 cap 0x80000000 16 0x80000000 all\n.set c6 int 1\n\
+.hart 0x10000000 16 0x10000000 execute+load\n\
+.set c5 cap 0x80000000 16 0x80000000 all\n.set c6 int 1\n\
+.hart 0x10000000 16 0x10000000 execute+load\n\
+.set c5 cap 0x80000000 16 0x80000000 all\n.set c6 int 1\n\
+amoswap.c c7, c6, c5\necall\n";
 
 /// Eight harts that never stop.
 const EIGHT_LOOPS: &[u8] = b".hart 0x10000000 16 0x10000000 execute\n\
@@ -101,7 +113,7 @@ fn looped<J: Naming, G: Gate, R: Abort + Wait>(
 }
 
 /// Compares a core with the run of its own trace's order on one thread.
-fn is_replayed(rt: &impl Abort, alloc: Global, core: &Core, listing: &[u8], limit: u32) {
+fn assert_replayed(rt: &impl Abort, alloc: Global, core: &Core, listing: &[u8], limit: u32) {
     let mut order = Vec::new(alloc);
     for entry in core.view().entries {
         order.push(entry.hart).expect(rt, "there is memory");
@@ -115,7 +127,7 @@ fn is_replayed(rt: &impl Abort, alloc: Global, core: &Core, listing: &[u8], limi
 }
 
 /// Checks what two swaps leave, where this hart went first.
-fn is_swapped(rt: &impl Abort, core: &Core, first: u8) {
+fn assert_swapped(rt: &impl Abort, core: &Core, first: u8) {
     let view = core.view();
     assert_eq!(rt; view.harts.len(), 2);
     assert!(rt; view.ram.granule_count() > 0);
@@ -141,7 +153,7 @@ fn harts_meet_and_swap_both_ways_round(rt: HostRuntime) -> Result<(), Fail> {
         let entries = core.view().entries;
         assert_eq!(rt; entries.len(), 4);
         assert_eq!(rt; entries[0].hart, first);
-        is_swapped(&rt, &core, first);
+        assert_swapped(&rt, &core, first);
         assert_eq!(rt; reports.len(), 2);
         for report in reports {
             assert_eq!(rt; report.steps, 2);
@@ -156,12 +168,12 @@ fn swaps_happen_in_the_order_of_the_trace(rt: HostRuntime) -> Result<(), Fail> {
     for order in [[0, 1], [1, 0]] {
         let image = image_of(&rt, rt.alloc(), SWAP);
         let (core, _) = run_order(rt.alloc(), image, &order, 100).expect(&rt, "it boots");
-        is_swapped(&rt, &core, order[0]);
+        assert_swapped(&rt, &core, order[0]);
     }
     let (core, _) = run(&rt, rt.alloc(), Runner::Race, SWAP, 2, 100, &EndsAt(&[]));
     let entries = core.view().entries;
     assert_eq!(rt; entries.len(), 4);
-    is_swapped(&rt, &core, entries[0].hart);
+    assert_swapped(&rt, &core, entries[0].hart);
     Ok(())
 }
 
@@ -172,7 +184,7 @@ fn harts_are_stopped_at_each_turn(rt: HostRuntime) -> Result<(), Fail> {
             for one in 0..3u32 {
                 let ends = [zero, one];
                 let (core, reports) = run(&rt, rt.alloc(), runner, SWAP, 3, 100, &EndsAt(&ends));
-                is_replayed(&rt, rt.alloc(), &core, SWAP, 100);
+                assert_replayed(&rt, rt.alloc(), &core, SWAP, 100);
                 assert_eq!(rt; reports.len(), 2);
                 for (report, end) in reports.iter().zip(&ends) {
                     assert_eq!(rt; report.steps, *end);
@@ -190,7 +202,7 @@ fn full_traces_refuse(rt: HostRuntime) -> Result<(), Fail> {
     for runner in [Runner::Race, Runner::Loops] {
         for (limit, most, fewest) in [(3, 2, 1), (1, 1, 0)] {
             let (core, reports) = run(&rt, rt.alloc(), runner, SWAP, 3, limit, &EndsAt(&[]));
-            is_replayed(&rt, rt.alloc(), &core, SWAP, limit);
+            assert_replayed(&rt, rt.alloc(), &core, SWAP, limit);
             assert_eq!(rt; core.view().entries.len(), limit as usize);
             assert_eq!(rt; reports.len(), 2);
             let (a, b) = (reports[0], reports[1]);
@@ -200,6 +212,21 @@ fn full_traces_refuse(rt: HostRuntime) -> Result<(), Fail> {
             assert!(rt; fewer.why == Why::Refused(StepFault::TraceFull));
             assert!(rt; limit == 3 || more.why == Why::Refused(StepFault::TraceFull));
             assert!(rt; limit == 1 || more.why == Why::Stopped);
+        }
+    }
+    Ok(())
+}
+
+#[test]
+fn a_gate_is_told_of_each_step_and_of_no_refusal(rt: HostRuntime) -> Result<(), Fail> {
+    for runner in [Runner::Race, Runner::Loops] {
+        // with room for 3 entries one hart is refused its second turn, with room for 1 both are
+        for (limit, refused) in [(3, 1), (1, 2)] {
+            let gate = Tally::new();
+            let (core, _reports) = run(&rt, rt.alloc(), runner, SWAP, 3, limit, &gate);
+            assert_eq!(rt; core.view().entries.len(), limit as usize);
+            assert_eq!(rt; gate.told(), limit);
+            assert_eq!(rt; gate.asked(), limit + refused);
         }
     }
     Ok(())
@@ -223,11 +250,13 @@ fn eight_harts_are_counted(rt: HostRuntime) -> Result<(), Fail> {
     for runner in [Runner::Race, Runner::Loops] {
         let gate = EndsAt(&ends);
         let (core, reports) = run(&rt, rt.alloc(), runner, EIGHT_HARTS, 3, 100, &gate);
-        is_replayed(&rt, rt.alloc(), &core, EIGHT_HARTS, 100);
+        assert_replayed(&rt, rt.alloc(), &core, EIGHT_HARTS, 100);
         assert_eq!(rt; core.view().entries.len(), 7);
         assert_eq!(rt; reports.len(), 8);
         for (report, steps) in reports.iter().zip(&ends) {
             assert_eq!(rt; report.steps, *steps);
+            let why = if *steps < 2 { Why::Gate } else { Why::Stopped };
+            assert!(rt; report.why == why);
         }
     }
     Ok(())
@@ -245,7 +274,7 @@ fn a_hundred_thousand_steps_are_replayed(rt: HostRuntime) -> Result<(), Fail> {
         100_000,
         &gate,
     );
-    is_replayed(&rt, rt.alloc(), &core, EIGHT_LOOPS, 100_000);
+    assert_replayed(&rt, rt.alloc(), &core, EIGHT_LOOPS, 100_000);
     assert_eq!(rt; core.view().entries.len(), 100_000);
     assert_eq!(rt; reports.len(), 8);
     for report in reports {
@@ -257,8 +286,12 @@ fn a_hundred_thousand_steps_are_replayed(rt: HostRuntime) -> Result<(), Fail> {
 
 #[test]
 fn refused_memory_is_reported(rt: HostRuntime) -> Result<(), Fail> {
-    let Ok(image) = read_listing(rt.alloc(), SWAP) else {
-        return Ok(());
+    let image = match read_listing(rt.alloc(), SWAP) {
+        Ok(image) => image,
+        Err(fault) => {
+            assert_eq!(rt; fault.kind.number(), 10);
+            return Ok(());
+        }
     };
     match run_harts(&rt, rt.alloc(), image, 2, 100, &EndsAt(&[])) {
         Ok((core, reports)) => {

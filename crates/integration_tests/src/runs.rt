@@ -1,6 +1,7 @@
 //! Runs of orders: a full trace, refused steps by number and name, and PCC at the end of its bounds
 //! and of the code.
 
+use crate::samples::{FIRST, TWO_HARTS};
 use cap_ops::Cap;
 use cheri_model::{HartImage, Image, Instr, Outcome, Perms, Reg, Trap, Value};
 use listings::read_listing;
@@ -8,10 +9,6 @@ use machine::{BootFault, Core, GREATEST_TRACE_LIMIT, StepFault, run_order};
 use std::alloc::Global;
 use std::process::Abort;
 use std::test::Fail;
-
-/// Two harts that may each run two instructions.
-const TWO_HARTS: &[u8] = b".hart 0x10000000 16 0x10000000 execute\n\
-.hart 0x10000000 16 0x10000000 execute\naddi c6, c0, 1\necall\n";
 
 /// The image of a listing that is known to be good.
 fn image_of(rt: &impl Abort, alloc: Global, listing: &[u8]) -> Image {
@@ -60,6 +57,25 @@ fn orders_are_refused_where_a_step_is(rt: HostRuntime) -> Result<(), Fail> {
     let (core, refused) = run_order(rt.alloc(), image, &[0, 1, 1, 0], 4).expect(&rt, "it boots");
     assert!(rt; refused.is_none());
     assert_eq!(rt; core.view().entries.len(), 4);
+    Ok(())
+}
+
+#[test]
+fn a_first_run_ends_where_a_step_is_refused(rt: HostRuntime) -> Result<(), Fail> {
+    let refusals: [(&[u8], u32, usize, &str); 3] = [
+        (&[0, 0, 0, 0, 0], 100_000, 4, "3 HartStopped"),
+        (&[0, 2], 100_000, 1, "1 NoSuchHart"),
+        (&[0, 0], 1, 1, "2 TraceFull"),
+    ];
+    for (order, limit, place, text) in refusals {
+        let image = image_of(&rt, rt.alloc(), FIRST);
+        let (core, refused) = run_order(rt.alloc(), image, order, limit).expect(&rt, "it boots");
+        let (at, fault) = refused.ok_or("no step is refused")?;
+        let printed = format!(in rt.alloc(); "{fault}")?;
+        assert_eq!(rt; at, place);
+        assert_eq!(rt; printed.as_str(), text);
+        assert_eq!(rt; core.view().entries.len(), place);
+    }
     Ok(())
 }
 

@@ -2,21 +2,15 @@
 
 ghost use Rattle.std.specs.Prelude.{◌≡◌};
 
+use crate::samples::{FIRST, watch_of};
 use listings::read_listing;
-use machine::{Blanks, Core, Look, Machine, Naming, Watch, WatchFault};
+use machine::{Blanks, Core, Look, Machine, Naming, Watch};
 use std::alloc::Global;
 use std::marker::Brand;
 use std::process::Abort;
 use std::sync::Wait;
 use std::test::Fail;
 use std::thread;
-
-/// Two harts that bound a capability, read its length and stop, with 4,096 bytes of memory.
-const FIRST: &[u8] = b".hart 0x10000000 16 0x10000000 execute+load\n\
-.set c5 cap 0x80000000 4096 0x80000000 load+store\n\
-.hart 0x10000000 16 0x10000000 execute+load\n\
-.set c5 cap 0x80000000 4096 0x80000000 load+store\n\
-addi c6, c0, 100\ncsetbounds c7, c5, c6\ncgetlen c8, c7\necall\n";
 
 /// How often a look is tried.
 const TRIES: u32 = 1_000_000;
@@ -97,17 +91,6 @@ fn looked_twice<J: Naming, R: Wait + Abort>(
     drop(kept);
     let _core = machine.close(rt, shares);
     Ok(())
-}
-
-/// A watch, asked for at most eight times.
-fn watch_of<J: Naming>(machine: &mut Machine<J>) -> Option<Watch<J>> {
-    for _ in 0..8 {
-        match machine.watch() {
-            Ok(watch) => return Some(watch),
-            Err(WatchFault::NoPlace | WatchFault::NoMemory) => thread::yield_now(),
-        }
-    }
-    None
 }
 
 /// A look of a watch, tried again while there is none.

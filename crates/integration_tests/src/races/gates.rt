@@ -1,8 +1,8 @@
-//! Gates of the tests: one at which two harts meet, and one that ends each hart at a turn of its
-//! own.
+//! Gates of the tests: one at which two harts meet, one that ends each hart at a turn of its own,
+//! and one that counts its calls.
 
 use harts::{Gate, Turn};
-use std::sync::atomic::{AtomicBool, Ordering};
+use std::sync::atomic::{AtomicBool, AtomicU32, Ordering};
 use std::thread;
 
 /// How often a gate looks for a flag before it gives up.
@@ -112,4 +112,41 @@ impl Gate for EndsAt<'_> {
     }
 
     fn after(&self, _hart: u8, _turn: u32) {}
+}
+
+/// A gate that ends no hart, and counts how often it is asked and told.
+#[derive(Drop)]
+pub(super) struct Tally {
+    asked: AtomicU32,
+    told: AtomicU32,
+}
+
+impl Tally {
+    pub(super) fn new() -> Tally {
+        Tally {
+            asked: AtomicU32::new(0),
+            told: AtomicU32::new(0),
+        }
+    }
+
+    /// How often a turn was asked for.
+    pub(super) fn asked(&self) -> u32 {
+        self.asked.load(Ordering::SeqCst)
+    }
+
+    /// How often a step was told.
+    pub(super) fn told(&self) -> u32 {
+        self.told.load(Ordering::SeqCst)
+    }
+}
+
+impl Gate for Tally {
+    fn before(&self, _hart: u8, _turn: u32) -> Turn {
+        self.asked.fetch_add(1, Ordering::SeqCst);
+        Turn::Go
+    }
+
+    fn after(&self, _hart: u8, _turn: u32) {
+        self.told.fetch_add(1, Ordering::SeqCst);
+    }
 }

@@ -5,7 +5,7 @@ ghost use Rattle.std.specs.Prelude.{◌≡◌};
 
 use super::gates::{EndsAt, Flag};
 use super::viewers::{Follower, Keeper, Spotter, Viewed, look_of};
-use super::{EIGHT_LOOPS, SWAP, image_of, is_replayed};
+use super::{EIGHT_LOOPS, SWAP, assert_replayed, image_of};
 use harts::{Gate, HartReport, Shared, Viewer, Why, run_watched};
 use machine::{Blanks, Core, Machine, Naming, Watch};
 use std::alloc::Global;
@@ -110,7 +110,7 @@ fn view_race<G: Gate + Sync, V: Viewer, R: Abort + Threads + Wait + Sync>(
 }
 
 /// Checks that both harts of a race have stopped, after two steps each.
-fn are_stopped(rt: &impl Abort, core: &Core, reports: &[HartReport]) {
+fn assert_stopped(rt: &impl Abort, core: &Core, reports: &[HartReport]) {
     assert_eq!(rt; core.view().entries.len(), 4);
     assert_eq!(rt; reports.len(), 2);
     for report in reports {
@@ -125,7 +125,7 @@ fn looks_begin_with_earlier_looks(rt: HostRuntime) -> Result<(), Fail> {
         let mut viewer = Follower::new(rt.alloc(), 2_000);
         let gate = EndsAt(&[]);
         let (core, reports) = view_race(&rt, rt.alloc(), EIGHT_LOOPS, 250, &gate, &mut viewer);
-        is_replayed(&rt, rt.alloc(), &core, EIGHT_LOOPS, 100_000);
+        assert_replayed(&rt, rt.alloc(), &core, EIGHT_LOOPS, 100_000);
         assert_eq!(rt; core.view().entries.len(), 2_000);
         assert_eq!(rt; reports.len(), 8);
         if viewer.was_called {
@@ -148,7 +148,7 @@ fn a_viewer_looks_beside_the_race(rt: HostRuntime) -> Result<(), Fail> {
         let (core, reports) = view_race(&rt, rt.alloc(), SWAP, 2, &gate, &mut viewer);
         if viewer.was_called {
             assert!(rt; gate.step_seen.is_set() && !gate.gave_up.is_set());
-            are_stopped(&rt, &core, reports.as_slice());
+            assert_stopped(&rt, &core, reports.as_slice());
             return Ok(());
         }
     }
@@ -161,7 +161,7 @@ fn a_kept_look_stays_as_it_is(rt: HostRuntime) -> Result<(), Fail> {
         let mut viewer = Keeper::new(rt.alloc());
         let gate = EndsAt(&[]);
         let (core, reports) = view_race(&rt, rt.alloc(), SWAP, 2, &gate, &mut viewer);
-        are_stopped(&rt, &core, reports.as_slice());
+        assert_stopped(&rt, &core, reports.as_slice());
         if viewer.was_called {
             assert!(rt; viewer.was_kept && !viewer.has_changed);
             return Ok(());

@@ -6,6 +6,24 @@ use crate::program::{perform, report_fault};
 use std::str;
 use std::test::Fail;
 
+/// What a race of the first listing leaves where both harts take all four instructions: each has
+/// the registers that its hart has in a run of these four.
+const BOTH_HALTED: &str = "
+hart 0 halted
+pcc 1 0006000004058004_000000001000000c 0000000010000000 00000000010000010 00006 unsealed
+c5 1 000c000000018004_0000000080000000 0000000080000000 00000000080001000 0000c unsealed
+c6 0 0000000000000000_0000000000000064
+c7 1 000c000004188004_0000000080000000 0000000080000000 00000000080000064 0000c unsealed
+c8 0 0000000000000000_0000000000000064
+hart 1 halted
+pcc 1 0006000004058004_000000001000000c 0000000010000000 00000000010000010 00006 unsealed
+c5 1 000c000000018004_0000000080000000 0000000080000000 00000000080001000 0000c unsealed
+c6 0 0000000000000000_0000000000000064
+c7 1 000c000004188004_0000000080000000 0000000080000000 00000000080000064 0000c unsealed
+c8 0 0000000000000000_0000000000000064
+end
+";
+
 /// Whichever hart goes first, each of the two takes its four instructions, and halts.
 #[test]
 fn both_harts_halt(rt: HostRuntime) -> Result<(), Fail> {
@@ -17,10 +35,49 @@ fn both_harts_halt(rt: HostRuntime) -> Result<(), Fail> {
         assert!(rt;
             printed.starts_with("cheri-sim report 1\nimage harts=2 ram=4096 code=4\nentries 8\n")
         );
-        assert!(rt; printed.contains("\nhart 0 halted\n"));
-        assert!(rt; printed.contains("\nhart 1 halted\n"));
-        assert!(rt; printed.ends_with("\nend\n"));
+        assert!(rt; printed.ends_with(BOTH_HALTED), "{printed}");
     }
+    Ok(())
+}
+
+/// One instruction, to which a hart jumps back for ever.
+const LOOP: &str = "\
+.ram 16
+.hart 0x10000000 4 0x10000000 execute
+cjal c0, @0
+";
+
+/// The same for two harts.
+const TWO_LOOPS: &str = "\
+.ram 16
+.hart 0x10000000 4 0x10000000 execute
+.hart 0x10000000 4 0x10000000 execute
+cjal c0, @0
+";
+
+/// A race's trace has room for 100,000 entries, which one hart can fill alone.
+#[test]
+fn one_hart_takes_all_turns(rt: HostRuntime) -> Result<(), Fail> {
+    let words = ["race", "listing", "--turns", "100000"];
+    let raced = answer(&rt, &words, &[("listing", LOOP)], "")?;
+    let printed = str::from_utf8(raced.printed.as_slice())?;
+    assert_eq!(rt; (raced.status, raced.reported.len()), (0, 0));
+    assert!(rt; printed.contains("\nentries 100000\n"));
+    assert!(rt; printed.contains("\n99999 hart=0 pc=0000000010000000 done\nhart 0 running\n"));
+    Ok(())
+}
+
+/// Two harts that would take 100,000 turns each stop where the trace is full.
+#[test]
+fn two_harts_fill_one_trace(rt: HostRuntime) -> Result<(), Fail> {
+    let words = ["race", "listing", "--turns", "100000"];
+    let raced = answer(&rt, &words, &[("listing", TWO_LOOPS)], "")?;
+    let printed = str::from_utf8(raced.printed.as_slice())?;
+    assert_eq!(rt; (raced.status, raced.reported.len()), (0, 0));
+    assert!(rt; printed.contains("\nentries 100000\n"));
+    assert!(rt; printed.contains("\n99999 hart="));
+    assert!(rt; printed.contains("\nhart 0 running\n"));
+    assert!(rt; printed.contains("\nhart 1 running\n"));
     Ok(())
 }
 
@@ -37,9 +94,9 @@ fn turns_end(rt: HostRuntime) -> Result<(), Fail> {
     Ok(())
 }
 
-/// A watched race prints the same report, and then how many of its 100 looks showed the machine.
+/// A watched race prints the same report, and then a line with a number of looks, at most 100.
 #[test]
-fn looks_are_counted(rt: HostRuntime) -> Result<(), Fail> {
+fn at_most_a_hundred_looks_are_told(rt: HostRuntime) -> Result<(), Fail> {
     let words = ["race", "listing", "--watch", "--turns", "4"];
     let raced = answer(&rt, &words, &[("listing", FIRST)], "")?;
     let printed = str::from_utf8(raced.printed.as_slice())?;
