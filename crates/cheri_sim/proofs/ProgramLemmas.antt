@@ -21,7 +21,7 @@ use Rattle.reports.specs.Report.{line}
 use Rattle.cheri_sim.specs.Files.{KnownFiles, AreBytesOf}
 use Rattle.cheri_sim.specs.Printing.{Prints}
 use Rattle.cheri_sim.specs.Program.{Begins, BeginsAlone, BeginsAnswer, Fails, FailsAlone, FailsWith, IsQuiet, IsRaceAnswer, IsRunAnswer}
-use Rattle.cheri_sim.specs.Races.{IsRace, IsUnraced}
+use Rattle.cheri_sim.specs.Races.{IsRace, IsUnraced, TellsLooks}
 use Rattle.cheri_sim.specs.Runs.{IsShown, IsUnprinted}
 use Rattle.cheri_sim.proofs.FaultLemmas.{listing_refused}
 
@@ -146,11 +146,13 @@ pub race_no_usage : {T : Type 0} (bytes : List ℕ) (turns : ℕ) (result : Resu
 race_no_usage {T} bytes turns result old new is usage =
     absurd (subst (λ (r : Result T Fault). IfErr r (λ fault. IsUnraced bytes turns old new fault)) usage is)
 
--- a race that is not watched leaves standard error alone
-pub race_is_quiet : (listing : List ℕ) (turns : ℕ) (watch : Bool) (old new : Option (List ℕ)) → (watch ≡ false → new ≡ old) →
-    IsQuiet (Some (Race listing turns watch)) old new
-race_is_quiet listing turns true old new same = tt
-race_is_quiet listing turns false old new same = same refl
+-- what standard error got of a race that was printed
+pub race_is_quiet : {T : Type 0} (listing : List ℕ) (turns : ℕ) (watch : Bool) (result : Result T Fault) (old new : Option (List ℕ)) →
+    (watch ≡ false → new ≡ old) → (watch ≡ true → OnOk result (TellsLooks old new)) →
+    OnOk result (IsQuiet (Some (Race listing turns watch)) old new)
+race_is_quiet listing turns true result old new same told = told refl
+race_is_quiet listing turns false (Ok done) old new same told = same refl
+race_is_quiet listing turns false (Err fault) old new same told = tt
 
 pub ruleset race_answers = (nothing_printed, race_answers_for, race_fails, race_no_usage, race_is_quiet)
 

@@ -1,5 +1,5 @@
 -- What a race answers, as what was printed of it.
-use Rattle.std.proofs.Common.{◌≡◌, ℕ, List, Option, Ok, Err, Result, length, refl, inl, inr}
+use Rattle.std.proofs.Common.{◌≡◌, ◌≤◌, ℕ, List, Option, Ok, Err, Result, length, refl, inl, inr}
 use Rattle.std.specs.Prelude.{OnOk, IfErr}
 use Rattle.std.specs.Io.KnownBytes.{Appends}
 use Rattle.listings.specs.declared.fault.ListingFault.{ListingFault}
@@ -7,7 +7,8 @@ use Rattle.listings.specs.Faults.{Gives}
 use Rattle.listings.specs.Meaning.{listing_meaning}
 use Rattle.cheri_model.specs.Image.{ImageParts}
 use Rattle.cheri_model.specs.Replay.{IsReplay}
-use Rattle.reports.specs.Report.{report}
+use Rattle.reports.specs.Report.{line, report}
+use Rattle.reports.specs.Sinks.{TakesBeginning}
 use Rattle.machine.specs.Cores.{CoreParts}
 use Rattle.harts.specs.declared.faults.RunFault.{RunFault}
 use Rattle.harts.specs.declared.faults.RunFault.TheVariants as race
@@ -17,7 +18,8 @@ use Rattle.cheri_sim.specs.declared.faults.Fault.{Fault}
 use Rattle.cheri_sim.specs.declared.faults.Fault.TheVariants as faults
 use Rattle.cheri_sim.specs.Faults.{listing_fault, race_fault}
 use Rattle.cheri_sim.specs.Printing.{IsUnwritten, Prints}
-use Rattle.cheri_sim.specs.Races.{IsRace, IsUnraced}
+use Rattle.cheri_sim.specs.declared.races.TheConstants.{LOOKS}
+use Rattle.cheri_sim.specs.Races.{IsRace, IsUnraced, TellsLooks, looks_text}
 use Rattle.cheri_sim.proofs.FaultLemmas.{listing_refused}
 
 -- a race whose listing is refused
@@ -82,5 +84,10 @@ pub race_unprinted : {T : Type 0} (listing : List ℕ) (turns : ℕ) (image : Im
 race_unprinted listing turns image core reports text (Ok done) old new meaning same replay are is begun = tt
 race_unprinted listing turns image core reports text (Err fault) old new meaning same replay are is begun =
     race_fault_printed listing turns text fault old new (race_of listing turns image core reports text meaning same replay are is) begun
+
+-- its looks were told
+pub tells_looks : (looks : ℕ) (old new : Option (List ℕ)) → looks ≤ LOOKS → TakesBeginning old new (line (looks_text looks)) →
+    TellsLooks old new
+tells_looks looks old new most told = record { looks = looks; most = most; told = told }
 
 pub ruleset races = (race_unread, race_unrun, race_printed, race_unprinted)

@@ -1,5 +1,5 @@
 -- What the program prints for what it was asked.
-use Rattle.std.specs.Prelude.{◌≡◌, ℕ, List, ◌∷◌, map, codes, Option, Some, None, Ok, Err, IsErr, ◌⊎◌, ⊤, Bool, true, false, String, string_bytes}
+use Rattle.std.specs.Prelude.{◌≡◌, ℕ, List, ◌∷◌, map, codes, Option, Some, None, Ok, Err, IsErr, ◌⊎◌, Bool, true, false, String, string_bytes}
 use Rattle.std.specs.Global.{Global}
 use Rattle.cheri_model.specs.Image.{ImageParts}
 use Rattle.cheri_model.specs.declared.encoding.TheConstants.{ADDRESS_SPACE}
@@ -19,7 +19,7 @@ use Rattle.reports.specs.Sinks.{TakesBeginning}
 use Rattle.cheri_sim.specs.Faults.{fault_text, status_of}
 use Rattle.cheri_sim.specs.Files.{KnownFiles, AreBytesOf}
 use Rattle.cheri_sim.specs.Printing.{Prints, PrintsBeginning}
-use Rattle.cheri_sim.specs.Races.{IsRace}
+use Rattle.cheri_sim.specs.Races.{IsRace, TellsLooks}
 use Rattle.cheri_sim.specs.Runs.{BeginsRun, IsShown}
 
 -- the command line of the words that are given after the program's name
@@ -142,9 +142,10 @@ abbrev pub is_race : Option Asked → Bool
 is_race (Some (Race listing turns watch)) = true
 is_race _ = false
 
--- What standard error got where a request was done: nothing, or for a watched race a line that may not have been taken.
+-- What standard error got where a request was done: nothing, or for a watched race the line of its looks, or a beginning
+-- of it.
 abbrev pub IsQuiet : Option Asked → Option (List ℕ) → Option (List ℕ) → Type 0
-IsQuiet (Some (Race listing turns true)) old new = ⊤
+IsQuiet (Some (Race listing turns true)) old new = TellsLooks old new
 IsQuiet _ old new = new ≡ old
 
 -- A request fails for this reason, which leaves standard output so. Where a write failed, a beginning of the answer was

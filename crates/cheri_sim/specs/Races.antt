@@ -1,14 +1,16 @@
 -- The race of a listing's harts, and what is printed of it.
-use Rattle.std.specs.Prelude.{◌≡◌, ℕ, List, ◌++◌, codes, decimal, length, Option, Ok, Err, ◌⊎◌}
+use Rattle.std.specs.Prelude.{◌≡◌, ℕ, ◌≤◌, List, ◌++◌, codes, decimal, length, Option, Ok, Err, ◌⊎◌}
 use Rattle.cheri_model.specs.Image.{ImageParts}
 use Rattle.cheri_model.specs.Replay.{IsReplay}
 use Rattle.listings.specs.Meaning.{listing_meaning}
-use Rattle.reports.specs.Report.{report}
+use Rattle.reports.specs.Report.{line, report}
+use Rattle.reports.specs.Sinks.{TakesBeginning}
 use Rattle.machine.specs.Cores.{CoreParts}
 use Rattle.harts.specs.declared.workers.HartReport.{HartReport}
 use Rattle.harts.specs.Reports.{AreReports}
 use Rattle.cheri_sim.specs.declared.faults.Fault.{Fault}
 use Rattle.cheri_sim.specs.declared.faults.Fault.TheVariants.{NoMemory, CannotWrite, CannotStart, ImageDiffers, Listing}
+use Rattle.cheri_sim.specs.declared.races.TheConstants.{LOOKS}
 use Rattle.cheri_sim.specs.Printing.{PrintsBeginning}
 
 -- A text shows a race: it is the report of a machine that began as the image which the listing means, and whose state
@@ -26,6 +28,13 @@ pub record IsRace (listing : List ℕ) (turns : ℕ) (text : List ℕ) : Type 0 
 -- what standard error says of a watched race
 abbrev pub looks_text : ℕ → List ℕ
 looks_text looks = codes "watch looks=" ++ decimal looks
+
+-- Standard error got the line of a watched race, or a beginning of it: so many looks showed the machine, of those that
+-- the viewer took.
+pub record TellsLooks (old new : Option (List ℕ)) : Type 0 where
+  pub looks : ℕ
+  pub most : looks ≤ LOOKS
+  pub told : TakesBeginning old new (line (looks_text looks))
 
 -- A race was not printed whole: for this fault, which left the writer's known bytes so.
 abbrev pub IsUnraced : List ℕ → ℕ → Option (List ℕ) → Option (List ℕ) → Fault → Type 0

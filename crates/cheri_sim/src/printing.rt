@@ -27,8 +27,8 @@ pub fn flush<O: Write>(out: &mut O) -> Result<(), Fault>
     }
 }
 
-/// Writes all of a text.
-fn write_text<O: Write>(out: &mut O, text: &str) -> Result<(), SinkFailed>
+/// Writes all of a text. After a fault a beginning of it was written.
+pub fn write_text<O: Write>(out: &mut O, text: &str) -> Result<(), SinkFailed>
     ensures whole { OnOk result (Appends (O.contents out.old) (O.contents out.new) text.now) }
     ensures beginning { TakesBeginning (O.contents out.old) (O.contents out.new) text.now }
 {

@@ -131,8 +131,8 @@ fn race<F: Files, O: Write, E: Write, R: Threads + Wait + Sync>(
         Fails (F.bytes_of files.old) (Some (Race listing.now turns watch)) fault
         (O.contents out.old) (O.contents out.new)) }
     ensures command { result ≢ Err Fault.Usage }
-    ensures quiet { IsQuiet (Some (Race listing.now turns watch))
-        (E.contents err.old) (E.contents err.new) }
+    ensures quiet { OnOk result (IsQuiet (Some (Race listing.now turns watch))
+        (E.contents err.old) (E.contents err.new)) }
     ensures spared { OnErr result (E.contents err.new ≡ E.contents err.old) }
 {
     let text = read(files, listing, LISTING_READ, Fault::CannotReadListing)?;
@@ -207,8 +207,8 @@ fn answer<F: Files, O: Write, E: Write, R: Threads + Wait + Sync>(
         (O.contents out.old) (O.contents out.new)) }
     ensures nothing { asked (command_line words.now) ≡ None
         → (result ≡ Err Fault.Usage) ⊎ (result ≡ Err Fault.NoMemory) }
-    ensures quiet { IsQuiet (asked (command_line words.now))
-        (E.contents err.old) (E.contents err.new) }
+    ensures quiet { OnOk result (IsQuiet (asked (command_line words.now))
+        (E.contents err.old) (E.contents err.new)) }
     ensures spared { OnErr result (E.contents err.new ≡ E.contents err.old) }
 {
     let words = with_program_name(alloc, words)?;
@@ -242,9 +242,10 @@ pub fn report_fault<E: Write>(err: &mut E, fault: Fault) -> u8
 /// Does what the words of a command line ask for, which are those after the program's name, and
 /// gives the exit status: 0 where it was done, 1 where a number, a text or a step was refused, 2
 /// where the command line was, and 3 for every other fault. With status 0 `out` got the whole
-/// answer and `err` nothing, or after a watched race the line of the looks. With any other status
-/// `err` gets the one line of the fault. A write to `err` that fails does not change the status.
-/// Only a race starts threads and waits.
+/// answer and `err` nothing, or after a watched race the line of the looks (`watch looks=N`, N at
+/// most 100) or a beginning of it where a write failed. With any other status `err` gets the one
+/// line of the fault. A write to `err` that fails does not change the status. Only a race starts
+/// threads and waits.
 #[tactic(auto, using(crate::proofs::ProgramLemmas::fails_with))]
 pub fn perform<F: Files, O: Write, E: Write, R: Threads + Wait + Sync>(
     rt: &R,

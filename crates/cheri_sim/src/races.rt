@@ -1,22 +1,26 @@
 //! The race of a listing's harts, printed.
 
-ghost use Rattle.std.specs.Prelude.{◌≡◌, ◌↔◌, length, OnOk, OnErr, IfOk, IfErr, Err, false};
+ghost use Rattle.std.specs.Prelude.{◌≡◌, ◌≤◌, ◌↔◌, length, OnOk, OnErr, IfOk, IfErr, IfSome, Err};
+ghost use Rattle.std.specs.Prelude.{false, true};
 ghost use Rattle.cheri_model.specs.Replay.{IsReplay};
 ghost use Rattle.machine.specs.Cores.{is_limit};
 ghost use Rattle.harts.specs.Reports.{AreReports};
-ghost use Rattle.std.specs.Io.KnownBytes.{Appends};
 ghost use Rattle.reports.specs.Report.{line};
+ghost use Rattle.reports.specs.Sinks.{TakesBeginning};
 ghost use Rattle.cheri_sim.specs.Printing.{Prints};
-ghost use Rattle.cheri_sim.specs.Races.{IsRace, IsUnraced, looks_text};
+ghost use Rattle.cheri_sim.specs.Races.{IsRace, IsUnraced, TellsLooks, looks_text};
 
 use crate::faults::Fault;
-use crate::printing::print_report;
+use crate::printing::{print_report, write_text};
+use arrayvec::ArrayString;
 use cheri_model::Image;
 use harts::{Gate, HartReport, RunFault, Turn, Viewer, run_harts, run_watched};
 use listings::read_listing;
 use machine::{BootFault, Core, GREATEST_TRACE_LIMIT, Naming, Watch};
 use std::alloc::Global;
-use std::io::{self, Write};
+use std::fmt::Write as _;
+use std::io::Write;
+use std::marker::Model;
 use std::sync::Wait;
 use std::thread;
 use std::thread::Threads;
@@ -36,35 +40,99 @@ impl Gate for OpenGate {
 /// How often the viewer of a watched race looks.
 const LOOKS: u32 = 100;
 
-/// A viewer that looks a number of times, and counts the looks that it gets.
+/// A viewer that looks a number of times, and keeps how many of its looks showed the machine.
 #[derive(Drop)]
 struct Looker {
     looks: u32,
 }
 
+impl Model for Looker {
+    ghost use Rattle.std.specs.Prelude.{ℕ};
+
+    ghost Value = { ℕ };
+
+    ghost use Rattle.std.specs.Prelude.{◌≤◌};
+    ghost use Rattle.cheri_sim.specs.declared.races.TheConstants.{LOOKS};
+
+    ghost view = { λ looker. looker.looks };
+
+    ghost invariant = { λ looker. looker.looks ≤ LOOKS };
+}
+
+impl Looker {
+    /// A viewer that has not looked yet.
+    fn new() -> Looker {
+        Looker { looks: 0 }
+    }
+
+    /// How many looks of its last view showed the machine.
+    fn looks(&self) -> u32
+        ensures value { result ≡ self.now }
+        ensures most { result ≤ LOOKS }
+    {
+        self.looks
+    }
+}
+
 impl Viewer for Looker {
     fn view<J: Naming>(&mut self, watch: Watch<J>) -> Watch<J> {
-        let mut watch = watch;
-        for _ in 0..LOOKS {
-            match watch.look() {
-                Ok(look) => {
-                    self.looks = self.looks.saturating_add(1);
-                    watch = look.end();
-                }
-                Err(back) => watch = back,
-            }
-            thread::yield_now();
-        }
+        let (watch, looks) = look_often(watch);
+        self.looks = looks;
         watch
     }
 }
 
-/// Writes how many looks a viewer got.
-fn write_looks<E: Write>(err: &mut E, looks: u32) -> io::Result<()>
-    ensures { OnOk result (Appends
-        (E.contents err.old) (E.contents err.new) (line (looks_text looks))) }
+/// Looks a number of times through a watch, and counts the looks that showed the machine.
+fn look_often<J: Naming>(watch: Watch<J>) -> (Watch<J>, u32)
+    ensures { result.1 ≤ LOOKS }
 {
-    writeln!(err, "watch looks={looks}")
+    let mut watch = watch;
+    let mut looks = 0u32;
+    for look in 0..LOOKS {
+        match watch.look() {
+            Ok(shown) => {
+                looks += 1;
+                watch = shown.end();
+            }
+            Err(back) => watch = back,
+        }
+        thread::yield_now();
+    }
+    (watch, looks)
+}
+
+/// More bytes than the line of the looks has.
+const LOOKS_ROOM: usize = 32;
+
+/// The line of a number of looks, which takes no memory.
+fn looks_line(looks: u32) -> Option<ArrayString<LOOKS_ROOM>>
+    ensures { IfSome result (λ text. text.bytes ≡ line (looks_text looks)) }
+{
+    let mut text = ArrayString::new();
+    match writeln!(text, "watch looks={looks}") {
+        Ok(()) => Some(text),
+        Err(_) => None,
+    }
+}
+
+/// Writes how many looks a viewer got, whether the line is taken or not.
+fn write_looks<E: Write>(err: &mut E, looks: u32)
+    ensures { TakesBeginning
+        (E.contents err.old) (E.contents err.new) (line (looks_text looks)) }
+{
+    if let Some(text) = looks_line(looks) {
+        let _ = write_text(err, text.as_str());
+    }
+}
+
+/// Tells how many looks the viewer of a watched race got, whether the line is taken or not.
+fn tell_looks<E: Write>(err: &mut E, watch: bool, looker: &Looker)
+    ensures told { watch ≡ true → TellsLooks (E.contents err.old) (E.contents err.new) }
+    ensures quiet { watch ≡ false → E.contents err.new ≡ E.contents err.old }
+{
+    if watch {
+        write_looks(err, looker.looks());
+    }
 }
 
 /// Races the harts of an image, each in up to this many turns. The viewer looks on only where the
@@ -117,14 +185,14 @@ pub fn print_race<O: Write, E: Write, R: Threads + Wait + Sync>(
     ensures failed { IfErr result (λ fault.
         IsUnraced listing.now turns (O.contents out.old) (O.contents out.new) fault) }
     ensures quiet { watch ≡ false → E.contents err.new ≡ E.contents err.old }
+    ensures told { watch ≡ true
+        → OnOk result (TellsLooks (E.contents err.old) (E.contents err.new)) }
     ensures spared { OnErr result (E.contents err.new ≡ E.contents err.old) }
 {
     let image = read_listing(alloc, listing)?;
-    let mut looker = Looker { looks: 0 };
+    let mut looker = Looker::new();
     let (core, _reports) = raced(rt, alloc, image, turns, watch, &mut looker)?;
     print_report(alloc, core.view(), out)?;
-    if watch {
-        let _ = write_looks(err, looker.looks);
-    }
+    tell_looks(err, watch, &looker);
     Ok(())
 }
