@@ -28,26 +28,3 @@ pub fn cram(len: u64) -> u64
         u64::MAX << (rounded.e + 3)
     }
 }
-
-#[cfg(test)]
-mod tests {
-    use super::*;
-
-    /// Each length with its representable length and its alignment mask.
-    const ROWS: [(u64, u64, u64); 6] = [
-        (0, 0, 0xffff_ffff_ffff_ffff),
-        (4095, 4095, 0xffff_ffff_ffff_ffff),
-        (4097, 4104, 0xffff_ffff_ffff_fff8),
-        (8184, 8184, 0xffff_ffff_ffff_fff8),
-        (8191, 8192, 0xffff_ffff_ffff_fff0),
-        (0xffff_ffff_ffff_ffff, 0, 0xff80_0000_0000_0000),
-    ];
-
-    #[test]
-    fn crrl_and_cram_give_the_worked_rows(rt: HostRuntime) {
-        for (len, length, mask) in ROWS {
-            assert_eq!(rt; crrl(len), length, "length for {len}");
-            assert_eq!(rt; cram(len), mask, "mask for {len}");
-        }
-    }
-}

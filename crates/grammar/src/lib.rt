@@ -14,7 +14,5 @@ pub mod lines;
 pub mod mnemonics;
 pub mod numerals;
 pub mod operands;
-mod permissions;
-#[cfg(test)]
-mod tests;
+pub mod permissions;
 pub mod tokens;

@@ -80,6 +80,3 @@ pub fn read_order(alloc: Global, text: &[u8]) -> Result<Vec<u8>, OrderFault>
     }
     Ok(order)
 }
-
-#[cfg(test)]
-mod tests;

@@ -1,7 +1,9 @@
-//! Tests of `cheri_model`, `cap_ops` and `tagged_mem` by their public calls alone, as their users
-//! make them.
+//! Tests of `cheri_model`, `cap_bounds`, `cap_ops` and `tagged_mem` by their public calls alone, as
+//! their users make them.
 #![tactic(auto)]
 
+#[cfg(test)]
+mod bounds;
 #[cfg(test)]
 mod capabilities;
 #[cfg(test)]

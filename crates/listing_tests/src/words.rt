@@ -1,9 +1,9 @@
 //! Numbers, names of permissions and kinds of faults, as the format of listings has them.
 
-use crate::fault::ListingFaultKind;
-use crate::numerals::number_of;
-use crate::permissions::permissions_of;
 use bitflags::Flags;
+use grammar::fault::ListingFaultKind;
+use grammar::numerals::number_of;
+use grammar::permissions::permissions_of;
 use std::test::Fail;
 
 #[test]

@@ -1,4 +1,6 @@
-use crate::reader::read_order;
+//! Orders that are read, and orders that are refused.
+
+use orders::read_order;
 use std::alloc::Global;
 use std::test::Fail;
 
