@@ -16,8 +16,8 @@ ghost use Rattle.grammar.specs.Numerals.{
 
 use crate::fault::ListingFaultKind;
 
-/// What each byte stands for as a digit. A look-up takes no branch; those on the digits of a text are
-/// hard to predict.
+/// What each byte stands for as a digit. A look-up takes no branch; those on the digits of a text
+/// are hard to predict.
 const DIGIT_VALUES: &[u8; 256] = &[
     36, 36, 36, 36, 36, 36, 36, 36, 36, 36, 36, 36, 36, 36, 36, 36, 36, 36, 36, 36, 36, 36, 36, 36,
     36, 36, 36, 36, 36, 36, 36, 36, 36, 36, 36, 36, 36, 36, 36, 36, 36, 36, 36, 36, 36, 36, 36, 36,

@@ -48,7 +48,8 @@ impl<J: Naming> Shared<J> {
             Some(guard) => guard,
             None => self.machine.lock(rt),
         };
-        // The contract of `refusal` says that this is a core, whose state is the replay of its trace.
+        // The contract of `refusal` says that this is a core, whose state is the replay of its
+        // trace.
         let _refusal = guard.core().refusal(0);
         guard
     }

@@ -31,31 +31,28 @@ amoswap.c c7, c6, c5\necall\n";
 /// The word of hart 1's capability.
 const CAPABILITY: u128 = 0x0005000004058004_0000000080000000;
 
+/// A listing of eight harts, of these lines each, with these instructions.
+fn eight_harts(alloc: Global, hart: &str, instructions: &str) -> Result<Vec<u8>, Fail> {
+    let mut listing = Vec::new(alloc);
+    for _ in 0..8 {
+        listing.extend_from_slice(hart.as_bytes())?;
+    }
+    listing.extend_from_slice(instructions.as_bytes())?;
+    Ok(listing)
+}
+
 /// Eight harts that are each like hart 0 of the two above.
-const EIGHT_HARTS: &[u8] = b".hart 0x10000000 16 0x10000000 execute+load\n\
-.set c5 cap 0x80000000 16 0x80000000 all\n.set c6 int 1\n\
-.hart 0x10000000 16 0x10000000 execute+load\n\
-.set c5 cap 0x80000000 16 0x80000000 all\n.set c6 int 1\n\
-.hart 0x10000000 16 0x10000000 execute+load\n\
-.set c5 cap 0x80000000 16 0x80000000 all\n.set c6 int 1\n\
-.hart 0x10000000 16 0x10000000 execute+load\n\
-.set c5 cap 0x80000000 16 0x80000000 all\n.set c6 int 1\n\
-.hart 0x10000000 16 0x10000000 execute+load\n\
-.set c5 cap 0x80000000 16 0x80000000 all\n.set c6 int 1\n\
-.hart 0x10000000 16 0x10000000 execute+load\n\
-.set c5 cap 0x80000000 16 0x80000000 all\n.set c6 int 1\n\
-.hart 0x10000000 16 0x10000000 execute+load\n\
-.set c5 cap 0x80000000 16 0x80000000 all\n.set c6 int 1\n\
-.hart 0x10000000 16 0x10000000 execute+load\n\
-.set c5 cap 0x80000000 16 0x80000000 all\n.set c6 int 1\n\
-amoswap.c c7, c6, c5\necall\n";
+fn eight_swaps(alloc: Global) -> Result<Vec<u8>, Fail> {
+    let hart = ".hart 0x10000000 16 0x10000000 execute+load\n\
+        .set c5 cap 0x80000000 16 0x80000000 all\n.set c6 int 1\n";
+    eight_harts(alloc, hart, "amoswap.c c7, c6, c5\necall\n")
+}
 
 /// Eight harts that never stop.
-const EIGHT_LOOPS: &[u8] = b".hart 0x10000000 16 0x10000000 execute\n\
-.hart 0x10000000 16 0x10000000 execute\n.hart 0x10000000 16 0x10000000 execute\n\
-.hart 0x10000000 16 0x10000000 execute\n.hart 0x10000000 16 0x10000000 execute\n\
-.hart 0x10000000 16 0x10000000 execute\n.hart 0x10000000 16 0x10000000 execute\n\
-.hart 0x10000000 16 0x10000000 execute\naddi c6, c6, 1\ncjal c0, @0\n";
+fn eight_loops(alloc: Global) -> Result<Vec<u8>, Fail> {
+    let hart = ".hart 0x10000000 16 0x10000000 execute\n";
+    eight_harts(alloc, hart, "addi c6, c6, 1\ncjal c0, @0\n")
+}
 
 fn image_of(rt: &impl Abort, alloc: Global, listing: &[u8]) -> Image {
     read_listing(alloc, listing).expect(rt, "the listing is good")
@@ -247,10 +244,12 @@ fn limits_are_refused(rt: HostRuntime) -> Result<(), Fail> {
 #[test]
 fn eight_harts_are_counted(rt: HostRuntime) -> Result<(), Fail> {
     let ends = [0, 1, 2, 0, 1, 2, 0, 1];
+    let listing = eight_swaps(rt.alloc())?;
+    let listing = listing.as_slice();
     for runner in [Runner::Race, Runner::Loops] {
         let gate = EndsAt(&ends);
-        let (core, reports) = run(&rt, rt.alloc(), runner, EIGHT_HARTS, 3, 100, &gate);
-        assert_replayed(&rt, rt.alloc(), &core, EIGHT_HARTS, 100);
+        let (core, reports) = run(&rt, rt.alloc(), runner, listing, 3, 100, &gate);
+        assert_replayed(&rt, rt.alloc(), &core, listing, 100);
         assert_eq!(rt; core.view().entries.len(), 7);
         assert_eq!(rt; reports.len(), 8);
         for (report, steps) in reports.iter().zip(&ends) {
@@ -264,17 +263,19 @@ fn eight_harts_are_counted(rt: HostRuntime) -> Result<(), Fail> {
 
 #[test]
 fn a_hundred_thousand_steps_are_replayed(rt: HostRuntime) -> Result<(), Fail> {
+    let listing = eight_loops(rt.alloc())?;
+    let listing = listing.as_slice();
     let gate = EndsAt(&[]);
     let (core, reports) = run(
         &rt,
         rt.alloc(),
         Runner::Race,
-        EIGHT_LOOPS,
+        listing,
         12_500,
         100_000,
         &gate,
     );
-    assert_replayed(&rt, rt.alloc(), &core, EIGHT_LOOPS, 100_000);
+    assert_replayed(&rt, rt.alloc(), &core, listing, 100_000);
     assert_eq!(rt; core.view().entries.len(), 100_000);
     assert_eq!(rt; reports.len(), 8);
     for report in reports {

@@ -35,6 +35,25 @@ fn one_instruction(rt: &impl Abort, alloc: Global, reach: u128) -> Result<Image,
     Ok(image.expect(rt, "the parts make an image"))
 }
 
+/// Runs an order of which a step is refused: the place of that step in the order, and its fault's
+/// text.
+fn assert_refused(
+    rt: &impl Abort,
+    alloc: Global,
+    image: Image,
+    order: &[u8],
+    limit: u32,
+    (place, text): (usize, &str),
+) -> Result<(), Fail> {
+    let (core, refused) = run_order(alloc, image, order, limit).expect(rt, "it boots");
+    let (at, fault) = refused.ok_or("no step is refused")?;
+    let printed = format!(in alloc; "{fault}")?;
+    assert_eq!(rt; at, place);
+    assert_eq!(rt; printed.as_str(), text);
+    assert_eq!(rt; core.view().entries.len(), place);
+    Ok(())
+}
+
 #[test]
 fn orders_are_refused_where_a_step_is(rt: HostRuntime) -> Result<(), Fail> {
     let refusals: [(&[u8], u32, usize, &str); 5] = [
@@ -46,12 +65,7 @@ fn orders_are_refused_where_a_step_is(rt: HostRuntime) -> Result<(), Fail> {
     ];
     for (order, limit, place, text) in refusals {
         let image = image_of(&rt, rt.alloc(), TWO_HARTS);
-        let (core, refused) = run_order(rt.alloc(), image, order, limit).expect(&rt, "it boots");
-        let (at, fault) = refused.ok_or("no step is refused")?;
-        let printed = format!(in rt.alloc(); "{fault}")?;
-        assert_eq!(rt; at, place);
-        assert_eq!(rt; printed.as_str(), text);
-        assert_eq!(rt; core.view().entries.len(), place);
+        assert_refused(&rt, rt.alloc(), image, order, limit, (place, text))?;
     }
     let image = image_of(&rt, rt.alloc(), TWO_HARTS);
     let (core, refused) = run_order(rt.alloc(), image, &[0, 1, 1, 0], 4).expect(&rt, "it boots");
@@ -69,12 +83,7 @@ fn a_first_run_ends_where_a_step_is_refused(rt: HostRuntime) -> Result<(), Fail>
     ];
     for (order, limit, place, text) in refusals {
         let image = image_of(&rt, rt.alloc(), FIRST);
-        let (core, refused) = run_order(rt.alloc(), image, order, limit).expect(&rt, "it boots");
-        let (at, fault) = refused.ok_or("no step is refused")?;
-        let printed = format!(in rt.alloc(); "{fault}")?;
-        assert_eq!(rt; at, place);
-        assert_eq!(rt; printed.as_str(), text);
-        assert_eq!(rt; core.view().entries.len(), place);
+        assert_refused(&rt, rt.alloc(), image, order, limit, (place, text))?;
     }
     Ok(())
 }

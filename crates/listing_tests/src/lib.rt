@@ -1,4 +1,5 @@
-//! Tests of `listings`, `grammar` and `orders` by their public calls alone, as their users make them.
+//! Tests of `listings`, `grammar` and `orders` by their public calls alone, as their users make
+//! them.
 #![tactic(auto)]
 
 #[cfg(test)]

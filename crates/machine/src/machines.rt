@@ -93,9 +93,9 @@ impl<J: Naming> Machine<J> {
     }
 
     /// A watch of the machine, which has seen its trace of now. Fails with `NoMemory` where the
-    /// first watch finds none for its copies of the core, and with `NoPlace` where no place is free:
-    /// there are places for eight watches at once, and some may not be free yet while watches come
-    /// and go.
+    /// first watch finds none for its copies of the core, and with `NoPlace` where no place is
+    /// free: there are places for eight watches at once, and some may not be free yet while
+    /// watches come and go.
     pub fn watch(&mut self) -> Result<Watch<J>, WatchFault>
         ensures watch { IfOk result (λ watch. watch ≡ watch_of self.old.image self.old.trace) }
         ensures same { self.new ≡ self.old }

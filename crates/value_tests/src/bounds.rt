@@ -1,5 +1,5 @@
-//! Bounds: words taken apart and decoded, addresses that keep the bounds, ranges that are rounded, and
-//! lengths and alignments for exact bounds.
+//! Bounds: words taken apart and decoded, addresses that keep the bounds, ranges that are rounded,
+//! and lengths and alignments for exact bounds.
 
 use cap_bounds::{Fields, Rounded, cram, crrl, decode, fields, representable, set_bounds};
 use cheri_model::{ADDRESS_SPACE, UNSEALED_TYPE};

@@ -1,4 +1,5 @@
-//! The laws of runs: a legal operation keeps the replay, and neither a step nor a run makes authority.
+//! The laws of runs: a legal operation keeps the replay, and neither a step nor a run makes
+//! authority.
 
 ghost use Rattle.std.specs.Prelude.{◌≡◌, List, [], ◌∷◌, ◌++◌, true};
 ghost use Rattle.cheri_model.specs.declared.instr.Instr.{Instr};
@@ -27,8 +28,8 @@ pub fn replay_grows()
         → IsReplay image (trace ++ entry_of image state op ∷ []) (state_after_one image state op) }
 {}
 
-/// Where the values of a hart and of memory are lawful, every tagged one after a step of the hart is
-/// granted by those before it (CHERI ISA v9, "capability monotonicity").
+/// Where the values of a hart and of memory are lawful, every tagged one after a step of the hart
+/// is granted by those before it (CHERI ISA v9, "capability monotonicity").
 pub fn steps_are_confined()
     ensures { (program : List Instr) (hart : HartState) (memory : List CapValue)
         → IsLawfulState (alone hart memory) → IsConfinedTo (alone hart memory)

@@ -5,7 +5,7 @@ ghost use Rattle.std.specs.Prelude.{◌≡◌};
 
 use super::gates::{EndsAt, Flag};
 use super::viewers::{Follower, Keeper, Spotter, Viewed, look_of};
-use super::{EIGHT_LOOPS, SWAP, assert_replayed, image_of};
+use super::{SWAP, assert_replayed, eight_loops, image_of};
 use harts::{Gate, HartReport, Shared, Viewer, Why, run_watched};
 use machine::{Blanks, Core, Machine, Naming, Watch};
 use std::alloc::Global;
@@ -121,11 +121,13 @@ fn assert_stopped(rt: &impl Abort, core: &Core, reports: &[HartReport]) {
 
 #[test]
 fn looks_begin_with_earlier_looks(rt: HostRuntime) -> Result<(), Fail> {
+    let listing = eight_loops(rt.alloc())?;
+    let listing = listing.as_slice();
     for _ in 0..TRIES {
         let mut viewer = Follower::new(rt.alloc(), 2_000);
         let gate = EndsAt(&[]);
-        let (core, reports) = view_race(&rt, rt.alloc(), EIGHT_LOOPS, 250, &gate, &mut viewer);
-        assert_replayed(&rt, rt.alloc(), &core, EIGHT_LOOPS, 100_000);
+        let (core, reports) = view_race(&rt, rt.alloc(), listing, 250, &gate, &mut viewer);
+        assert_replayed(&rt, rt.alloc(), &core, listing, 100_000);
         assert_eq!(rt; core.view().entries.len(), 2_000);
         assert_eq!(rt; reports.len(), 8);
         if viewer.was_called {

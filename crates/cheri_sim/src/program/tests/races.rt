@@ -3,8 +3,11 @@
 use crate::faults::Fault;
 use crate::program::tests::{FIRST, Folder, Full, Unflushed, answer, compare, owned};
 use crate::program::{perform, report_fault};
+use std::process::Abort;
 use std::str;
+use std::sync::Wait;
 use std::test::Fail;
+use std::thread::Threads;
 
 /// What a race of the first listing leaves where both harts take all four instructions: each has
 /// the registers that its hart has in a run of these four.
@@ -24,14 +27,24 @@ c8 0 0000000000000000_0000000000000064
 end
 ";
 
+/// What a race of a listing prints. Its status is 0, and it reports no fault.
+fn raced<R: Abort + AllocGlobal + Threads + Wait + Sync>(
+    rt: &R,
+    words: &[&str],
+    listing: &str,
+) -> Result<Vec<u8>, Fail> {
+    let raced = answer(rt, words, &[("listing", listing)], "")?;
+    assert_eq!(rt; (raced.status, raced.reported.len()), (0, 0));
+    Ok(raced.printed)
+}
+
 /// Whichever hart goes first, each of the two takes its four instructions, and halts.
 #[test]
 fn both_harts_halt(rt: HostRuntime) -> Result<(), Fail> {
     for turns in ["4", "0000000000000000000000004", "100000"] {
         let words = ["race", "listing", "--turns", turns];
-        let raced = answer(&rt, &words, &[("listing", FIRST)], "")?;
-        let printed = str::from_utf8(raced.printed.as_slice())?;
-        assert_eq!(rt; (raced.status, raced.reported.len()), (0, 0));
+        let raced = raced(&rt, &words, FIRST)?;
+        let printed = str::from_utf8(raced.as_slice())?;
         assert!(rt;
             printed.starts_with("cheri-sim report 1\nimage harts=2 ram=4096 code=4\nentries 8\n")
         );
@@ -59,9 +72,8 @@ cjal c0, @0
 #[test]
 fn one_hart_takes_all_turns(rt: HostRuntime) -> Result<(), Fail> {
     let words = ["race", "listing", "--turns", "100000"];
-    let raced = answer(&rt, &words, &[("listing", LOOP)], "")?;
-    let printed = str::from_utf8(raced.printed.as_slice())?;
-    assert_eq!(rt; (raced.status, raced.reported.len()), (0, 0));
+    let raced = raced(&rt, &words, LOOP)?;
+    let printed = str::from_utf8(raced.as_slice())?;
     assert!(rt; printed.contains("\nentries 100000\n"));
     assert!(rt; printed.contains("\n99999 hart=0 pc=0000000010000000 done\nhart 0 running\n"));
     Ok(())
@@ -71,9 +83,8 @@ fn one_hart_takes_all_turns(rt: HostRuntime) -> Result<(), Fail> {
 #[test]
 fn two_harts_fill_one_trace(rt: HostRuntime) -> Result<(), Fail> {
     let words = ["race", "listing", "--turns", "100000"];
-    let raced = answer(&rt, &words, &[("listing", TWO_LOOPS)], "")?;
-    let printed = str::from_utf8(raced.printed.as_slice())?;
-    assert_eq!(rt; (raced.status, raced.reported.len()), (0, 0));
+    let raced = raced(&rt, &words, TWO_LOOPS)?;
+    let printed = str::from_utf8(raced.as_slice())?;
     assert!(rt; printed.contains("\nentries 100000\n"));
     assert!(rt; printed.contains("\n99999 hart="));
     assert!(rt; printed.contains("\nhart 0 running\n"));
@@ -85,9 +96,8 @@ fn two_harts_fill_one_trace(rt: HostRuntime) -> Result<(), Fail> {
 #[test]
 fn turns_end(rt: HostRuntime) -> Result<(), Fail> {
     let words = ["race", "--turns=3", "listing"];
-    let raced = answer(&rt, &words, &[("listing", FIRST)], "")?;
-    let printed = str::from_utf8(raced.printed.as_slice())?;
-    assert_eq!(rt; (raced.status, raced.reported.len()), (0, 0));
+    let raced = raced(&rt, &words, FIRST)?;
+    let printed = str::from_utf8(raced.as_slice())?;
     assert!(rt; printed.contains("\nentries 6\n"));
     assert!(rt; printed.contains("\nhart 0 running\n"));
     assert!(rt; printed.contains("\nhart 1 running\n"));
