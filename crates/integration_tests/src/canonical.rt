@@ -2,22 +2,11 @@
 
 mod alike;
 
+use crate::samples::FIRST;
 use listings::read_listing;
 use std::alloc::Global;
 use std::test::Fail;
 use texts::write_listing;
-
-/// Two harts that narrow a capability.
-const FIRST: &str = "\
-    .hart 0x10000000 16 0x10000000 execute+load\n\
-    .set c5 cap 0x80000000 4096 0x80000000 load+store\n\
-    .hart 0x10000000 16 0x10000000 execute+load\n\
-    .set c5 cap 0x80000000 4096 0x80000000 load+store\n\
-    addi c6, c0, 100\n\
-    csetbounds c7, c5, c6\n\
-    cgetlen c8, c7\n\
-    ecall\n\
-    ";
 
 /// Each instruction once, as a canonical listing has it.
 const EACH_INSTRUCTION: &str = "\

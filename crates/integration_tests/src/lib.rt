@@ -7,6 +7,8 @@ mod canonical;
 #[cfg(test)]
 mod machines;
 #[cfg(test)]
+mod memory;
+#[cfg(test)]
 mod races;
 #[cfg(test)]
 mod reporting;

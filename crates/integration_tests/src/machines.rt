@@ -1,9 +1,9 @@
 //! Machines of two harts: their shares step their own harts, as the run of the same order does, and
-//! refused memory is reported.
+//! refused memory is reported, watched or not.
 
 ghost use Rattle.std.specs.Prelude.{◌≡◌};
 
-use crate::samples::TWO_HARTS;
+use crate::samples::{FIRST, TWO_HARTS, watch_of};
 use listings::read_listing;
 use machine::{Blanks, BootFault, Core, Machine, Naming, OpenFault, StepFault, run_order};
 use std::alloc::Global;
@@ -20,13 +20,14 @@ fn core_after(rt: &impl Abort, alloc: Global, order: &[u8], limit: u32) -> Core 
     core
 }
 
-/// Opens a machine, steps its two harts in this order, until its trace is full, and closes it. A
-/// step that memory was refused is tried once more.
+/// Opens a machine, watched or not, steps its two harts in this order, until its trace is full, and
+/// closes it. A watch or a step that memory was refused is tried once more.
 fn stepped<J: Naming, R: Wait + Abort>(
     rt: &R,
     alloc: Global,
     core: Core,
     blanks: Blanks,
+    is_watched: bool,
     order: &[usize],
 ) -> Result<Core, OpenFault>
     requires names { blanks ≡ J.names }
@@ -34,6 +35,12 @@ fn stepped<J: Naming, R: Wait + Abort>(
 {
     let (mut machine, mut shares) = Machine::<J>::open(alloc, core, blanks)?;
     assert_eq!(rt; shares.len(), 2);
+    let watch = if is_watched {
+        watch_of(&mut machine)
+    } else {
+        None
+    };
+    assert_eq!(rt; watch.is_some(), is_watched);
     for hart in order {
         assert!(rt; *hart < shares.len());
         let before = machine.core().view().entries.len();
@@ -53,33 +60,45 @@ fn stepped<J: Naming, R: Wait + Abort>(
 #[test]
 fn a_machine_steps_the_hart_of_a_share(rt: HostRuntime) -> Result<(), Fail> {
     let core = core_after(&rt, rt.alloc(), &[1], 4);
-    let left = stepped::<Brand, _>(&rt, rt.alloc(), core, Blanks::new(), &[0, 1, 0])?;
+    let left = stepped::<Brand, _>(&rt, rt.alloc(), core, Blanks::new(), false, &[0, 1, 0])?;
     let whole = core_after(&rt, rt.alloc(), &[1, 0, 1, 0], 4);
     assert!(rt; left.view().entries == whole.view().entries);
     assert!(rt; left.view().harts == whole.view().harts);
     Ok(())
 }
 
-#[test]
-fn refused_memory_is_reported(rt: HostRuntime) -> Result<(), Fail> {
-    let image = match read_listing(rt.alloc(), TWO_HARTS) {
+/// Takes the four steps of hart 0 of the first listing, unless memory is refused before them.
+fn take_four_steps(rt: &(impl Wait + Abort), alloc: Global, is_watched: bool) {
+    let image = match read_listing(alloc, FIRST.as_bytes()) {
         Ok(image) => image,
         Err(fault) => {
             assert_eq!(rt; fault.kind.number(), 10);
-            return Ok(());
+            return;
         }
     };
-    let (core, refused) = match run_order(rt.alloc(), image, &[1], 4) {
-        Ok(ran) => ran,
+    let core = match Core::boot(alloc, image, 4) {
+        Ok(core) => core,
         Err(fault) => {
             assert!(rt; fault == BootFault::NoMemory);
-            return Ok(());
+            return;
         }
     };
-    assert!(rt; refused.is_none());
-    match stepped::<Brand, _>(&rt, rt.alloc(), core, Blanks::new(), &[0, 1, 0]) {
-        Ok(left) => assert_eq!(rt; left.view().entries.len(), 4),
+    match stepped::<Brand, _>(rt, alloc, core, Blanks::new(), is_watched, &[0, 0, 0, 0]) {
+        Ok(left) => {
+            let pcs = [0x1000_0000, 0x1000_0004, 0x1000_0008, 0x1000_000C];
+            assert_eq!(rt; left.view().entries.len(), pcs.len());
+            for (entry, pc) in left.view().entries.iter().zip(&pcs) {
+                assert_eq!(rt; entry.pc, *pc);
+            }
+        }
         Err(fault) => assert_eq!(rt; fault.number(), 1),
     }
+}
+
+/// What is refused is told by its name; a step that was refused is taken the next time.
+#[test]
+fn refused_memory_is_reported(rt: HostRuntime) -> Result<(), Fail> {
+    take_four_steps(&rt, rt.alloc(), false);
+    take_four_steps(&rt, rt.alloc(), true);
     Ok(())
 }

@@ -1,5 +1,6 @@
 //! Reports on sinks and writers that take little and fail, and each word that a report has.
 
+use crate::samples::FIRST_REPORT;
 use bitflags::Flags;
 use cap_ops::Cap;
 use cheri_model::{Entry, HartImage, Image, Instr, Outcome, Perms, Reg, Status, Trap, Value};
@@ -10,26 +11,6 @@ use std::io::{self, ErrorKind, Write};
 use std::process::Abort;
 use std::test::Fail;
 use tagged_mem::Ram;
-
-/// The report of the first worked run: two harts, of which hart 0 took its four instructions.
-const FIRST: &[u8] = b"cheri-sim report 1
-image harts=2 ram=4096 code=4
-entries 4
-0 hart=0 pc=0000000010000000 done
-1 hart=0 pc=0000000010000004 done
-2 hart=0 pc=0000000010000008 done
-3 hart=0 pc=000000001000000c halt
-hart 0 halted
-pcc 1 0006000004058004_000000001000000c 0000000010000000 00000000010000010 00006 unsealed
-c5 1 000c000000018004_0000000080000000 0000000080000000 00000000080001000 0000c unsealed
-c6 0 0000000000000000_0000000000000064
-c7 1 000c000004188004_0000000080000000 0000000080000000 00000000080000064 0000c unsealed
-c8 0 0000000000000000_0000000000000064
-hart 1 running
-pcc 1 0006000004058004_0000000010000000 0000000010000000 00000000010000010 00006 unsealed
-c5 1 000c000000018004_0000000080000000 0000000080000000 00000000080001000 0000c unsealed
-end
-";
 
 /// A report with every outcome, status, form of type and form of granule.
 const WORDS: &[u8] = b"cheri-sim report 1
@@ -203,7 +184,7 @@ fn first_report_is_written(rt: HostRuntime) -> Result<(), Fail> {
     let shown = first(&rt, rt.alloc())?;
     let mut sink = MemSink::new(rt.alloc(), 0, 4096);
     assert!(rt; write_report(rt.alloc(), shown.view(), &mut sink) == Ok(()));
-    assert!(rt; sink.bytes() == FIRST);
+    assert!(rt; sink.bytes() == FIRST_REPORT);
     Ok(())
 }
 
@@ -223,12 +204,15 @@ fn fail_at_each_put(rt: &impl Abort, alloc: Global, most: usize) -> Result<(), F
         let mut sink = MemSink::new(alloc, fail_at, most.max(1));
         let result = write_report(alloc, shown.view(), &mut sink);
         if result == Ok(()) {
-            assert!(rt; sink.bytes() == FIRST);
-            assert_eq!(rt; fail_at as usize, 1 + FIRST.len().div_ceil(most.max(1)));
+            assert!(rt; sink.bytes() == FIRST_REPORT);
+            assert_eq!(rt;
+                fail_at as usize,
+                1 + FIRST_REPORT.len().div_ceil(most.max(1))
+            );
             return Ok(());
         }
         assert!(rt; result == Err(ReportFault::Write));
-        assert!(rt; FIRST.starts_with(sink.bytes()));
+        assert!(rt; FIRST_REPORT.starts_with(sink.bytes()));
         assert_eq!(rt;
             sink.bytes().len(),
             most.saturating_mul(fail_at as usize - 1)
@@ -281,7 +265,7 @@ fn trickle(rt: &impl Abort, alloc: Global, most: usize, wanted: &[u8]) -> Result
 
 #[test]
 fn writers_take_little_or_nothing(rt: HostRuntime) -> Result<(), Fail> {
-    assert!(rt; trickle(&rt, rt.alloc(), 1, FIRST)?);
+    assert!(rt; trickle(&rt, rt.alloc(), 1, FIRST_REPORT)?);
     assert!(rt; !trickle(&rt, rt.alloc(), 0, b"")?);
     Ok(())
 }

@@ -82,7 +82,7 @@ fn a_first_run_ends_where_a_step_is_refused(rt: HostRuntime) -> Result<(), Fail>
         (&[0, 0], 1, 1, "2 TraceFull"),
     ];
     for (order, limit, place, text) in refusals {
-        let image = image_of(&rt, rt.alloc(), FIRST);
+        let image = image_of(&rt, rt.alloc(), FIRST.as_bytes());
         assert_refused(&rt, rt.alloc(), image, order, limit, (place, text))?;
     }
     Ok(())
