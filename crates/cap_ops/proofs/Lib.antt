@@ -4,3 +4,5 @@ pub mod Makings
 pub mod MadeAgain
 pub mod Unpacking
 pub mod Open
+pub mod BuiltAgain
+pub mod Encodings

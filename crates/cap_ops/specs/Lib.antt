@@ -1,2 +1,3 @@
 pub mod Making
 pub mod Unpacked
+pub mod Tagged

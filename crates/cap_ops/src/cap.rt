@@ -24,6 +24,8 @@ use cap_bounds::{decode, fields};
 use cheri_model::{ADDRESS_SPACE, UNSEALED_TYPE, Value};
 use std::marker::Model;
 
+mod tagged;
+
 /// What a register or a granule holds, as instructions use it: 128 bits and a tag. A tagged one is
 /// the word of a lawful capability (CHERI ISA v9, "tags"). Beside the word's two halves stand the
 /// bounds and the fields that it is decoded to. They fill the last 8 bytes: a copy of a padded

@@ -1,7 +1,8 @@
 //! Comparisons of two values, tagged or not (CHERI ISA v9, "capability instructions").
 
 ghost use Rattle.std.specs.Prelude.{◌≡◌};
-ghost use Rattle.cheri_model.specs.Readings.{same_tag, is_subset, is_equal_exact};
+ghost use Rattle.cheri_model.specs.CapValue.{parts_of};
+ghost use Rattle.cheri_model.specs.Readings.{same_tag, lies_in, is_subset, is_equal_exact};
 
 use crate::cap::Cap;
 
@@ -22,6 +23,13 @@ impl Cap {
         if !same_tag(self.tag(), other.tag()) {
             return false;
         }
+        self.holds_parts_of(other)
+    }
+
+    /// Whether the other's bounds and permissions lie in this one's, as numbers.
+    pub(crate) fn holds_parts_of(self, other: Cap) -> bool
+        ensures { result ≡ lies_in (parts_of self) (parts_of other) }
+    {
         let (base, top) = self.bounds();
         let (other_base, other_top) = other.bounds();
         if base > other_base {

@@ -16,7 +16,7 @@ use cheri_model::NULL_FIELDS;
 
 /// The fields of an upper half, or the upper half with these fields.
 #[tactic(auto, unfolding(cheri_model::specs::Fields::with_null_fields))]
-fn exclusive_or_null(upper: u64) -> u64
+pub(crate) fn exclusive_or_null(upper: u64) -> u64
     ensures { result ≡ with_null_fields upper }
 {
     upper ^ NULL_FIELDS

@@ -13,6 +13,7 @@ mod fields;
 pub mod laws;
 mod making;
 mod reading;
+mod rebuilding;
 mod sealing;
 
 pub use cap::Cap;

@@ -14,6 +14,7 @@ ghost use Rattle.cheri_model.specs.Readings.{
   offset_of,
   is_sealed,
 };
+ghost use Rattle.cheri_model.specs.Sweeps.{is_in_sweep};
 
 use crate::cap::Cap;
 use crate::fields::shown_permissions;
@@ -133,5 +134,17 @@ impl Cap {
         ensures { result ≡ has_permission self number }
     {
         self.permission_bits() >> number & 1 == 1
+    }
+    /// Whether a sweep of the addresses from `lo` up to `hi` clears the tag: this is tagged, sealed
+    /// or not, and its base lies there.
+    pub fn is_in_sweep(self, lo: u64, hi: u128) -> bool
+        ensures value { result ≡ is_in_sweep lo hi self }
+        ensures lawful { IsLawfulValue self }
+    {
+        if !self.tag() {
+            return false;
+        }
+        let base = self.base();
+        lo <= base && u128::from(base) < hi
     }
 }

@@ -4,6 +4,7 @@ pub mod RegionPlaces
 pub mod TopsBack
 pub mod BoundsDigits
 pub mod BoundsBack
+pub mod RawAligned
 pub mod DigitsBack
 pub mod WindowsHold
 pub mod WindowsEnd

@@ -3,4 +3,5 @@ pub mod Values
 pub mod PermissionSets
 pub mod AddressResults
 pub mod FieldResultsMade
+pub mod Rebuildings
 pub mod Derivations

@@ -6,4 +6,5 @@ pub mod Advances
 pub mod Granted
 pub mod Confined
 pub mod RunsConfined
+pub mod Sweeping
 pub mod Replays

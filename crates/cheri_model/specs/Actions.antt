@@ -9,7 +9,7 @@ use Rattle.cheri_model.specs.Alignment.{representable_length, alignment_mask}
 use Rattle.cheri_model.specs.CapValue.{CapValue, tag_of}
 use Rattle.cheri_model.specs.Results.{address_of, length_of}
 use Rattle.cheri_model.specs.Readings.{number_of, permissions_of, type_number_of, base_of, high_of, flags_of, offset_of, is_sealed, is_subset, is_equal_exact}
-use Rattle.cheri_model.specs.CapInstructions.{CapInstruction, CMove, CClearTag, CSetAddr, CIncOffset, CSetBounds, CSetBoundsExact, CAndPerm, CSetFlags, CSetHigh, CSeal, CUnseal, CSealEntry, capability_result}
+use Rattle.cheri_model.specs.CapInstructions.{CapInstruction, CMove, CClearTag, CSetAddr, CIncOffset, CSetBounds, CSetBoundsExact, CAndPerm, CSetFlags, CSetHigh, CSeal, CUnseal, CSealEntry, CBuildCap, capability_result}
 use Rattle.cheri_model.specs.Integers.{immediate, sum, difference, is_less_signed, shifted_left, shifted_right, shifted_arithmetic, word_sum, word_difference, word_shifted_left, word_shifted_right, word_shifted_arithmetic, upper_immediate}
 use Rattle.cheri_model.specs.Checks.{code_base}
 use Rattle.cheri_model.specs.Hart.{HartState, register, integer, word_of_integer}
@@ -93,6 +93,7 @@ action (instr.CSetFlags cd c1 c2) hart = derive CSetFlags cd c1 c2 hart
 action (instr.CSetHigh cd c1 c2) hart = derive CSetHigh cd c1 c2 hart
 action (instr.CSeal cd c1 c2) hart = derive CSeal cd c1 c2 hart
 action (instr.CUnseal cd c1 c2) hart = derive CUnseal cd c1 c2 hart
+action (instr.CBuildCap cd c1 c2) hart = derive CBuildCap cd c1 c2 hart
 action (instr.CSealEntry cd c1) hart = derive CSealEntry cd c1 c1 hart
 action (instr.AuiPcc cd imm) hart = derive_by CIncOffset cd hart.pcc (upper_immediate imm)
 -- capability reads

@@ -3,7 +3,7 @@
 use Rattle.std.specs.Prelude.{◌≡◌, ℕ, ◌/◌, ◌%◌, ◌^◌, ◌<◌, ◌≤◌, ◌⊎◌, List, [], ◌∷◌, ◌++◌, map, bit_and, All, Contains, ⊤}
 use Rattle.std.specs.List.{flat_map}
 use Rattle.cheri_model.specs.declared.image.HartImage.{HartImage}
-use Rattle.cheri_model.specs.declared.trace.Entry.{Entry}
+use Rattle.cheri_model.specs.declared.operation.Event.{Event}
 use Rattle.cheri_model.specs.Capability.{Capability, last_sealable_type}
 use Rattle.cheri_model.specs.CapValue.{CapValue, valid, raw, IsLawfulValue}
 use Rattle.cheri_model.specs.Hart.{HartState}
@@ -83,6 +83,6 @@ abbrev pub alone : HartState → List CapValue → MachineState
 alone hart memory = record { harts = hart ∷ []; memory = memory }
 
 -- for every beginning of a trace, every tagged value of a state is granted by the values that its replay left
-abbrev pub IsMonotone : ImageParts → List Entry → MachineState → Type 0
+abbrev pub IsMonotone : ImageParts → List Event → MachineState → Type 0
 IsMonotone image trace state =
-    (before later : List Entry) → trace ≡ before ++ later → IsConfinedTo (replayed_state image (operations_of before)) state
+    (before later : List Event) → trace ≡ before ++ later → IsConfinedTo (replayed_state image (operations_of before)) state

@@ -5,6 +5,7 @@ use Rattle.cheri_model.specs.CapValue.{CapValue}
 use Rattle.cheri_model.specs.Results.{address_of, moved, clear_tag, set_address, inc_offset, set_bounds, set_bounds_exact}
 use Rattle.cheri_model.specs.FieldResults.{and_perm, set_flags, set_high}
 use Rattle.cheri_model.specs.SealResults.{seal, unseal, seal_entry, unsealed}
+use Rattle.cheri_model.specs.Rebuilt.{build}
 
 pub data CapInstruction : Type 0 where
   CMove : CapInstruction
@@ -19,6 +20,7 @@ pub data CapInstruction : Type 0 where
   CSeal : CapInstruction
   CUnseal : CapInstruction
   CSealEntry : CapInstruction
+  CBuildCap : CapInstruction
   UnsealedByJump : CapInstruction
 
 -- what each writes
@@ -35,4 +37,5 @@ capability_result CSetHigh v w = set_high v (address_of w)
 capability_result CSeal v w = seal v w
 capability_result CUnseal v w = unseal v w
 capability_result CSealEntry v w = seal_entry v
+capability_result CBuildCap v w = build v w
 capability_result UnsealedByJump v w = unsealed v

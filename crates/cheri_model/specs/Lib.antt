@@ -17,6 +17,7 @@ pub mod Results
 pub mod FieldResults
 pub mod SealResults
 pub mod Readings
+pub mod Rebuilt
 pub mod CapInstructions
 pub mod Form
 pub mod SameInstrs
@@ -28,6 +29,7 @@ pub mod HartStep
 pub mod Image
 pub mod ImageForm
 pub mod SameImages
+pub mod Sweeps
 pub mod Machine
 pub mod Replay
 pub mod Authority

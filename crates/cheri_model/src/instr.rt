@@ -35,6 +35,8 @@ pub enum Instr {
     /// `c1` unsealed by the authority `c2`, whose address is the object type; Global only where
     /// both have it.
     CUnseal { cd: Reg, c1: Reg, c2: Reg },
+    /// The capability that the word of `c2` says, unsealed, where it lies in the authority `c1`.
+    CBuildCap { cd: Reg, c1: Reg, c2: Reg },
     /// 1 where `c2`'s bounds and permissions lie in `c1`'s and the tags are equal, else 0.
     CTestSubset { cd: Reg, c1: Reg, c2: Reg },
     /// 1 where `c1` and `c2` are equal, word and tag, else 0.
@@ -206,6 +208,7 @@ impl Instr {
             Instr::CSetHigh { cd, c1, c2 } => Form::Three(ThreeOp::CSetHigh, cd, c1, c2),
             Instr::CSeal { cd, c1, c2 } => Form::Three(ThreeOp::CSeal, cd, c1, c2),
             Instr::CUnseal { cd, c1, c2 } => Form::Three(ThreeOp::CUnseal, cd, c1, c2),
+            Instr::CBuildCap { cd, c1, c2 } => Form::Three(ThreeOp::CBuildCap, cd, c1, c2),
             Instr::CTestSubset { cd, c1, c2 } => Form::Three(ThreeOp::CTestSubset, cd, c1, c2),
             Instr::CSetEqualExact { cd, c1, c2 } => {
                 Form::Three(ThreeOp::CSetEqualExact, cd, c1, c2)

@@ -2,6 +2,7 @@
 //! nothing.
 
 pub mod alignment;
+pub mod constants;
 pub mod forms;
 pub mod lengths;
 pub mod memory;
@@ -9,4 +10,5 @@ pub mod replays;
 pub mod results;
 pub mod rounding;
 pub mod runs;
+pub mod sweeps;
 pub mod words;

@@ -66,6 +66,7 @@ impl Target {
     pub fn number(self) -> u32
         ensures { result ≡ self }
     {
-        self.number
+        let Self { number } = self;
+        number
     }
 }

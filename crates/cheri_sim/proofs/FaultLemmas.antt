@@ -44,3 +44,4 @@ pub order_refused : (IsSo : Fault → Type 0) (order : List ℕ) (kind : OrderFa
 order_refused IsSo order order_kinds.NoMemory fault memory own gives = memory
 order_refused IsSo order order_kinds.Byte fault memory own gives = own gives
 order_refused IsSo order order_kinds.Size fault memory own gives = own gives
+order_refused IsSo order order_kinds.Range fault memory own gives = own gives

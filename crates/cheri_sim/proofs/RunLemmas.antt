@@ -30,7 +30,7 @@ text_printed listing order end old now new run kept = (
   report run.core.image run.core.trace run.core.state,
   record {
     image = run.image;
-    harts = run.harts;
+    ops = run.ops;
     core = run.core;
     listing_is = run.listing_is;
     order_is = run.order_is;
@@ -54,7 +54,7 @@ text_begins listing order end old new run = (
     report run.core.image run.core.trace run.core.state,
     record {
       image = run.image;
-      harts = run.harts;
+      ops = run.ops;
       core = run.core;
       listing_is = run.listing_is;
       order_is = run.order_is;
@@ -74,7 +74,7 @@ text_unflushed listing order end old now new fault run kept is =
     let begun : IsShownRun listing order GREATEST_TRACE_LIMIT (TakesBeginning old new) end =
     record {
       image = run.image;
-      harts = run.harts;
+      ops = run.ops;
       core = run.core;
       listing_is = run.listing_is;
       order_is = run.order_is;

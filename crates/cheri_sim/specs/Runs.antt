@@ -1,6 +1,7 @@
 -- The run of a listing in an order, shown in a form.
 use Rattle.std.specs.Prelude.{◌≡◌, ℕ, List, Option, Ok, Err, ◌⊎◌}
 use Rattle.serde_json.specs.Written.{compact_text}
+use Rattle.cheri_model.specs.declared.operation.Op.{Op}
 use Rattle.cheri_model.specs.Image.{ImageParts}
 use Rattle.listings.specs.Meaning.{listing_meaning}
 use Rattle.orders.specs.Orders.{order_of}
@@ -20,11 +21,11 @@ use Rattle.cheri_sim.specs.Printing.{PrintsBeginning}
 -- A text shows a run of a listing in an order as JSON, in one line; the run ended at a refused step or at none.
 pub record IsJsonRun (listing order : List ℕ) (text : List ℕ) (end : Option (ℕ × StepFault)) : Type 0 where
   pub image : ImageParts
-  pub harts : List ℕ
+  pub ops : List Op
   pub core : CoreParts
   pub listing_is : listing_meaning listing ≡ Ok image
-  pub order_is : order_of order ≡ Ok harts
-  pub run_is : IsRunOf image harts GREATEST_TRACE_LIMIT core end
+  pub order_is : order_of order ≡ Ok ops
+  pub run_is : IsRunOf image ops GREATEST_TRACE_LIMIT core end
   pub text_is : text ≡ line (compact_text (json_report core.image core.trace core.state))
 
 -- a text shows a run in a form

@@ -46,8 +46,8 @@ fn simulate_json(
     ensures made { IfErr result (λ fault. fault ≢ SimFault.Report ReportFault.Write) }
 {
     let image = read_listing(alloc, listing)?;
-    let harts = read_order(alloc, order)?;
-    let (core, refused) = run_order(alloc, image, harts.as_slice(), GREATEST_TRACE_LIMIT)?;
+    let operations = read_order(alloc, order)?;
+    let (core, refused) = run_order(alloc, image, operations.as_slice(), GREATEST_TRACE_LIMIT)?;
     let report = json_line(alloc, core.view())?;
     Ok((report, refused))
 }

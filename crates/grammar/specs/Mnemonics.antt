@@ -25,6 +25,7 @@ mnemonic_table =
     ∷ (codes "csethigh", Three three_op.CSetHigh)
     ∷ (codes "cseal", Three three_op.CSeal)
     ∷ (codes "cunseal", Three three_op.CUnseal)
+    ∷ (codes "cbuildcap", Three three_op.CBuildCap)
     ∷ (codes "ctestsubset", Three three_op.CTestSubset)
     ∷ (codes "csetequalexact", Three three_op.CSetEqualExact)
     ∷ (codes "add", Three three_op.Add)

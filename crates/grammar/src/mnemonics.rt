@@ -63,6 +63,7 @@ const C_NAMES: &[(&[u8], Mnemonic)] = &[
     (b"csethigh", Mnemonic::Three(ThreeOp::CSetHigh)),
     (b"cseal", Mnemonic::Three(ThreeOp::CSeal)),
     (b"cunseal", Mnemonic::Three(ThreeOp::CUnseal)),
+    (b"cbuildcap", Mnemonic::Three(ThreeOp::CBuildCap)),
     (b"ctestsubset", Mnemonic::Three(ThreeOp::CTestSubset)),
     (b"csetequalexact", Mnemonic::Three(ThreeOp::CSetEqualExact)),
     (b"cmove", Mnemonic::Two(TwoOp::CMove)),

@@ -1,3 +1,4 @@
 pub mod Open
 pub mod OpenedHarts
+pub mod SweptHarts
 pub mod Verdicts

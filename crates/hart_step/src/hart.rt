@@ -1,11 +1,13 @@
 //! One hart: its registers, PCC and status.
 
-ghost use Rattle.std.specs.Prelude.{◌≡◌, ◌∷◌, All, true};
+ghost use Rattle.std.specs.Prelude.{◌≡◌, ◌≤◌, ◌∷◌, All, count_by, map, true};
 ghost use Rattle.cheri_model.specs.Authority.{EachOfHart};
 ghost use Rattle.cheri_model.specs.CapValue.{IsLawfulValue};
 ghost use Rattle.cheri_model.specs.Hart.{next, null, put, register};
 ghost use Rattle.cheri_model.specs.Image.{opening_hart};
+ghost use Rattle.cheri_model.specs.Readings.{number_of};
 ghost use Rattle.cheri_model.specs.Results.{address_of, in_bounds, is_open};
+ghost use Rattle.cheri_model.specs.Sweeps.{is_in_sweep, swept, swept_hart, cleared_in_hart};
 
 use crate::places::following;
 use cap_ops::Cap;
@@ -47,6 +49,31 @@ fn opening_registers(regs: &[Value; 31]) -> [Cap; 32]
         opened[i + 1] = cap;
     }
     opened
+}
+
+/// Clears the tag of a value where a sweep of the addresses from `lo` up to `hi` does, and says how
+/// many tags that is: 0 or 1.
+fn sweep_value(value: &mut Cap, lo: u64, hi: u128) -> u32
+    ensures swept { value.new ≡ swept lo hi value.old }
+    ensures cleared { result ≡ number_of (is_in_sweep lo hi value.old) }
+{
+    if !value.is_in_sweep(lo, hi) {
+        return 0;
+    }
+    *value = value.clear_tag();
+    1
+}
+
+/// The same of each register.
+fn sweep_registers(regs: &mut [Cap; 32], lo: u64, hi: u128) -> u32
+    ensures swept { regs.new ≡ map (swept lo hi) regs.old }
+    ensures cleared { result ≡ count_by (is_in_sweep lo hi) regs.old }
+{
+    let mut cleared = 0;
+    for value in regs.iter_mut() {
+        cleared += sweep_value(value, lo, hi);
+    }
+    cleared
 }
 
 impl Hart {
@@ -136,5 +163,15 @@ impl Hart {
     {
         self.set_status(Status::Trapped(trap));
         Outcome::Trap(trap)
+    }
+    /// Clears the tag of every capability whose base lies in the addresses from `lo` up to `hi`, in
+    /// the registers and in PCC, and says how many that is. The status stays.
+    pub fn sweep(&mut self, lo: u64, hi: u128) -> u32
+        ensures hart { self.new ≡ swept_hart lo hi self.old }
+        ensures cleared { result ≡ cleared_in_hart lo hi self.old }
+        ensures few { result ≤ 33 }
+    {
+        let counter = sweep_value(&mut self.pcc, lo, hi);
+        counter + sweep_registers(&mut self.regs, lo, hi)
     }
 }

@@ -5,16 +5,16 @@ ghost use Rattle.cheri_model.specs.Memory.{granule_at};
 
 use crate::hart::Hart;
 use cap_ops::Cap;
-use cheri_model::{Entry, Image};
+use cheri_model::{Event, Image};
 use tagged_mem::Ram;
 
-/// What is shown of a machine at one moment: the image that it started from, the entries of its
+/// What is shown of a machine at one moment: the image that it started from, the events of its
 /// trace, its harts, and its memory, of which granule k has the 16 bytes from 0x8000_0000 + 16 * k
 /// on.
 #[derive(Clone, Copy)]
 pub struct View<'a> {
     pub image: &'a Image,
-    pub entries: &'a [Entry],
+    pub entries: &'a [Event],
     pub harts: &'a [Hart],
     pub ram: &'a Ram,
 }

@@ -1,9 +1,9 @@
--- The reports of a race count the entries of the trace that it left.
+-- The reports of a race count the steps of the trace that it left.
 use Rattle.std.proofs.Common.{◌≡◌, ℕ, List, [], ◌∷◌, map, refl, sym, ap, subst, ◌∙◌}
 use Rattle.std.specs.Prelude.{All}
 use Rattle.std.specs.List.{range_with_len}
 use Rattle.std.proofs.lemmas.List.Elements.{All-nil, All-cons, All-head, All-tail, All-map}
-use Rattle.cheri_model.specs.declared.trace.Entry.{Entry}
+use Rattle.cheri_model.specs.declared.operation.Event.{Event}
 use Rattle.cheri_model.specs.Replay.{step_count}
 use Rattle.machine.specs.Shares.{ShareParts, share_at, shares_of}
 use Rattle.harts.specs.declared.workers.HartReport.{HartReport}
@@ -14,12 +14,12 @@ pub nothing_counted : (harts : ℕ) → All (λ (s : ShareParts). s.amount ≡ 0
 unfolding shares_of step_count
 nothing_counted harts = All-map (λ (s : ShareParts). s.amount ≡ 0) (share_at []) (range_with_len 0 harts) (λ k d inside. refl)
 
-harts_of_list : (trace : List Entry) (numbers : List ℕ) → map (λ (s : ShareParts). s.hart) (map (share_at trace) numbers) ≡ numbers
+harts_of_list : (trace : List Event) (numbers : List ℕ) → map (λ (s : ShareParts). s.hart) (map (share_at trace) numbers) ≡ numbers
 harts_of_list trace [] = refl
 harts_of_list trace (n ∷ numbers) = ap (λ (ns : List ℕ). n ∷ ns) (harts_of_list trace numbers)
 
 -- shares are in hart order
-pub harts_in_order : (trace : List Entry) (harts : ℕ) → map (λ (s : ShareParts). s.hart) (shares_of trace harts) ≡ range_with_len 0 harts
+pub harts_in_order : (trace : List Event) (harts : ℕ) → map (λ (s : ShareParts). s.hart) (shares_of trace harts) ≡ range_with_len 0 harts
 unfolding shares_of
 harts_in_order trace harts = harts_of_list trace (range_with_len 0 harts)
 
@@ -54,7 +54,7 @@ module _ {W : Type 0} (report : W → HartReport) (share : W → ShareParts) whe
       All (λ w. KeepsTurns turns (report w)) ws → All (KeepsTurns turns) reports
   turns_of_work turns reports ws made work = rw made (All-map (KeepsTurns turns) report ws work)
 
-  exact : (trace : List Entry) (ws : List W) → All IsWork ws →
+  exact : (trace : List Event) (ws : List W) → All IsWork ws →
       All (λ (s : ShareParts). s.amount ≡ step_count trace s.hart) (map share ws) →
       All (λ (r : HartReport). r.steps ≡ step_count trace r.hart) (map report ws)
   exact trace [] work counted = All-nil (λ (r : HartReport). r.steps ≡ step_count trace r.hart)
@@ -65,7 +65,7 @@ module _ {W : Type 0} (report : W → HartReport) (share : W → ShareParts) whe
       (subst (λ (s : ShareParts). s.amount ≡ step_count trace s.hart) (All-head IsWork w ws work) here)
       (exact trace ws (All-tail IsWork w ws work) rest)
 
-  pub reports_made : (turns : ℕ) (trace : List Entry) (harts : ℕ) (opened back : List ShareParts) (reports : List HartReport) (ws : List W) →
+  pub reports_made : (turns : ℕ) (trace : List Event) (harts : ℕ) (opened back : List ShareParts) (reports : List HartReport) (ws : List W) →
       opened ≡ shares_of [] harts → map (λ w. (report w).hart) ws ≡ map (λ (s : ShareParts). s.hart) opened → All IsWork ws →
       reports ≡ map report ws → back ≡ map share ws → All (λ (s : ShareParts). s.amount ≡ step_count trace s.hart) back →
       All (KeepsTurns turns) reports → AreReports turns trace harts reports
@@ -81,7 +81,7 @@ same_reports [] = refl
 same_reports (r ∷ reports) = ap (λ (rs : List HartReport). r ∷ rs) (same_reports reports)
 
 -- reports whose shares have counted just their steps
-pub reports_raced : (turns : ℕ) (trace : List Entry) (harts : ℕ) (opened back : List ShareParts) (reports : List HartReport) →
+pub reports_raced : (turns : ℕ) (trace : List Event) (harts : ℕ) (opened back : List ShareParts) (reports : List HartReport) →
     opened ≡ shares_of [] harts → map (λ (r : HartReport). r.hart) reports ≡ map (λ (s : ShareParts). s.hart) opened →
     back ≡ map share_of reports → All (λ (s : ShareParts). s.amount ≡ step_count trace s.hart) back →
     All (KeepsTurns turns) reports → AreReports turns trace harts reports

@@ -1,10 +1,13 @@
 //! A machine that threads share.
 
-ghost use Rattle.std.specs.Prelude.{◌≡◌, IfOk};
+ghost use Rattle.std.specs.Prelude.{◌≡◌, ◌≢◌, ◌↔◌, IfOk, Err, false};
 ghost use Rattle.std.specs.Sync.Mutex.{mutex_guard_value};
+ghost use Rattle.cheri_model.specs.Replay.{operation_of};
+ghost use Rattle.cheri_model.specs.Sweeps.{is_range};
 ghost use Rattle.machine.specs.Cores.{IsCore};
 
-use machine::{Machine, Naming, Watch, WatchFault};
+use cheri_model::{Event, Op};
+use machine::{Machine, Naming, StepFault, Watch, WatchFault};
 use std::marker::Model;
 use std::sync::{Mutex, MutexGuard, Wait};
 use std::thread;
@@ -50,7 +53,7 @@ impl<J: Naming> Shared<J> {
         };
         // The contract of `refusal` says that this is a core, whose state is the replay of its
         // trace.
-        let _refusal = guard.core().refusal(0);
+        let _refusal = guard.core().refusal(Op::Step(0));
         guard
     }
 
@@ -73,6 +76,16 @@ impl<J: Naming> Shared<J> {
         self.lock(rt).watch()
     }
 
+    /// Sweeps the machine in one hold of the lock, as `Machine::sweep` does: stopped harts, too.
+    pub fn sweep<R: Wait>(&self, rt: &R, lo: u64, hi: u128) -> Result<Event, StepFault>
+        ensures event { IfOk result (λ event. operation_of event ≡ Op.Sweep lo hi) }
+        ensures range { (result ≡ Err StepFault.BadRange) ↔ (is_range lo hi ≡ false) }
+        ensures of_no_hart { (result ≢ Err StepFault.NoSuchHart)
+            × (result ≢ Err StepFault.HartStopped) }
+    {
+        self.lock(rt).sweep(rt, lo, hi)
+    }
+
     /// The machine, once no thread shares it.
     pub fn into_machine(self) -> Machine<J>
         ensures image { result.image ≡ self }
@@ -80,7 +93,7 @@ impl<J: Naming> Shared<J> {
     {
         let machine = self.machine.into_inner();
         // As above: that this is a core.
-        let _refusal = machine.core().refusal(0);
+        let _refusal = machine.core().refusal(Op::Step(0));
         machine
     }
 }

@@ -20,7 +20,7 @@ use std::thread::{Promise, Scope, Threads};
 
 /// Runs the harts of an image in threads of their own, each in up to this many turns, and joins
 /// them. Answers the core that they left and a report for each hart, in hart order, whose steps are
-/// the hart's entries in the core's trace. Fails with `Boot` and `Limit` exactly where the limit is
+/// the hart's own in the core's trace. Fails with `Boot` and `Limit` exactly where the limit is
 /// not from 1 to 100,000; with `Spawn` where a worker could not be started, after those that were
 /// are joined; with `ImageDiffers` where the image that the machine stores at the end is not the
 /// given one; and when out of memory, with `Boot` and `NoMemory` while the machine is booted and

@@ -1,11 +1,10 @@
 -- How chains of links grow.
-use Rattle.std.proofs.Common.{◌≡◌, ◌≢◌, ℕ, ◌<◌, ◌==◌, Bool, true, false, List, [], ◌∷◌, ◌++◌, length, set, refl, ap, sym, subst, ◌∙◌, arith}
-use Rattle.std.specs.Prelude.{All, slice_set}
+use Rattle.std.proofs.Common.{◌≡◌, ℕ, ◌==◌, Bool, true, false, List, [], ◌∷◌, ◌++◌, refl, ap, sym, ◌∙◌, arith}
 use Rattle.std.proofs.lemmas.Bool.Decides.{nat_tests}
 use mathlib.Core.List.{IsPrefix}
 use Rattle.logbook.specs.Pages.{Cell, cell}
 use Rattle.history.specs.declared.links.Link.{Link}
-use Rattle.history.specs.declared.links.Operation.{Operation}
+use Rattle.cheri_model.specs.declared.operation.Op.{Op}
 use Rattle.history.specs.Orders.{order, open_end, either_order, either_key}
 use Rattle.history.specs.Steps.{AreWritten}
 
@@ -20,7 +19,7 @@ order_more key (x ∷ xs) ys = by_pen (x.pen == key) (order_more x.next xs ys) (
         → either_order b (x.operation ∷ order x.next (xs ++ ys)) (order key (xs ++ ys))
         ≡ either_order b (x.operation ∷ order x.next xs) (order key xs)
         ++ order (either_key b (open_end x.next xs) (open_end key xs)) ys
-    by_pen true its other = ap (λ (os : List Operation). x.operation ∷ os) its
+    by_pen true its other = ap (λ (os : List Op). x.operation ∷ os) its
     by_pen false its other = other
 
 pub open_end_more : (key : ℕ) (xs ys : List Link) → open_end key (xs ++ ys) ≡ open_end (open_end key xs) ys

@@ -1,12 +1,11 @@
 -- The two steps on a book keep its rule.
-use Rattle.std.proofs.Common.{◌≡◌, ℕ, zero, suc, ◌<◌, ◌==◌, Bool, true, false, List, [], ◌∷◌, ◌++◌, length, set, refl, ap, sym, subst, ◌∙◌, arith, inl, length-append, length-set, Option}
+use Rattle.std.proofs.Common.{◌≡◌, ℕ, zero, suc, ◌<◌, ◌==◌, true, false, List, [], ◌∷◌, ◌++◌, length, set, refl, ap, sym, subst, ◌∙◌, arith, inl, length-append, length-set, Option}
 use Rattle.std.proofs.lemmas.List.{append-nil}
 use Rattle.std.proofs.lemmas.Bool.Decides.{nat_tests}
 use mathlib.Core.List.{IsPrefix}
 use prog.Atomic.{either}
-use Rattle.logbook.specs.Pages.{Cell, cell, adds, gives, Nib, nib, no_nib, may_make, may_write, step, Moves, Goes}
+use Rattle.logbook.specs.Pages.{Cell, cell, adds, gives, Nib, no_nib, may_write, step, Moves}
 use Rattle.history.specs.declared.links.Link.{Link}
-use Rattle.history.specs.declared.links.Operation.{Operation}
 use Rattle.history.specs.Orders.{order, open_end, either_order, either_key}
 use Rattle.history.specs.Steps.{AreWritten, IsKept, MakesPen, AddsLink}
 use Rattle.history.proofs.Chains.{order_more, open_end_more, order_away, open_end_away}

@@ -1,8 +1,8 @@
 -- Which order a book keeps: a chain of links, each written by a pen that the link before it names.
-use Rattle.std.specs.Prelude.{ℕ, ◌==◌, List, [], ◌∷◌, ◌≡◌, Bool, true, false}
+use Rattle.std.specs.Prelude.{ℕ, ◌==◌, List, [], ◌∷◌, Bool, true, false}
 use Rattle.logbook.specs.Pages.{Book}
 use Rattle.history.specs.declared.links.Link.{Link}
-use Rattle.history.specs.declared.links.Operation.{Operation}
+use Rattle.cheri_model.specs.declared.operation.Op.{Op}
 
 -- which order it is: its book, and the key of the pen that writes its first link
 pub record OrderName : Type 0 where
@@ -12,7 +12,7 @@ pub record OrderName : Type 0 where
 abbrev pub order_name : Book → ℕ → OrderName
 order_name book first = record { book = book; first = first }
 
-abbrev pub either_order : Bool → List Operation → List Operation → List Operation
+abbrev pub either_order : Bool → List Op → List Op → List Op
 either_order true its other = its
 either_order false its other = other
 
@@ -21,7 +21,7 @@ either_key true its other = its
 either_key false its other = other
 
 -- the operations of the chain that the pen with this key begins
-unfoldable pub order : ℕ → List Link → List Operation
+unfoldable pub order : ℕ → List Link → List Op
 order key [] = []
 order key (link ∷ links) =
     either_order (link.pen == key) (link.operation ∷ order link.next links) (order key links)

@@ -5,9 +5,10 @@ ghost use Rattle.logbook.specs.Pages.{may_write};
 ghost use Rattle.history.specs.Orders.{order, open_end, order_name};
 ghost use Rattle.history.specs.Steps.{head_of};
 
-use crate::links::{Link, Operation};
+use crate::links::Link;
 use crate::rule::{Add, Draft, Law, Make, Nothing};
 use crate::seen::{Order, Seen, Token};
+use cheri_model::Op;
 use logbook::{Offer, Pen, Start, Word};
 use std::marker::{Model, PhantomData};
 
@@ -71,7 +72,7 @@ fn new_pen(head: &Word<Link, u64, Law>, seen: &mut logbook::Seen<Link, u64, Law>
     let blank = Draft {
         pen: seen.no_pen(),
         next: seen.no_pen(),
-        operation: Operation::Step(0),
+        operation: Op::Step(0),
     };
     let mut offer: Offer<Link, u64, Law, Nothing> = seen.plain::<Nothing, Draft, Add>(&blank);
     let mut pen = seen.no_pen();
@@ -94,11 +95,11 @@ pub struct Keeper<J: Order> {
 impl<J: Order> Model for Keeper<J> {
     ghost use Rattle.std.specs.Prelude.{◌≡◌, List};
     ghost use Rattle.logbook.specs.Pages.{may_write};
-    ghost use Rattle.history.specs.declared.links.Operation.{Operation};
+    ghost use Rattle.cheri_model.specs.declared.operation.Op.{Op};
     ghost use Rattle.history.specs.Orders.{order, open_end};
     ghost use Rattle.history.specs.Steps.{head_of};
 
-    ghost Value = { List Operation };
+    ghost Value = { List Op };
 
     ghost view = { λ k. order J.name.first k.seen.log };
 
@@ -111,7 +112,7 @@ impl<J: Order> Model for Keeper<J> {
 
 impl<J: Order> Keeper<J> {
     /// Adds an operation. It takes no memory, waits for nobody and is never refused.
-    pub fn add(&mut self, operation: Operation)
+    pub fn add(&mut self, operation: Op)
         ensures { self.new ≡ self.old ++ operation ∷ [] }
     {
         let mut before = self.seen.again();

@@ -10,6 +10,6 @@ mod seen;
 mod tests;
 
 pub use keeper::{Blank, Keeper};
-pub use links::{Link, Operation};
+pub use links::Link;
 pub use rule::Law;
 pub use seen::{Order, Seen, Token};

@@ -1,6 +1,7 @@
 //! The rule of a book, and the steps that it allows.
 
-use crate::links::{Link, Operation};
+use crate::links::Link;
+use cheri_model::Op;
 use logbook::{Gain, Pen, Plain, Play, Rule};
 
 /// The rule of a book: the pen of each link may write no other.
@@ -38,7 +39,7 @@ impl Gain<Link, u64> for Nothing {
 pub struct Draft {
     pub pen: Pen,
     pub next: Pen,
-    pub operation: Operation,
+    pub operation: Op,
 }
 
 /// A step that makes a pen.

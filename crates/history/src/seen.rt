@@ -4,7 +4,7 @@ ghost use Rattle.std.specs.Prelude.{◌≡◌, ◌≤◌, ◌⊎◌, length};
 ghost use mathlib.Core.List.{IsPrefix};
 ghost use Rattle.history.specs.Orders.{order};
 
-use crate::links::{Link, Operation};
+use crate::links::Link;
 use crate::rule::Law;
 use std::marker::{Brand, Model, PhantomData};
 
@@ -37,10 +37,10 @@ pub struct Seen<J: Order> {
 
 impl<J: Order> Model for Seen<J> {
     ghost use Rattle.std.specs.Prelude.{◌≡◌, List};
-    ghost use Rattle.history.specs.declared.links.Operation.{Operation};
+    ghost use Rattle.cheri_model.specs.declared.operation.Op.{Op};
     ghost use Rattle.history.specs.Orders.{order};
 
-    ghost Value = { List Operation };
+    ghost Value = { List Op };
 
     ghost view = { λ s. order J.name.first s.token.seen.log };
 

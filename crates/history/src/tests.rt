@@ -2,11 +2,11 @@
 //! what was seen of it, is proved: the contract of `grown` says it, and no run could look at it.
 
 ghost use Rattle.std.specs.Prelude.{◌≡◌, ◌∷◌, []};
-ghost use Rattle.history.specs.declared.links.Operation.TheVariants.{Step};
+ghost use Rattle.cheri_model.specs.declared.operation.Op.TheVariants.{Step, Sweep};
 
 use crate::keeper::{Blank, Keeper};
-use crate::links::Operation;
 use crate::seen::{Order, Seen, Token};
+use cheri_model::Op;
 use std::marker::Brand;
 use std::mem::size_of;
 use std::test::Fail;
@@ -30,12 +30,12 @@ fn grow<J: Order>(blank: Blank)
 fn grown<J: Order>(blank: Blank) -> (Seen<J>, Seen<J>)
     requires { blank ≡ J.name }
     ensures first { result.0 ≡ Step 1 ∷ [] }
-    ensures second { result.1 ≡ Step 1 ∷ Step 0 ∷ [] }
+    ensures second { result.1 ≡ Step 1 ∷ Sweep 16 32 ∷ [] }
 {
     let mut keeper: Keeper<J> = blank.named::<J>();
-    keeper.add(Operation::Step(1));
+    keeper.add(Op::Step(1));
     let early = keeper.seen();
-    keeper.add(Operation::Step(0));
+    keeper.add(Op::Sweep { lo: 16, hi: 32 });
     let late = keeper.seen();
     early.meet(&late);
     (early, late)

@@ -36,6 +36,7 @@ const EACH_INSTRUCTION: &str = "\
     csethigh c17, c25, c6\n\
     cseal c20, c28, c9\n\
     cunseal c23, c31, c12\n\
+    cbuildcap c22, c30, c13\n\
     ctestsubset c26, c2, c15\n\
     csetequalexact c29, c5, c18\n\
     add c0, c8, c21\n\

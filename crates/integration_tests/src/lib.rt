@@ -17,4 +17,6 @@ mod runs;
 #[cfg(test)]
 mod samples;
 #[cfg(test)]
+mod sweeps;
+#[cfg(test)]
 mod watches;

@@ -1,12 +1,12 @@
-//! Refused memory: where one allocation fails, a call answers the refusal of that name, or what it
-//! answers where none does.
+//! Refused memory, in each call that takes memory, on the first worked run. A call that is refused
+//! memory says so by the name of that refusal, and the same call once more answers as where nothing
+//! is refused. So one that always says that there is no memory fails in every run.
 //!
-//! `rt try --test --fail-alloc N -- memory`, for N = 1, 2, .., has the allocation numbered N fail.
-//! Where none fails, each call's answer is compared.
+//! `.ci/refuse` runs each test whose name begins with `refused_` under an allocator that refuses
+//! its N-th allocation, for N = 1, 2, .. until there are no more.
 
-use crate::samples::{FIRST, FIRST_JSON, FIRST_REPORT};
-use cheri_model::Image;
-use hart_step::View;
+use crate::samples::{FIRST, FIRST_JSON, FIRST_REPORT, entry_at};
+use cheri_model::{Image, Op, Outcome, Status};
 use listings::read_listing;
 use machine::{BootFault, Core, SimFault, run_order, simulate};
 use orders::{OrderFaultKind, read_order};
@@ -20,92 +20,129 @@ use texts::write_listing;
 /// The number of a listing's refusal when out of memory.
 const LISTING_NO_MEMORY: u8 = 10;
 
-/// The image of the first listing, unless memory is refused.
-fn first_image(rt: &impl Abort, alloc: Global) -> Option<Image> {
+/// The image of the first listing.
+pub(crate) fn first_image(rt: &impl Abort, alloc: Global) -> Image {
     match read_listing(alloc, FIRST.as_bytes()) {
-        Ok(image) => Some(image),
+        Ok(image) => image,
         Err(fault) => {
+            assert_eq!(rt; fault.line, 0);
             assert_eq!(rt; fault.kind.number(), LISTING_NO_MEMORY);
-            None
+            read_listing(alloc, FIRST.as_bytes()).expect(rt, "it is read once more")
         }
     }
 }
 
-/// The core after hart 0's four steps, unless memory is refused.
-fn first_run(rt: &impl Abort, alloc: Global) -> Option<Core> {
-    let image = first_image(rt, alloc)?;
-    match run_order(alloc, image, &[0, 0, 0, 0], 100_000) {
-        Ok((core, refused)) => {
-            assert!(rt; refused.is_none());
-            assert_eq!(rt; core.view().entries.len(), 4);
-            Some(core)
-        }
+/// The core after hart 0's four steps.
+fn first_core(rt: &impl Abort, alloc: Global) -> Core {
+    let order = [Op::Step(0); 4];
+    let (core, refused) = match run_order(alloc, first_image(rt, alloc), &order, 100_000) {
+        Ok(ran) => ran,
         Err(fault) => {
             assert!(rt; fault == BootFault::NoMemory);
-            None
+            let image = first_image(rt, alloc);
+            run_order(alloc, image, &order, 100_000).expect(rt, "it is run once more")
         }
-    }
+    };
+    assert!(rt; refused.is_none());
+    core
 }
 
 #[test]
-fn listings_are_read_and_written(rt: HostRuntime) -> Result<(), Fail> {
-    let Some(image) = first_image(&rt, rt.alloc()) else {
-        return Ok(());
-    };
+fn refused_read_listing(rt: HostRuntime) -> Result<(), Fail> {
+    let image = first_image(&rt, rt.alloc());
     assert_eq!(rt; image.harts().len(), 2);
     assert_eq!(rt; image.program().len(), 4);
-    if let Ok(text) = write_listing(rt.alloc(), &image) {
-        assert_eq!(rt; text.strip_prefix(".ram 4096\n"), Some(FIRST));
-    }
+    assert_eq!(rt; image.ram(), 4096);
     Ok(())
 }
 
 #[test]
-fn orders_are_read(rt: HostRuntime) -> Result<(), Fail> {
-    match read_order(rt.alloc(), b"0000") {
-        Ok(order) => assert!(rt; order.as_slice() == [0, 0, 0, 0].as_slice()),
-        Err(fault) => assert!(rt; fault.kind == OrderFaultKind::NoMemory),
-    }
-    Ok(())
-}
-
-#[test]
-fn ram_is_made(rt: HostRuntime) -> Result<(), Fail> {
-    match Ram::new(rt.alloc(), 16) {
-        Ok(ram) => assert_eq!(rt; ram.granule_count(), 1),
-        Err(fault) => assert!(rt; fault == MemFault::NoMemory),
-    }
-    Ok(())
-}
-
-#[test]
-fn first_run_is_reported(rt: HostRuntime) -> Result<(), Fail> {
-    let Some(core) = first_run(&rt, rt.alloc()) else {
-        return Ok(());
+fn refused_write_listing(rt: HostRuntime) -> Result<(), Fail> {
+    let image = first_image(&rt, rt.alloc());
+    let text = match write_listing(rt.alloc(), &image) {
+        Ok(text) => text,
+        Err(_) => write_listing(rt.alloc(), &image).expect(&rt, "it is written once more"),
     };
-    write_first_report(&rt, rt.alloc(), core.view());
-    if let Ok(text) = report_json(rt.alloc(), core.view()) {
-        assert_eq!(rt; text.as_str(), FIRST_JSON);
-    }
+    assert_eq!(rt; text.strip_prefix(".ram 4096\n"), Some(FIRST));
     Ok(())
 }
 
-/// Writes the first run's report, seven bytes at a time. A put that finds no memory fails.
-fn write_first_report(rt: &impl Abort, alloc: Global, view: View<'_>) {
-    let mut sink = MemSink::new(alloc, 0, 7);
-    match write_report(alloc, view, &mut sink) {
+#[test]
+fn refused_read_order(rt: HostRuntime) -> Result<(), Fail> {
+    let order = match read_order(rt.alloc(), b"0000") {
+        Ok(order) => order,
+        Err(fault) => {
+            assert_eq!(rt; fault.offset, 0);
+            assert!(rt; fault.kind == OrderFaultKind::NoMemory);
+            read_order(rt.alloc(), b"0000").expect(&rt, "it is read once more")
+        }
+    };
+    assert!(rt; order.as_slice() == [Op::Step(0); 4].as_slice());
+    Ok(())
+}
+
+#[test]
+fn refused_ram_new(rt: HostRuntime) -> Result<(), Fail> {
+    let ram = match Ram::new(rt.alloc(), 16) {
+        Ok(ram) => ram,
+        Err(fault) => {
+            assert!(rt; fault == MemFault::NoMemory);
+            Ram::new(rt.alloc(), 16).expect(&rt, "it is made once more")
+        }
+    };
+    assert_eq!(rt; ram.granule_count(), 1);
+    assert!(rt; !ram.granule(0).tag());
+    assert_eq!(rt; ram.granule(0).bits(), 0);
+    Ok(())
+}
+
+#[test]
+fn refused_run_order(rt: HostRuntime) -> Result<(), Fail> {
+    let core = first_core(&rt, rt.alloc());
+    let view = core.view();
+    assert_eq!(rt; view.entries.len(), 4);
+    let last = entry_at(&rt, view.entries, 3);
+    assert_eq!(rt; last.pc, 0x1000_000C);
+    assert!(rt; last.outcome == Outcome::Halt);
+    assert_eq!(rt; view.harts.len(), 2);
+    assert!(rt; view.harts[0].status() == Status::Halted);
+    assert!(rt; view.harts[1].status() == Status::Running);
+    Ok(())
+}
+
+#[test]
+fn refused_write_report(rt: HostRuntime) -> Result<(), Fail> {
+    let core = first_core(&rt, rt.alloc());
+    let mut sink = MemSink::new(rt.alloc(), 0, 7);
+    match write_report(rt.alloc(), core.view(), &mut sink) {
         Ok(()) => assert!(rt; sink.bytes() == FIRST_REPORT),
+        // a put that finds no memory fails
         Err(ReportFault::Write | ReportFault::NoMemory) => {
             assert!(rt; FIRST_REPORT.starts_with(sink.bytes()));
+            let mut again = MemSink::new(rt.alloc(), 0, 7);
+            assert!(rt; write_report(rt.alloc(), core.view(), &mut again) == Ok(()));
+            assert!(rt; again.bytes() == FIRST_REPORT);
         }
     }
+    Ok(())
 }
 
 #[test]
-fn first_run_is_simulated(rt: HostRuntime) -> Result<(), Fail> {
+fn refused_report_json(rt: HostRuntime) -> Result<(), Fail> {
+    let core = first_core(&rt, rt.alloc());
+    let text = match report_json(rt.alloc(), core.view()) {
+        Ok(text) => text,
+        Err(_) => report_json(rt.alloc(), core.view()).expect(&rt, "it is made once more"),
+    };
+    assert_eq!(rt; text.as_str(), FIRST_JSON);
+    Ok(())
+}
+
+#[test]
+fn refused_simulate(rt: HostRuntime) -> Result<(), Fail> {
+    let listing = FIRST.as_bytes();
     let mut sink = MemSink::new(rt.alloc(), 0, 4096);
-    let ran = simulate(rt.alloc(), FIRST.as_bytes(), b"0000", 100_000, &mut sink);
-    match ran {
+    match simulate(rt.alloc(), listing, b"0000", 100_000, &mut sink) {
         Ok(refused) => {
             assert!(rt; refused.is_none());
             assert!(rt; sink.bytes() == FIRST_REPORT);
@@ -113,6 +150,10 @@ fn first_run_is_simulated(rt: HostRuntime) -> Result<(), Fail> {
         Err(fault) => {
             assert!(rt; is_out_of_memory(fault));
             assert!(rt; FIRST_REPORT.starts_with(sink.bytes()));
+            let mut again = MemSink::new(rt.alloc(), 0, 4096);
+            let ran = simulate(rt.alloc(), listing, b"0000", 100_000, &mut again);
+            assert!(rt; ran.expect(&rt, "it is simulated once more").is_none());
+            assert!(rt; again.bytes() == FIRST_REPORT);
         }
     }
     Ok(())

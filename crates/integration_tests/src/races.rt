@@ -3,6 +3,7 @@
 
 ghost use Rattle.std.specs.Prelude.{◌≡◌};
 
+use crate::samples::{entry_at, operation_of, steps_of};
 use cheri_model::{Image, Reg};
 use gates::{EndsAt, Meeting, Tally};
 use harts::{Gate, HartReport, RunFault, Shared, Why, hart_loop, run_harts};
@@ -16,6 +17,7 @@ use std::test::Fail;
 use std::thread::Threads;
 
 mod gates;
+mod sweeping;
 mod viewers;
 mod watching;
 
@@ -112,8 +114,10 @@ fn looped<J: Naming, G: Gate, R: Abort + Wait>(
 /// Compares a core with the run of its own trace's order on one thread.
 fn assert_replayed(rt: &impl Abort, alloc: Global, core: &Core, listing: &[u8], limit: u32) {
     let mut order = Vec::new(alloc);
-    for entry in core.view().entries {
-        order.push(entry.hart).expect(rt, "there is memory");
+    for event in core.view().entries {
+        order
+            .push(operation_of(event))
+            .expect(rt, "there is memory");
     }
     let image = image_of(rt, alloc, listing);
     let ran = run_order(alloc, image, order.as_slice(), limit);
@@ -121,6 +125,12 @@ fn assert_replayed(rt: &impl Abort, alloc: Global, core: &Core, listing: &[u8], 
     assert!(rt; refused.is_none());
     assert!(rt; alone.view().entries == core.view().entries);
     assert!(rt; alone.view().harts == core.view().harts);
+    assert!(rt; alone.view().ram.bytes() == core.view().ram.bytes());
+    let granules = core.view().granule_count();
+    assert_eq!(rt; alone.view().granule_count(), granules);
+    for number in 0..granules {
+        assert!(rt; alone.view().granule(number) == core.view().granule(number));
+    }
 }
 
 /// Checks what two swaps leave, where this hart went first.
@@ -149,7 +159,7 @@ fn harts_meet_and_swap_both_ways_round(rt: HostRuntime) -> Result<(), Fail> {
         assert!(rt; gate.first_stepped.is_set() && gate.second_stepped.is_set());
         let entries = core.view().entries;
         assert_eq!(rt; entries.len(), 4);
-        assert_eq!(rt; entries[0].hart, first);
+        assert_eq!(rt; entry_at(&rt, entries, 0).hart, first);
         assert_swapped(&rt, &core, first);
         assert_eq!(rt; reports.len(), 2);
         for report in reports {
@@ -164,13 +174,15 @@ fn harts_meet_and_swap_both_ways_round(rt: HostRuntime) -> Result<(), Fail> {
 fn swaps_happen_in_the_order_of_the_trace(rt: HostRuntime) -> Result<(), Fail> {
     for order in [[0, 1], [1, 0]] {
         let image = image_of(&rt, rt.alloc(), SWAP);
-        let (core, _) = run_order(rt.alloc(), image, &order, 100).expect(&rt, "it boots");
+        let steps = steps_of(&rt, rt.alloc(), &order);
+        let ran = run_order(rt.alloc(), image, steps.as_slice(), 100);
+        let (core, _) = ran.expect(&rt, "it boots");
         assert_swapped(&rt, &core, order[0]);
     }
     let (core, _) = run(&rt, rt.alloc(), Runner::Race, SWAP, 2, 100, &EndsAt(&[]));
     let entries = core.view().entries;
     assert_eq!(rt; entries.len(), 4);
-    assert_swapped(&rt, &core, entries[0].hart);
+    assert_swapped(&rt, &core, entry_at(&rt, entries, 0).hart);
     Ok(())
 }
 
@@ -285,22 +297,45 @@ fn a_hundred_thousand_steps_are_replayed(rt: HostRuntime) -> Result<(), Fail> {
     Ok(())
 }
 
-#[test]
-fn refused_memory_is_reported(rt: HostRuntime) -> Result<(), Fail> {
-    let image = match read_listing(rt.alloc(), SWAP) {
+/// The image of the two harts that swap.
+fn swap_image(rt: &impl Abort, alloc: Global) -> Image {
+    match read_listing(alloc, SWAP) {
         Ok(image) => image,
         Err(fault) => {
             assert_eq!(rt; fault.kind.number(), 10);
-            return Ok(());
+            image_of(rt, alloc, SWAP)
+        }
+    }
+}
+
+/// Whether a good image can be refused so: when out of memory, which a thread needs, too.
+fn is_out_of_memory(fault: RunFault) -> bool {
+    match fault {
+        RunFault::Boot(fault) => fault == BootFault::NoMemory,
+        RunFault::Spawn | RunFault::NoMemory => true,
+        RunFault::ImageDiffers => false,
+    }
+}
+
+#[test]
+fn refused_run_harts(rt: HostRuntime) -> Result<(), Fail> {
+    let image = swap_image(&rt, rt.alloc());
+    let (core, reports) = match run_harts(&rt, rt.alloc(), image, 2, 100, &EndsAt(&[])) {
+        Ok(ran) => ran,
+        Err(fault) => {
+            assert!(rt; is_out_of_memory(fault));
+            let image = swap_image(&rt, rt.alloc());
+            let again = run_harts(&rt, rt.alloc(), image, 2, 100, &EndsAt(&[]));
+            again.expect(&rt, "it is run once more")
         }
     };
-    match run_harts(&rt, rt.alloc(), image, 2, 100, &EndsAt(&[])) {
-        Ok((core, reports)) => {
-            assert_eq!(rt; core.view().entries.len(), 4);
-            assert_eq!(rt; reports.len(), 2);
-        }
-        Err(RunFault::Boot(fault)) => assert!(rt; fault == BootFault::NoMemory),
-        Err(fault) => assert!(rt; fault == RunFault::Spawn || fault == RunFault::NoMemory),
+    let entries = core.view().entries;
+    assert_eq!(rt; entries.len(), 4);
+    assert_swapped(&rt, &core, entry_at(&rt, entries, 0).hart);
+    assert_eq!(rt; reports.len(), 2);
+    for report in reports {
+        assert_eq!(rt; report.steps, 2);
+        assert!(rt; report.why == Why::Stopped);
     }
     Ok(())
 }

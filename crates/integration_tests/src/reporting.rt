@@ -1,9 +1,13 @@
 //! Reports on sinks and writers that take little and fail, and each word that a report has.
 
+mod sweeps;
+
 use crate::samples::FIRST_REPORT;
 use bitflags::Flags;
 use cap_ops::Cap;
-use cheri_model::{Entry, HartImage, Image, Instr, Outcome, Perms, Reg, Status, Trap, Value};
+use cheri_model::{
+    Entry, Event, HartImage, Image, Instr, Outcome, Perms, Reg, Status, Trap, Value,
+};
 use hart_step::{Hart, View};
 use reports::{MemSink, ReportFault, Sink, SinkFailed, ToWrite, report_json, write_report};
 use std::alloc::Global;
@@ -40,7 +44,7 @@ end
 #[derive(Drop)]
 struct Shown {
     image: Image,
-    entries: Vec<Entry>,
+    entries: Vec<Event>,
     harts: Vec<Hart>,
     ram: Ram,
 }
@@ -87,9 +91,9 @@ fn image_of(
     Ok(image.expect(rt, "the parts make an image"))
 }
 
-/// The entry of a step of a hart.
-fn entry(hart: u8, pc: u64, outcome: Outcome) -> Entry {
-    Entry { hart, pc, outcome }
+/// The event of a step of a hart.
+fn step(hart: u8, pc: u64, outcome: Outcome) -> Event {
+    Event::Step(Entry { hart, pc, outcome })
 }
 
 /// PCC of the first worked run, at an address.
@@ -115,10 +119,10 @@ fn first(rt: &impl Abort, alloc: Global) -> Result<Shown, Fail> {
     let mut running = hart_at(first_pcc(rt, 0x1000_0000));
     running.put(Reg::new(5), first_data(rt, 4096));
     let entries = vec![in alloc;
-        entry(0, 0x1000_0000, Outcome::Done),
-        entry(0, 0x1000_0004, Outcome::Done),
-        entry(0, 0x1000_0008, Outcome::Done),
-        entry(0, 0x1000_000C, Outcome::Halt),
+        step(0, 0x1000_0000, Outcome::Done),
+        step(0, 0x1000_0004, Outcome::Done),
+        step(0, 0x1000_0008, Outcome::Done),
+        step(0, 0x1000_000C, Outcome::Halt),
     ]?;
     Ok(Shown {
         image: image_of(rt, alloc, 2, 4096, 4)?,
@@ -166,10 +170,10 @@ fn words(rt: &impl Abort, alloc: Global) -> Result<Shown, Fail> {
     assert!(rt; ram.fits(0x8000_0020, 16));
     ram.store_cap(0x8000_0020, sixteen(rt, Perms::from_bits_retain(5)));
     let entries = vec![in alloc;
-        entry(2, 0x1000_0000, Outcome::Done),
-        entry(0, u64::MAX, Outcome::Trap(invoke)),
-        entry(1, 0x1000_0004, Outcome::Trap(length)),
-        entry(0, 0, Outcome::Halt),
+        step(2, 0x1000_0000, Outcome::Done),
+        step(0, u64::MAX, Outcome::Trap(invoke)),
+        step(1, 0x1000_0004, Outcome::Trap(length)),
+        step(0, 0, Outcome::Halt),
     ]?;
     Ok(Shown {
         image: image_of(rt, alloc, 3, 48, 1)?,
@@ -307,7 +311,7 @@ fn halted_hart_is_shown_as_json(rt: HostRuntime) -> Result<(), Fail> {
     halted.set_status(Status::Halted);
     let shown = Shown {
         image: image_of(&rt, rt.alloc(), 1, 16, 1)?,
-        entries: vec![in rt.alloc(); entry(0, 0x1000_0000, Outcome::Halt)]?,
+        entries: vec![in rt.alloc(); step(0, 0x1000_0000, Outcome::Halt)]?,
         harts: vec![in rt.alloc(); halted]?,
         ram: Ram::new(rt.alloc(), 16).expect(&rt, "RAM can be made"),
     };

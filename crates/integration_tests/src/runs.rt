@@ -1,7 +1,7 @@
 //! Runs of orders: a full trace, refused steps by number and name, and PCC at the end of its bounds
 //! and of the code.
 
-use crate::samples::{FIRST, TWO_HARTS};
+use crate::samples::{FIRST, TWO_HARTS, entry_at, steps_of};
 use cap_ops::Cap;
 use cheri_model::{HartImage, Image, Instr, Outcome, Perms, Reg, Trap, Value};
 use listings::read_listing;
@@ -45,7 +45,9 @@ fn assert_refused(
     limit: u32,
     (place, text): (usize, &str),
 ) -> Result<(), Fail> {
-    let (core, refused) = run_order(alloc, image, order, limit).expect(rt, "it boots");
+    let order = steps_of(rt, alloc, order);
+    let ran = run_order(alloc, image, order.as_slice(), limit);
+    let (core, refused) = ran.expect(rt, "it boots");
     let (at, fault) = refused.ok_or("no step is refused")?;
     let printed = format!(in alloc; "{fault}")?;
     assert_eq!(rt; at, place);
@@ -68,7 +70,9 @@ fn orders_are_refused_where_a_step_is(rt: HostRuntime) -> Result<(), Fail> {
         assert_refused(&rt, rt.alloc(), image, order, limit, (place, text))?;
     }
     let image = image_of(&rt, rt.alloc(), TWO_HARTS);
-    let (core, refused) = run_order(rt.alloc(), image, &[0, 1, 1, 0], 4).expect(&rt, "it boots");
+    let order = steps_of(&rt, rt.alloc(), &[0, 1, 1, 0]);
+    let ran = run_order(rt.alloc(), image, order.as_slice(), 4);
+    let (core, refused) = ran.expect(&rt, "it boots");
     assert!(rt; refused.is_none());
     assert_eq!(rt; core.view().entries.len(), 4);
     Ok(())
@@ -95,6 +99,7 @@ fn refusals_have_numbers_and_names(rt: HostRuntime) -> Result<(), Fail> {
         (StepFault::TraceFull, 2, "2 TraceFull"),
         (StepFault::HartStopped, 3, "3 HartStopped"),
         (StepFault::NoMemory, 4, "4 NoMemory"),
+        (StepFault::BadRange, 5, "5 BadRange"),
     ];
     for (fault, number, text) in steps {
         let printed = format!(in rt.alloc(); "{fault}")?;
@@ -134,7 +139,9 @@ fn limits_are_from_one_to_a_hundred_thousand(rt: HostRuntime) -> Result<(), Fail
 #[test]
 fn a_copy_steps_by_itself(rt: HostRuntime) -> Result<(), Fail> {
     let image = image_of(&rt, rt.alloc(), TWO_HARTS);
-    let (mut core, _) = run_order(rt.alloc(), image, &[1], 3).expect(&rt, "it boots");
+    let order = steps_of(&rt, rt.alloc(), &[1]);
+    let ran = run_order(rt.alloc(), image, order.as_slice(), 3);
+    let (mut core, _) = ran.expect(&rt, "it boots");
     let mut copy = core.copy(rt.alloc())?;
     assert!(rt; copy.view().entries == core.view().entries);
     assert!(rt; core.step(0).is_ok());
@@ -151,15 +158,17 @@ fn a_copy_steps_by_itself(rt: HostRuntime) -> Result<(), Fail> {
 fn pcc_ends_with_its_bounds_and_with_the_code(rt: HostRuntime) -> Result<(), Fail> {
     for (reach, cause) in [(4, Trap::LENGTH), (8, Trap::FETCH)] {
         let image = one_instruction(&rt, rt.alloc(), reach)?;
-        let (core, refused) = run_order(rt.alloc(), image, &[0, 0, 0], 100).expect(&rt, "it boots");
+        let order = steps_of(&rt, rt.alloc(), &[0, 0, 0]);
+        let ran = run_order(rt.alloc(), image, order.as_slice(), 100);
+        let (core, refused) = ran.expect(&rt, "it boots");
         let entries = core.view().entries;
         let trap = Trap {
             cause,
             reg: Trap::PCC,
         };
         assert_eq!(rt; entries.len(), 2);
-        assert!(rt; entries[0].outcome == Outcome::Done);
-        assert!(rt; entries[1].outcome == Outcome::Trap(trap));
+        assert!(rt; entry_at(&rt, entries, 0).outcome == Outcome::Done);
+        assert!(rt; entry_at(&rt, entries, 1).outcome == Outcome::Trap(trap));
         assert!(rt; refused == Some((2, StepFault::HartStopped)));
     }
     Ok(())

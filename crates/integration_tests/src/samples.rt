@@ -1,6 +1,10 @@
-//! What several modules of these tests use: listings, and a watch that is asked for until it comes.
+//! What several modules of these tests use: listings, orders and their events, and a watch that is
+//! asked for until it comes.
 
+use cheri_model::{Entry, Event, Op};
 use machine::{Machine, Naming, Watch, WatchFault};
+use std::alloc::Global;
+use std::process::Abort;
 use std::thread;
 
 /// Two harts that may each run two instructions.
@@ -59,12 +63,44 @@ pub(crate) const FIRST_JSON: &str = "\
 \"word\":\"000c000000018004_0000000080000000\"}},\"status\":\"running\"}],\
 \"image\":{\"code\":4,\"harts\":2,\"ram\":4096},\"mem\":{},\"report\":1}";
 
-/// A watch, asked for at most eight times.
+/// An order of one step of each of these harts, in turn.
+pub(crate) fn steps_of(rt: &impl Abort, alloc: Global, harts: &[u8]) -> Vec<Op> {
+    let mut order = Vec::new(alloc);
+    for hart in harts {
+        order.push(Op::Step(*hart)).expect(rt, "there is memory");
+    }
+    order
+}
+
+/// The operation of an event.
+pub(crate) fn operation_of(event: &Event) -> Op {
+    match event {
+        Event::Step(entry) => Op::Step(entry.hart),
+        Event::Sweep { lo, hi, .. } => Op::Sweep { lo: *lo, hi: *hi },
+    }
+}
+
+/// The entry of an event that is a step.
+fn entry_of(event: &Event) -> Option<Entry> {
+    match event {
+        Event::Step(entry) => Some(*entry),
+        Event::Sweep { .. } => None,
+    }
+}
+
+/// The entry of the event at a place of a trace, which is a step.
+pub(crate) fn entry_at(rt: &impl Abort, events: &[Event], place: usize) -> Entry {
+    let event = events.get(place).expect(rt, "the trace has such an event");
+    entry_of(event).expect(rt, "the event is a step")
+}
+
+/// A watch, asked for at most eight times: each time, no place may be free yet.
 pub(crate) fn watch_of<J: Naming>(machine: &mut Machine<J>) -> Option<Watch<J>> {
     for _ in 0..8 {
         match machine.watch() {
             Ok(watch) => return Some(watch),
-            Err(WatchFault::NoPlace | WatchFault::NoMemory) => thread::yield_now(),
+            Err(WatchFault::NoPlace) => thread::yield_now(),
+            Err(WatchFault::NoMemory) => return None,
         }
     }
     None

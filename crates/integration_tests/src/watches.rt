@@ -2,7 +2,7 @@
 
 ghost use Rattle.std.specs.Prelude.{◌≡◌};
 
-use crate::samples::{FIRST, watch_of};
+use crate::samples::{FIRST, entry_at, watch_of};
 use listings::read_listing;
 use machine::{Blanks, Core, Look, Machine, Naming, Watch};
 use std::alloc::Global;
@@ -50,7 +50,7 @@ fn watched<J: Naming, R: Wait + Abort>(
     let look = looked(watch.learn(receipt)).expect(rt, "one of the looks shows the machine");
     let entries = look.core().view().entries;
     assert_eq!(rt; entries.len(), 1);
-    assert_eq!(rt; entries[0].hart, 1);
+    assert_eq!(rt; entry_at(rt, entries, 0).hart, 1);
     let watch = look.end();
     assert!(rt; stepped.is_ok());
     let again = looked(watch).expect(rt, "the watch looks again");
@@ -94,7 +94,7 @@ fn looked_twice<J: Naming, R: Wait + Abort>(
 }
 
 /// A look of a watch, tried again while there is none.
-fn looked<J: Naming>(watch: Watch<J>) -> Option<Look<J>> {
+pub(crate) fn looked<J: Naming>(watch: Watch<J>) -> Option<Look<J>> {
     let mut watch = watch;
     for _ in 0..TRIES {
         match watch.look() {

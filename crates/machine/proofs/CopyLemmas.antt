@@ -1,111 +1,103 @@
 -- What copies of a core keep, and what was seen of their order.
-use Rattle.std.proofs.Common.{◌≡◌, ◌≢◌, ℕ, ◌≤◌, Bool, true, false, not, List, [], ◌∷◌, ◌++◌, length, map, fold, refl, sym, ap, subst, ◌∙◌, arith, append_assoc, ⊎_elim, inl, inr, ◌+◌, ◌-◌, ◌<◌, length-append, get_or}
+use Rattle.std.proofs.Common.{◌≡◌, ◌≢◌, ℕ, Bool, true, false, not, List, [], ◌∷◌, ◌++◌, length, fold, refl, sym, ap, subst, ◌∙◌, arith, ⊎_elim, inl, inr, ◌-◌, ◌<◌, length-append, get_or}
 use Rattle.std.specs.Prelude.{None, Some, Option, ◌⊎◌, Result, Ok, Err, nat_lt, if◌then◌else◌}
 use Rattle.std.proofs.Math.Seq.{get_or-append_seam}
-use Rattle.std.proofs.lemmas.List.{append-nil, map-append, length-map}
+use Rattle.std.proofs.lemmas.List.{append-nil, length-map}
 use mathlib.Core.List.{IsPrefix}
+use Rattle.cheri_model.specs.declared.operation.Op.{Op}
+use Rattle.cheri_model.specs.declared.operation.Op.TheVariants as operation
+use Rattle.cheri_model.specs.declared.operation.Event.{Event}
+use Rattle.cheri_model.specs.declared.operation.Event.TheVariants as event
 use Rattle.cheri_model.specs.declared.trace.Entry.{Entry}
 use Rattle.cheri_model.specs.Image.{ImageParts}
-use Rattle.cheri_model.specs.Machine.{MachineState, step_of, opening_state, entry_of, is_running, hart_at}
-use Rattle.cheri_model.specs.Replay.{IsReplay, IsBeginning, operations_of, replayed_entries}
-use Rattle.cheri_model.proofs.Runs.Replays.{entries_beginning}
-use Rattle.history.specs.declared.links.Operation.{Operation}
-use Rattle.history.specs.declared.links.Operation.TheVariants.{Step}
+use Rattle.cheri_model.specs.Sweeps.{is_range}
+use Rattle.cheri_model.specs.Machine.{opening_state, entry_of, event_of, is_running, hart_at}
+use Rattle.cheri_model.specs.Replay.{IsReplay, IsBeginning, operations_of, replayed_events}
+use Rattle.cheri_model.proofs.Runs.Replays.{events_beginning}
 use Rattle.history.specs.declared.seen.Token.{Token}
 use Rattle.history.specs.Orders.{OrderName, order}
 use Rattle.machine.specs.declared.faults.StepFault.{StepFault}
-use Rattle.machine.specs.declared.faults.StepFault.TheVariants.{NoSuchHart, TraceFull, HartStopped, NoMemory}
-use Rattle.machine.specs.Cores.{CoreParts, applied, answered, unless_refused, refused, core_after, unless_kept}
-use Rattle.machine.specs.Copies.{asked, taken, trace_of, shown_after, IsShown}
+use Rattle.machine.specs.declared.faults.StepFault.TheVariants.{NoSuchHart, TraceFull, HartStopped, NoMemory, BadRange}
+use Rattle.machine.specs.Cores.{CoreParts, applied, answered, answered_step, unless_refused, refused, core_after, unless_kept}
+use Rattle.machine.specs.Copies.{shown_after, IsShown}
 use Rattle.machine.specs.declared.shown.Shown.{Shown}
 use Rattle.machine.specs.declared.shown.Ticket.{Ticket}
 use Rattle.machine.specs.declared.shown.Ticket.TheVariants.{Take, Tell}
-
-asked_taken : (trace : List Entry) → map asked (taken trace) ≡ operations_of trace
-unfolding taken operations_of
-asked_taken [] = refl
-asked_taken (e ∷ es) = ap (λ os. step_of e.hart ∷ os) (asked_taken es)
+use Rattle.machine.proofs.CoreLemmas.{operations_after}
 
 -- a core's trace is that of its order
-pub trace_of_core : (core : CoreParts) (image : ImageParts) → IsReplay core.image core.trace core.state → core.image ≡ image → trace_of image (taken core.trace) ≡ core.trace
-unfolding trace_of
+pub trace_of_core : (core : CoreParts) (image : ImageParts) → IsReplay core.image core.trace core.state → core.image ≡ image →
+    replayed_events image (operations_of core.trace) ≡ core.trace
 trace_of_core core image is same =
-    ap (replayed_entries image) (asked_taken core.trace)
-    ∙ ap (λ i. replayed_entries i (operations_of core.trace)) (sym same) ∙ sym is.entries
+    ap (λ i. replayed_events i (operations_of core.trace)) (sym same) ∙ sym is.events
 
-pub length_taken : (trace : List Entry) → length (taken trace) ≡ length trace
-unfolding taken
-length_taken trace = simp length-map
+pub length-operations_of : (trace : List Event) → length (operations_of trace) ≡ length trace
+unfolding operations_of
+length-operations_of trace = simp length-map
 
 -- what begins the order begins the trace
-pub trace_beginning : (image : ImageParts) (xs ys : List Operation) → IsPrefix xs ys → IsBeginning (trace_of image xs) (trace_of image ys)
-unfolding trace_of replayed_entries
-trace_beginning image xs ys p =
-    entries_beginning image (opening_state image) (map asked xs) (map asked ys)
-    (map asked p.0, sym (ap (map asked) p.1) ∙ map-append asked xs p.0)
+pub trace_beginning : (image : ImageParts) (xs ys : List Op) → IsPrefix xs ys → IsBeginning (replayed_events image xs) (replayed_events image ys)
+unfolding replayed_events
+trace_beginning image xs ys p = events_beginning image (opening_state image) xs ys (p.0, sym p.1)
 
 -- each trace begins with itself
-pub beginning_self : (xs : List Entry) → IsBeginning xs xs
+pub beginning_self : (xs : List Event) → IsBeginning xs xs
 beginning_self xs = ([], sym (append-nil xs))
 
-pub taken_push : (core : CoreParts) (op : Operation) → taken (core_after core (asked op)).trace ≡ taken core.trace ++ op ∷ []
-unfolding taken core_after entry_of
-taken_push core (Step hart) = map-append (λ (e : Entry). Step e.hart) core.trace (entry_of core.image core.state (step_of hart) ∷ [])
-
-pub applied_after : (core : CoreParts) (op : Operation) → refused core (asked op) ≡ None → applied core (asked op) ≡ core_after core (asked op)
+pub applied_after : (core : CoreParts) (op : Op) → refused core op ≡ None → applied core op ≡ core_after core op
 unfolding applied
-applied_after core op is = ap (λ r. unless_kept r core (core_after core (asked op))) is
+applied_after core op is = ap (λ r. unless_kept r core (core_after core op)) is
 
-pub image_after : (core : CoreParts) (op : Operation) → (core_after core (asked op)).image ≡ core.image
+pub image_after : (core : CoreParts) (op : Op) → (core_after core op).image ≡ core.image
 unfolding core_after
 image_after core op = refl
 
 -- copies after a ticket for an operation that is not refused, and one that may tell
-abbrev pub TakesAndMayTell : List Ticket → Operation → Token → Type 0
+abbrev pub TakesAndMayTell : List Ticket → Op → Token → Type 0
 TakesAndMayTell tickets op token = (tickets ≡ Take op ∷ []) ⊎ (tickets ≡ Take op ∷ Tell token ∷ [])
 
-pub may_tell : (tickets before : List Ticket) (op : Operation) (token : Token) → before ≡ Take op ∷ [] →
+pub may_tell : (tickets before : List Ticket) (op : Op) (token : Token) → before ≡ Take op ∷ [] →
     (tickets ≡ before) ⊎ (tickets ≡ before ++ Tell token ∷ []) → TakesAndMayTell tickets op token
 may_tell tickets before op token one may = ⊎_elim
     (λ (e : tickets ≡ before). inl (e ∙ one))
     (λ (e : tickets ≡ before ++ Tell token ∷ []). inr (e ∙ ap (λ (ts : List Ticket). ts ++ Tell token ∷ []) one))
     may
 
-taking : (shown : Shown) (op : Operation) → refused shown.core (asked op) ≡ None → (shown_after shown (Take op)).core ≡ core_after shown.core (asked op)
+taking : (shown : Shown) (op : Op) → refused shown.core op ≡ None → (shown_after shown (Take op)).core ≡ core_after shown.core op
 unfolding shown_after
 taking shown op is = applied_after shown.core op is
 
-pub taken_core : (shown : Shown) (op : Operation) (token : Token) (tickets : List Ticket) → refused shown.core (asked op) ≡ None →
-    TakesAndMayTell tickets op token → (fold shown_after shown tickets).core ≡ core_after shown.core (asked op)
+pub taken_core : (shown : Shown) (op : Op) (token : Token) (tickets : List Ticket) → refused shown.core op ≡ None →
+    TakesAndMayTell tickets op token → (fold shown_after shown tickets).core ≡ core_after shown.core op
 unfolding shown_after
 taken_core shown op token tickets is may = ⊎_elim
     (λ (e : tickets ≡ Take op ∷ []). ap (λ (ts : List Ticket). (fold shown_after shown ts).core) e ∙ taking shown op is)
     (λ (e : tickets ≡ Take op ∷ Tell token ∷ []). ap (λ (ts : List Ticket). (fold shown_after shown ts).core) e ∙ taking shown op is)
     may
 
-pub taken_shown : (image : ImageParts) (name : OrderName) (shown : Shown) (op : Operation) (token : Token) (tickets : List Ticket) →
-    refused shown.core (asked op) ≡ None → TakesAndMayTell tickets op token → token.seen.book ≡ name.book →
-    order name.first token.seen.log ≡ taken shown.core.trace ++ op ∷ [] → IsShown image name shown →
+pub taken_shown : (image : ImageParts) (name : OrderName) (shown : Shown) (op : Op) (token : Token) (tickets : List Ticket) →
+    refused shown.core op ≡ None → TakesAndMayTell tickets op token → token.seen.book ≡ name.book →
+    order name.first token.seen.log ≡ operations_of shown.core.trace ++ op ∷ [] → IsShown image name shown →
     IsShown image name (fold shown_after shown tickets)
 unfolding shown_after
 taken_shown image name shown op token tickets is may book new old =
     let after = applied_after shown.core op is in
-    let image' : (applied shown.core (asked op)).image ≡ image = ap (λ (c : CoreParts). c.image) after ∙ (image_after shown.core op ∙ old.image_is) in
+    let image' : (applied shown.core op).image ≡ image = ap (λ (c : CoreParts). c.image) after ∙ (image_after shown.core op ∙ old.image_is) in
     let one : IsShown image name (fold shown_after shown (Take op ∷ [])) = record { image_is = image'; book_is = old.book_is; order_is = λ told. absurd (cc told) } in
     let two : IsShown image name (fold shown_after shown (Take op ∷ Tell token ∷ [])) = record {
       image_is = image';
       book_is = book;
-      order_is = λ told. new ∙ (sym (taken_push shown.core op) ∙ ap (λ (c : CoreParts). taken c.trace) (sym after));
+      order_is = λ told. new ∙ (sym (operations_after shown.core op) ∙ ap (λ (c : CoreParts). operations_of c.trace) (sym after));
     } in
     ⊎_elim
     (λ (e : tickets ≡ Take op ∷ []). subst (λ (ts : List Ticket). IsShown image name (fold shown_after shown ts)) (sym e) one)
     (λ (e : tickets ≡ Take op ∷ Tell token ∷ []). subst (λ (ts : List Ticket). IsShown image name (fold shown_after shown ts)) (sym e) two)
     may
 
--- a core never refuses a step with NoMemory
-pub refused_for_another : (core : CoreParts) (hart : ℕ) (fault : StepFault) → Some fault ≡ refused core (step_of hart) → fault ≢ NoMemory
+-- a core never refuses an operation with NoMemory
+pub refused_for_another : (core : CoreParts) (op : Op) (fault : StepFault) → Some fault ≡ refused core op → fault ≢ NoMemory
 unfolding refused
-refused_for_another core hart fault is memory =
+refused_for_another core (operation.Step hart) fault is memory =
     by_tests (nat_lt hart (length core.state.harts)) (nat_lt (length core.trace) core.limit) (is_running (hart_at core.state hart).status)
     (ap (λ (f : StepFault). Some f) (sym memory) ∙ is)
   where
@@ -115,34 +107,64 @@ refused_for_another core hart fault is memory =
     by_tests true false runs is = cc
     by_tests true true false is = cc
     by_tests true true true is = cc
+refused_for_another core (operation.Sweep lo hi) fault is memory =
+    by_tests (is_range lo hi) (nat_lt (length core.trace) core.limit) (ap (λ (f : StepFault). Some f) (sym memory) ∙ is)
+  where
+    by_tests : (range room : Bool) → ◌≡◌ {A = Option StepFault} (Some NoMemory)
+        (if not range then Some BadRange else if not room then Some TraceFull else None) → ⊥
+    by_tests false room is = cc
+    by_tests true false is = cc
+    by_tests true true is = cc
 
--- what a step answers: why it is refused, or the newest entry of the trace that it leaves
-pub refused_answered : (core : CoreParts) (hart : ℕ) (fault : StepFault) → Some fault ≡ refused core (step_of hart) →
-    ◌≡◌ {A = Result Entry StepFault} (Err fault) (answered core (step_of hart))
+-- what an operation answers: why it is refused, or the newest event of the trace that it leaves
+pub refused_answered : (core : CoreParts) (op : Op) (fault : StepFault) → Some fault ≡ refused core op →
+    ◌≡◌ {A = Result Event StepFault} (Err fault) (answered core op)
 unfolding answered
-refused_answered core hart fault is = ap (λ r. unless_refused r (entry_of core.image core.state (step_of hart))) is
+refused_answered core op fault is = ap (λ r. unless_refused r (event_of core.image core.state op)) is
 
-pub taken_answered : (core after : CoreParts) (hart : ℕ) (entry : Entry) → refused core (step_of hart) ≡ None → after ≡ core_after core (step_of hart) →
-    ((before : List Entry) (newest : Entry) → after.trace ≡ before ++ newest ∷ [] → entry ≡ newest) →
-    ◌≡◌ {A = Result Entry StepFault} (Ok entry) (answered core (step_of hart))
+pub taken_answered : (core after : CoreParts) (op : Op) (added : Event) → refused core op ≡ None → after ≡ core_after core op →
+    ((before : List Event) (newest : Event) → after.trace ≡ before ++ newest ∷ [] → added ≡ newest) →
+    ◌≡◌ {A = Result Event StepFault} (Ok added) (answered core op)
 unfolding answered core_after
-taken_answered core after hart entry none is newest =
-    let last : Entry = entry_of core.image core.state (step_of hart) in
-    let same : entry ≡ last = newest core.trace last (ap (λ (k : CoreParts). k.trace) is) in
+taken_answered core after op added none is newest =
+    let last : Event = event_of core.image core.state op in
+    let same : added ≡ last = newest core.trace last (ap (λ (k : CoreParts). k.trace) is) in
+    let good : ◌≡◌ {A = Result Event StepFault} (Ok added) (Ok last) = ap (λ (e : Event). Ok e) same in
+    good ∙ sym (ap (λ r. unless_refused r last) none)
+
+-- and a step: the entry of that event
+pub refused_step_answered : (core : CoreParts) (hart : ℕ) (fault : StepFault) → Some fault ≡ refused core (operation.Step hart) →
+    ◌≡◌ {A = Result Entry StepFault} (Err fault) (answered_step core hart)
+unfolding answered_step
+refused_step_answered core hart fault is = ap (λ r. unless_refused r (entry_of core.image core.state hart)) is
+
+pub ends_with_step : (core after : CoreParts) (hart : ℕ) → after ≡ core_after core (operation.Step hart) →
+    after.trace ≡ core.trace ++ event.Step (entry_of core.image core.state hart) ∷ []
+unfolding core_after event_of
+ends_with_step core after hart is = ap (λ (k : CoreParts). k.trace) is
+
+pub taken_step_answered : (core after : CoreParts) (hart : ℕ) (entry : Entry) → refused core (operation.Step hart) ≡ None →
+    after ≡ core_after core (operation.Step hart) →
+    ((before : List Event) (newest : Entry) → after.trace ≡ before ++ event.Step newest ∷ [] → entry ≡ newest) →
+    ◌≡◌ {A = Result Entry StepFault} (Ok entry) (answered_step core hart)
+unfolding answered_step
+taken_step_answered core after hart entry none is newest =
+    let last : Entry = entry_of core.image core.state hart in
+    let same : entry ≡ last = newest core.trace last (ends_with_step core after hart is) in
     let good : ◌≡◌ {A = Result Entry StepFault} (Ok entry) (Ok last) = ap (λ (e : Entry). Ok e) same in
     good ∙ sym (ap (λ r. unless_refused r last) none)
 
-pub after_some : (core after : CoreParts) (hart : ℕ) → after ≡ core_after core (step_of hart) → 0 < length after.trace
+pub after_some : (core after : CoreParts) (op : Op) → after ≡ core_after core op → 0 < length after.trace
 unfolding core_after
-after_some core after hart is =
-    let count : length after.trace ≡ length (core.trace ++ entry_of core.image core.state (step_of hart) ∷ []) = ap (λ (k : CoreParts). length k.trace) is in
-    omega (arith, count, length-append core.trace (entry_of core.image core.state (step_of hart) ∷ []))
+after_some core after op is =
+    let count : length after.trace ≡ length (core.trace ++ event_of core.image core.state op ∷ []) = ap (λ (k : CoreParts). length k.trace) is in
+    omega (arith, count, length-append core.trace (event_of core.image core.state op ∷ []))
 
--- the newest of some entries stands at the last place
-pub read_newest : (entries before : List Entry) (newest other : Entry) → entries ≡ before ++ newest ∷ [] →
-    get_or entries (length entries - 1) other ≡ newest
-read_newest entries before newest other is =
-    let count : length entries ≡ length (before ++ newest ∷ []) = ap length is in
-    let place : length entries - 1 ≡ length before = omega (arith, count, length-append before (newest ∷ [])) in
-    ap (λ n. get_or entries n other) place
-    ∙ (ap (λ (es : List Entry). get_or es (length before) other) is ∙ get_or-append_seam before newest [] other)
+-- the newest of some events stands at the last place
+pub read_newest : (events before : List Event) (newest other : Event) → events ≡ before ++ newest ∷ [] →
+    get_or events (length events - 1) other ≡ newest
+read_newest events before newest other is =
+    let count : length events ≡ length (before ++ newest ∷ []) = ap length is in
+    let place : length events - 1 ≡ length before = omega (arith, count, length-append before (newest ∷ [])) in
+    ap (λ n. get_or events n other) place
+    ∙ (ap (λ (es : List Event). get_or es (length before) other) is ∙ get_or-append_seam before newest [] other)

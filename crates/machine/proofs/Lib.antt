@@ -2,3 +2,4 @@ pub mod CoreLemmas
 pub mod CopyLemmas
 pub mod RunLemmas
 pub mod ShareLemmas
+pub mod SweepLemmas

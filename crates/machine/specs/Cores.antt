@@ -1,28 +1,32 @@
 -- What contracts see of a core, what it keeps, and what it answers.
 use Rattle.std.specs.Prelude.{◌≡◌, ℕ, ◌≤◌, nat_lt, nat_le, not, ◌&&◌, if◌then◌else◌, Bool, true, List, [], ◌∷◌, ◌++◌, length, Option, Some, None, Result, Ok, Err}
 use Rattle.cheri_model.specs.declared.instr.Instr.{Instr}
+use Rattle.cheri_model.specs.declared.operation.Op.{Op}
+use Rattle.cheri_model.specs.declared.operation.Op.TheVariants as operation
+use Rattle.cheri_model.specs.declared.operation.Event.{Event}
 use Rattle.cheri_model.specs.declared.trace.Entry.{Entry}
 use Rattle.cheri_model.specs.CapValue.{CapValue}
 use Rattle.cheri_model.specs.Hart.{HartState}
 use Rattle.cheri_model.specs.HartStep.{hart_step}
 use Rattle.cheri_model.specs.Results.{address_of}
 use Rattle.cheri_model.specs.Image.{ImageParts}
-use Rattle.cheri_model.specs.Machine.{MachineState, Operation, step_of, opening_state, is_running, hart_at, entry_of, state_after_one}
+use Rattle.cheri_model.specs.Sweeps.{is_range}
+use Rattle.cheri_model.specs.Machine.{MachineState, opening_state, is_running, hart_at, entry_of, state_after_one, event_of}
 use Rattle.cheri_model.specs.Replay.{IsReplay}
 use Rattle.cheri_model.specs.Authority.{IsLawfulState}
 use Rattle.machine.specs.declared.cores.TheConstants.{GREATEST_TRACE_LIMIT}
 use Rattle.machine.specs.declared.faults.StepFault.{StepFault}
-use Rattle.machine.specs.declared.faults.StepFault.TheVariants.{NoSuchHart, TraceFull, HartStopped}
+use Rattle.machine.specs.declared.faults.StepFault.TheVariants.{NoSuchHart, TraceFull, HartStopped, BadRange}
 
 -- the stored image, the limit of the trace, the trace so far and the state now
 pub record CoreParts : Type 0 where
   pub image : ImageParts
   pub limit : ℕ
-  pub trace : List Entry
+  pub trace : List Event
   pub state : MachineState
 
 -- those parts, of what a core is made of
-abbrev pub parts_of_core : ImageParts → ℕ → List Entry → List HartState → List CapValue → CoreParts
+abbrev pub parts_of_core : ImageParts → ℕ → List Event → List HartState → List CapValue → CoreParts
 parts_of_core image limit trace harts memory =
     record { image = image; limit = limit; trace = trace; state = record { harts = harts; memory = memory } }
 
@@ -39,25 +43,34 @@ pub record IsCore (core : CoreParts) : Type 0 where
   pub within : length core.trace ≤ core.limit
 
 -- Why an operation is refused, if it is: the first of these that is so.
-unfoldable pub refused : CoreParts → Operation → Option StepFault
-refused core (step_of hart) =
+unfoldable pub refused : CoreParts → Op → Option StepFault
+refused core (operation.Step hart) =
     if not (nat_lt hart (length core.state.harts)) then Some NoSuchHart
     else if not (nat_lt (length core.trace) core.limit) then Some TraceFull
     else if not (is_running (hart_at core.state hart).status) then Some HartStopped
     else None
+refused core (operation.Sweep lo hi) =
+    if not (is_range lo hi) then Some BadRange
+    else if not (nat_lt (length core.trace) core.limit) then Some TraceFull
+    else None
 
--- what an operation answers: its refusal, else the entry that it adds to the trace
-abbrev pub unless_refused : Option StepFault → Entry → Result Entry StepFault
-unless_refused None entry = Ok entry
-unless_refused (Some fault) entry = Err fault
+-- what an operation answers: its refusal, else the event that it adds to the trace
+abbrev pub unless_refused : {A : Type 0} → Option StepFault → A → Result A StepFault
+unless_refused None added = Ok added
+unless_refused (Some fault) added = Err fault
 
-unfoldable pub answered : CoreParts → Operation → Result Entry StepFault
-answered core op = unless_refused (refused core op) (entry_of core.image core.state op)
+unfoldable pub answered : CoreParts → Op → Result Event StepFault
+answered core op = unless_refused (refused core op) (event_of core.image core.state op)
+
+-- what a step of a hart answers: its refusal, else the entry of its event
+unfoldable pub answered_step : CoreParts → ℕ → Result Entry StepFault
+answered_step core hart =
+    unless_refused (refused core (operation.Step hart)) (entry_of core.image core.state hart)
 
 -- the core with one more operation
-unfoldable pub core_after : CoreParts → Operation → CoreParts
+unfoldable pub core_after : CoreParts → Op → CoreParts
 core_after core op = record core {
-  trace = core.trace ++ entry_of core.image core.state op ∷ [];
+  trace = core.trace ++ event_of core.image core.state op ∷ [];
   state = state_after_one core.image core.state op;
 }
 
@@ -66,7 +79,7 @@ abbrev pub unless_kept : Option StepFault → CoreParts → CoreParts → CorePa
 unless_kept None core after = after
 unless_kept (Some fault) core after = core
 
-unfoldable pub applied : CoreParts → Operation → CoreParts
+unfoldable pub applied : CoreParts → Op → CoreParts
 applied core op = unless_kept (refused core op) core (core_after core op)
 
 -- what a step of a hart by itself leaves, of the hart and of memory, and answers

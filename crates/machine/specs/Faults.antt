@@ -1,4 +1,4 @@
--- The numbers of the refusals of booting, opening, stepping and watching, and the texts of those that are printed.
+-- The numbers of the refusals of booting, opening, operations and watching, and the texts of those that are printed.
 use Rattle.std.specs.Prelude.{ℕ, List, ◌++◌, codes, decimal}
 use Rattle.machine.specs.declared.faults.BootFault.{BootFault}
 use Rattle.machine.specs.declared.faults.BootFault.TheVariants as boot
@@ -32,12 +32,14 @@ step_fault_number step.NoSuchHart = 1
 step_fault_number step.TraceFull = 2
 step_fault_number step.HartStopped = 3
 step_fault_number step.NoMemory = 4
+step_fault_number step.BadRange = 5
 
 abbrev pub step_fault_name : StepFault → List ℕ
 step_fault_name step.NoSuchHart = codes "NoSuchHart"
 step_fault_name step.TraceFull = codes "TraceFull"
 step_fault_name step.HartStopped = codes "HartStopped"
 step_fault_name step.NoMemory = codes "NoMemory"
+step_fault_name step.BadRange = codes "BadRange"
 
 abbrev pub step_fault_text : StepFault → List ℕ
 step_fault_text fault = decimal (step_fault_number fault) ++ (codes " " ++ step_fault_name fault)

@@ -1,10 +1,10 @@
 -- What contracts see of a machine's shares, and what they count.
 use Rattle.std.specs.Prelude.{◌≡◌, ℕ, ◌<◌, List, length, map, slice_index}
 use Rattle.std.specs.List.{range_with_len}
-use Rattle.cheri_model.specs.declared.trace.Entry.{Entry}
+use Rattle.cheri_model.specs.declared.operation.Event.{Event}
 use Rattle.cheri_model.specs.Replay.{step_count}
 
--- the hart of a share, and how many entries of that hart it has counted
+-- the hart of a share, and how many steps of that hart it has counted
 pub record ShareParts : Type 0 where
   pub hart : ℕ
   pub amount : ℕ
@@ -14,15 +14,15 @@ pub record TokenParts : Type 0 where
   pub parts : List ℕ
   pub amounts : List ℕ
 
--- the share of a hart that has counted all entries of a trace that are its own
-abbrev pub share_at : List Entry → ℕ → ShareParts
+-- the share of a hart that has counted all its steps of a trace
+abbrev pub share_at : List Event → ℕ → ShareParts
 share_at trace hart = record { hart = hart; amount = step_count trace hart }
 
 -- one such share for each hart, in hart order
-unfoldable pub shares_of : List Entry → ℕ → List ShareParts
+unfoldable pub shares_of : List Event → ℕ → List ShareParts
 shares_of trace harts = map (share_at trace) (range_with_len 0 harts)
 
--- The books of a machine have counted each hart's entries of the trace. There is room for eight harts.
-pub record IsCounted (books : List ℕ) (trace : List Entry) (harts : ℕ) : Type 0 where
+-- The books of a machine have counted each hart's steps of the trace. There is room for eight harts.
+pub record IsCounted (books : List ℕ) (trace : List Event) (harts : ℕ) : Type 0 where
   pub lanes : length books ≡ 8
   pub counts : (hart : ℕ) → hart < harts → slice_index books hart ≡ step_count trace hart

@@ -3,6 +3,7 @@ use Rattle.std.specs.Prelude.{◌≡◌, ℕ, List, Option, Result, Ok, Err, IsO
 use Rattle.listings.specs.Faults.{Gives}
 use Rattle.listings.specs.Meaning.{listing_meaning}
 use Rattle.orders.specs.Orders.{GivesFault, order_of}
+use Rattle.cheri_model.specs.declared.operation.Op.{Op}
 use Rattle.cheri_model.specs.Image.{ImageParts}
 use Rattle.reports.specs.Report.{report}
 use Rattle.reports.specs.ReportFaults.{failures_of}
@@ -14,16 +15,16 @@ use Rattle.machine.specs.declared.simulation.SimFault.TheVariants.{Listing, Orde
 use Rattle.machine.specs.Cores.{CoreParts, is_limit}
 use Rattle.machine.specs.Runs.{IsRunOf}
 
--- A run of a listing in an order, which ended at a refused step or at none, is shown: of its report this is so. The
+-- A run of a listing in an order, which ended at a refused operation or at none, is shown: of its report this is so. The
 -- report is that of a machine which began as the image that the listing means and took the order as far as it can be
 -- taken.
 pub record IsShownRun (listing order : List ℕ) (limit : ℕ) (IsSo : List ℕ → Type 0) (end : Option (ℕ × StepFault)) : Type 0 where
   pub image : ImageParts
-  pub harts : List ℕ
+  pub ops : List Op
   pub core : CoreParts
   pub listing_is : listing_meaning listing ≡ Ok image
-  pub order_is : order_of order ≡ Ok harts
-  pub run_is : IsRunOf image harts limit core end
+  pub order_is : order_of order ≡ Ok ops
+  pub run_is : IsRunOf image ops limit core end
   pub shown : IsSo (report core.image core.trace core.state)
 
 abbrev pub IsRefusedBoot : BootFault → ℕ → Type 0

@@ -4,22 +4,26 @@
 ghost use Rattle.std.specs.Prelude.{◌≡◌, ◌↔◌, ◌<◌, ◌≤◌, [], ◌∷◌, ◌++◌};
 ghost use Rattle.std.specs.Prelude.{length, vec_len, vec_capacity, false};
 ghost use Rattle.std.specs.Prelude.{IfOk, OnOk, OnErr, Err, None};
-ghost use Rattle.cheri_model.specs.Authority.{IsConfined, IsMonotone};
-ghost use Rattle.cheri_model.specs.Machine.{step_of, opening_state, entry_of};
+ghost use Rattle.cheri_model.specs.Authority.{EachOfState, IsConfined, IsMonotone};
+ghost use Rattle.cheri_model.specs.Machine.{opening_state, entry_of, event_of};
+ghost use Rattle.cheri_model.specs.Machine.{swept_state, cleared};
 ghost use Rattle.cheri_model.specs.Replay.{IsReplay};
+ghost use Rattle.cheri_model.specs.Sweeps.{is_in_sweep};
 ghost use Rattle.hart_step.specs.View.{state_of};
 ghost use Rattle.machine.specs.Cores.{CoreParts, IsCore, IsHartStep};
-ghost use Rattle.machine.specs.Cores.{applied, answered, core_after, is_limit, refused};
+ghost use Rattle.machine.specs.Cores.{applied, answered, answered_step};
+ghost use Rattle.machine.specs.Cores.{core_after, is_limit, refused};
 
 use crate::faults::{BootFault, StepFault};
 use crate::opening::{copied_ram, opening_harts, opening_ram};
-use cheri_model::{Entry, Image, Instr, NoMemory, Status};
+use crate::sweeps::{refusal_of_sweep, sweep_harts};
+use cheri_model::{Entry, Event, Image, Instr, NoMemory, Op, Status};
 use hart_step::{Hart, View, step};
 use std::alloc::Global;
 use std::marker::Model;
 use tagged_mem::Ram;
 
-/// The greatest limit that a trace may have, in entries.
+/// The greatest limit that a trace may have, in events.
 pub const GREATEST_TRACE_LIMIT: u32 = 100_000;
 
 /// A machine of one thread. Its state is the replay of its trace from its image, at every moment,
@@ -28,7 +32,7 @@ pub const GREATEST_TRACE_LIMIT: u32 = 100_000;
 pub struct Core {
     image: Image,
     limit: u32,
-    trace: Vec<Entry>,
+    trace: Vec<Event>,
     harts: Vec<Hart>,
     ram: Ram,
 }
@@ -51,7 +55,7 @@ impl Model for Core {
 }
 
 impl Core {
-    /// The machine of an image before its first step, with room for a trace of `limit` entries.
+    /// The machine of an image before its first step, with room for a trace of `limit` events.
     /// Fails with `Limit` exactly where the limit is not from 1 to 100,000, and otherwise only when
     /// out of memory.
     pub fn boot(alloc: Global, image: Image, limit: u32) -> Result<Core, BootFault>
@@ -92,35 +96,78 @@ impl Core {
         })
     }
 
-    /// Why a step of this hart would be refused, if it would be: the first fault that applies, by
-    /// number.
-    pub fn refusal(&self, hart: u8) -> Option<StepFault>
-        ensures value { result ≡ refused self.now (step_of hart) }
+    /// Why this operation would be refused, if it would be: the first fault that applies.
+    pub fn refusal(&self, op: Op) -> Option<StepFault>
+        ensures value { result ≡ refused self.now op }
         ensures core { IsCore self.now }
     {
-        refusal_of(self.harts.as_slice(), self.trace.len(), self.limit, hart)
+        let events = self.trace.len();
+        match op {
+            Op::Step(hart) => refusal_of_step(self.harts.as_slice(), events, self.limit, hart),
+            Op::Sweep { lo, hi } => refusal_of_sweep(events, self.limit, lo, hi),
+        }
     }
 
     /// One step of this hart. It is refused exactly where `refusal` says so, and then nothing
     /// changes; otherwise the trace grows by the entry that is answered. Takes no memory.
     pub fn step(&mut self, hart: u8) -> Result<Entry, StepFault>
-        ensures answered { result ≡ answered self.old (step_of hart) }
-        ensures ok { OnOk result (self.new ≡ core_after self.old (step_of hart)) }
+        ensures answered { result ≡ answered_step self.old hart }
+        ensures ok { OnOk result (self.new ≡ core_after self.old (Op.Step hart)) }
         ensures err { OnErr result (self.new ≡ self.old) }
-        ensures applied { self.new ≡ applied self.old (step_of hart) }
+        ensures applied { self.new ≡ applied self.old (Op.Step hart) }
         ensures core { IsCore self.new }
         ensures confined { IsConfined self.new.image self.new.state }
         ensures monotone { IsMonotone self.new.image self.new.trace self.new.state }
     {
-        match self.refusal(hart) {
+        match self.refusal(Op::Step(hart)) {
             Some(fault) => Err(fault),
             None => Ok(self.take(hart)),
         }
     }
 
+    /// Clears the tag of every capability whose base lies from `lo` up to, not including, `hi`: in
+    /// the registers and PCCs of all harts, stopped ones too, and in memory. It is refused exactly
+    /// where `refusal` says so, and then nothing changes; otherwise the trace grows by the event
+    /// that is answered, which counts the tags cleared. Takes no memory.
+    pub fn sweep(&mut self, lo: u64, hi: u128) -> Result<Event, StepFault>
+        ensures answered { result ≡ answered self.old (Op.Sweep lo hi) }
+        ensures event { IfOk result (λ event.
+            event ≡ Event.Sweep lo hi (cleared lo hi self.old.state)) }
+        ensures swept { OnOk result (self.new.state ≡ swept_state lo hi self.old.state) }
+        ensures none_left { OnOk result
+            (EachOfState (λ v. is_in_sweep lo hi v ≡ false) self.new.state) }
+        ensures ok { OnOk result (self.new ≡ core_after self.old (Op.Sweep lo hi)) }
+        ensures err { OnErr result (self.new ≡ self.old) }
+        ensures applied { self.new ≡ applied self.old (Op.Sweep lo hi) }
+        ensures core { IsCore self.new }
+        ensures confined { IsConfined self.new.image self.new.state }
+        ensures monotone { IsMonotone self.new.image self.new.trace self.new.state }
+    {
+        match self.refusal(Op::Sweep { lo, hi }) {
+            Some(fault) => Err(fault),
+            None => Ok(self.clear(lo, hi)),
+        }
+    }
+
+    /// One operation: a step or a sweep, with the event that it adds to the trace. Takes no memory.
+    pub fn apply(&mut self, op: Op) -> Result<Event, StepFault>
+        ensures answered { result ≡ answered self.old op }
+        ensures ok { OnOk result (self.new ≡ core_after self.old op) }
+        ensures err { OnErr result (self.new ≡ self.old) }
+        ensures applied { self.new ≡ applied self.old op }
+        ensures core { IsCore self.new }
+        ensures confined { IsConfined self.new.image self.new.state }
+        ensures monotone { IsMonotone self.new.image self.new.trace self.new.state }
+    {
+        match op {
+            Op::Step(hart) => Ok(Event::Step(self.step(hart)?)),
+            Op::Sweep { lo, hi } => self.sweep(lo, hi),
+        }
+    }
+
     /// What is shown of the machine now. This is the headline, for whoever looks: the registers,
     /// memory and tags shown are those of the replay of the shown trace from the stored image, the
-    /// trace is the replay's entries, and every tagged capability is granted by the initial ones,
+    /// trace is the replay's events, and every tagged capability is granted by the initial ones,
     /// and by those that any beginning of the trace left. Takes no memory.
     pub fn view(&self) -> View<'_>
         ensures image { result.image.now ≡ self.now.image }
@@ -140,30 +187,52 @@ impl Core {
 
     /// A step of a hart that is not refused.
     fn take(&mut self, hart: u8) -> Entry
-        requires { refused self.old (step_of hart) ≡ None }
-        ensures entry { result ≡ entry_of self.old.image self.old.state (step_of hart) }
-        ensures after { self.new ≡ core_after self.old (step_of hart) }
+        requires { refused self.old (Op.Step hart) ≡ None }
+        ensures entry { result ≡ entry_of self.old.image self.old.state hart }
+        ensures after { self.new ≡ core_after self.old (Op.Step hart) }
         ensures core { IsCore self.new }
     {
         let program = self.image.program();
         let place = &mut self.harts[usize::from(hart)];
         let entry = step_hart(program, place, &mut self.ram, hart);
-        append(&mut self.trace, entry);
+        append(&mut self.trace, Event::Step(entry));
         entry
+    }
+
+    /// A sweep that is not refused.
+    fn clear(&mut self, lo: u64, hi: u128) -> Event
+        requires { refused self.old (Op.Sweep lo hi) ≡ None }
+        ensures event { result ≡ event_of self.old.image self.old.state (Op.Sweep lo hi) }
+        ensures after { self.new ≡ core_after self.old (Op.Sweep lo hi) }
+        ensures core { IsCore self.new }
+    {
+        // the granules' contract says that the image has at most eight harts, and the size's that
+        // memory has few tags, so that the count fits
+        let _granules = self.image.granules();
+        let _size = self.ram.size();
+        let in_harts = sweep_harts(&mut self.harts, lo, hi);
+        let in_memory = self.ram.sweep(lo, hi);
+        let event = Event::Sweep {
+            lo,
+            hi,
+            cleared: in_harts + in_memory,
+        };
+        append(&mut self.trace, event);
+        event
     }
 }
 
-/// Why a step of a hart would be refused, where the trace has this many entries.
+/// Why a step of a hart would be refused, where the trace has this many events.
 #[tactic(auto, unfolding(crate::specs::Cores::refused, cheri_model::specs::Machine::hart_at))]
-fn refusal_of(harts: &[Hart], entries: usize, limit: u32, hart: u8) -> Option<StepFault>
-    ensures { (core : CoreParts) → core.state.harts ≡ harts.now → length core.trace ≡ entries
-        → core.limit ≡ limit → result ≡ refused core (step_of hart) }
+fn refusal_of_step(harts: &[Hart], events: usize, limit: u32, hart: u8) -> Option<StepFault>
+    ensures { (core : CoreParts) → core.state.harts ≡ harts.now → length core.trace ≡ events
+        → core.limit ≡ limit → result ≡ refused core (Op.Step hart) }
 {
     let number = usize::from(hart);
     if number >= harts.len() {
         return Some(StepFault::NoSuchHart);
     }
-    if entries >= limit as usize {
+    if events >= limit as usize {
         return Some(StepFault::TraceFull);
     }
     match harts[number].status() {
@@ -172,13 +241,13 @@ fn refusal_of(harts: &[Hart], entries: usize, limit: u32, hart: u8) -> Option<St
     }
 }
 
-/// Adds an entry to a trace that has room for it.
-fn append(trace: &mut Vec<Entry>, entry: Entry)
+/// Adds an event to a trace that has room for it.
+fn append(trace: &mut Vec<Event>, event: Event)
     requires { vec_len trace.old < vec_capacity trace.old }
-    ensures items { trace.new.items ≡ trace.old.items ++ entry ∷ [] }
+    ensures items { trace.new.items ≡ trace.old.items ++ event ∷ [] }
     ensures capacity { vec_capacity trace.old ≤ vec_capacity trace.new }
 {
-    trace.push(entry).unwrap();
+    trace.push(event).unwrap();
 }
 
 /// Steps a hart in place, and gives the entry of the step.

@@ -1,21 +1,23 @@
-//! Why a machine cannot be booted, and why a step is refused.
+//! Why a machine cannot be booted, and why an operation is refused.
 
 ghost use Rattle.std.specs.Prelude.{◌≡◌};
 
 use std::alloc::AllocError;
 use std::fmt;
 
-/// Why a step is refused. A refused step changes nothing.
+/// Why a step or a sweep is refused. A refused one changes nothing.
 #[derive(Clone, Copy, Debug, PartialEq, Eq)]
 pub enum StepFault {
     /// No hart has this number.
     NoSuchHart = 1,
-    /// The trace has as many entries as its limit.
+    /// The trace has as many events as its limit.
     TraceFull = 2,
     /// The hart has halted or trapped.
     HartStopped = 3,
     /// Out of memory.
     NoMemory = 4,
+    /// The range of a sweep ends before it begins, or past the address space.
+    BadRange = 5,
 }
 
 impl StepFault {
@@ -37,6 +39,7 @@ impl StepFault {
             StepFault::TraceFull => "TraceFull",
             StepFault::HartStopped => "HartStopped",
             StepFault::NoMemory => "NoMemory",
+            StepFault::BadRange => "BadRange",
         }
     }
 }

@@ -12,6 +12,7 @@ mod runs;
 mod shares;
 mod shown;
 mod simulation;
+mod sweeps;
 mod watched;
 mod watches;
 

@@ -1,13 +1,17 @@
-//! The machine that threads share: a core that watchers read, and books that count the entries of
+//! The machine that threads share: a core that watchers read, and books that count the steps of
 //! each hart.
 
 ghost use Rattle.std.specs.Prelude.{◌≡◌, ◌≢◌, ◌+◌, ◌<◌, ◌≤◌, ◌++◌, ◌∷◌, [], List, length, All};
 ghost use Rattle.std.specs.Prelude.{slice_index, slice_set, replicate, IfOk, OnOk, OnErr, Err, None};
-ghost use Rattle.cheri_model.specs.Machine.{step_of};
-ghost use Rattle.cheri_model.specs.Replay.{step_count};
-ghost use Rattle.machine.specs.Cores.{answered, applied, refused};
+ghost use Rattle.std.specs.Prelude.{false};
+ghost use Rattle.cheri_model.specs.Authority.{EachOfState};
+ghost use Rattle.cheri_model.specs.Machine.{swept_state, cleared};
+ghost use Rattle.cheri_model.specs.Replay.{is_step_of, step_count};
+ghost use Rattle.cheri_model.specs.Sweeps.{is_in_sweep};
+ghost use Rattle.machine.specs.Cores.{answered, answered_step, applied, refused};
 ghost use Rattle.machine.specs.Shares.{share_at, shares_of, IsCounted};
 ghost use Rattle.machine.specs.Watches.{watch_of};
+ghost use Rattle.cheri_model.specs.declared.operation.Event.{Event};
 ghost use Rattle.cheri_model.specs.declared.trace.Entry.{Entry};
 
 use crate::cores::Core;
@@ -15,14 +19,13 @@ use crate::faults::{OpenFault, StepFault, WatchFault};
 use crate::shares::{Blanks, Books, Naming, Share, Tokens};
 use crate::watched::Watched;
 use crate::watches::{Receipt, Watch};
-use cheri_model::{Entry, Image, NoMemory};
-use history::Operation;
+use cheri_model::{Entry, Event, Image, NoMemory, Op};
 use std::alloc::Global;
 use std::marker::Model;
 use std::sync::Wait;
 
 /// A core that threads may share under a lock, each stepping the hart of its share. At every moment
-/// its books have counted the entries of each hart in the trace. Contracts see its core.
+/// its books have counted the steps of each hart in the trace. Contracts see its core.
 #[derive(Drop)]
 pub struct Machine<J: Naming> {
     watched: Watched<J>,
@@ -71,24 +74,51 @@ impl<J: Naming> Machine<J> {
     /// shown before.
     pub fn step<R: Wait>(&mut self, rt: &R, share: &mut Share<J>) -> Result<Entry, StepFault>
         ensures answered { result ≢ Err StepFault.NoMemory
-            → result ≡ answered self.old (step_of share.old.hart) }
+            → result ≡ answered_step self.old share.old.hart }
         ensures memory { result ≡ Err StepFault.NoMemory
-            → refused self.old (step_of share.old.hart) ≡ None }
+            → refused self.old (Op.Step share.old.hart) ≡ None }
         ensures there { result ≢ Err StepFault.NoSuchHart }
-        ensures applied { OnOk result (self.new ≡ applied self.old (step_of share.old.hart)) }
+        ensures applied { OnOk result (self.new ≡ applied self.old (Op.Step share.old.hart)) }
         ensures counted { OnOk result (share.new
             ≡ record { hart = share.old.hart; amount = share.old.amount + 1 }) }
         ensures kept { OnErr result ((self.new ≡ self.old) × (share.new ≡ share.old)) }
     {
         let hart = share.hart();
-        match self.watched.core().refusal(hart) {
+        match self.watched.core().refusal(Op::Step(hart)) {
             Some(fault) => return Err(fault),
             None => {}
         }
-        let Ok(()) = self.watched.take(rt, Operation::Step(hart)) else {
+        let Ok(()) = self.watched.take(rt, Op::Step(hart)) else {
             return Err(StepFault::NoMemory);
         };
         self.books.add(share, 1);
+        Ok(newest_entry(self.watched.core()))
+    }
+
+    /// Clears the tag of every capability whose base lies from `lo` up to, not including, `hi`, as
+    /// `Core::sweep` does. It is refused exactly where the core refuses it, or when out of memory,
+    /// and then nothing changes; otherwise the trace grows by the event that is answered. No share
+    /// counts it. Waits for a watcher that still looks at what was shown before.
+    pub fn sweep<R: Wait>(&mut self, rt: &R, lo: u64, hi: u128) -> Result<Event, StepFault>
+        ensures answered { result ≢ Err StepFault.NoMemory
+            → result ≡ answered self.old (Op.Sweep lo hi) }
+        ensures memory { result ≡ Err StepFault.NoMemory
+            → refused self.old (Op.Sweep lo hi) ≡ None }
+        ensures event { IfOk result (λ event.
+            event ≡ Event.Sweep lo hi (cleared lo hi self.old.state)) }
+        ensures swept { OnOk result (self.new.state ≡ swept_state lo hi self.old.state) }
+        ensures none_left { OnOk result
+            (EachOfState (λ v. is_in_sweep lo hi v ≡ false) self.new.state) }
+        ensures applied { OnOk result (self.new ≡ applied self.old (Op.Sweep lo hi)) }
+        ensures kept { OnErr result (self.new ≡ self.old) }
+    {
+        match self.watched.core().refusal(Op::Sweep { lo, hi }) {
+            Some(fault) => return Err(fault),
+            None => {}
+        }
+        let Ok(()) = self.watched.take(rt, Op::Sweep { lo, hi }) else {
+            return Err(StepFault::NoMemory);
+        };
         Ok(newest(self.watched.core()))
     }
 
@@ -119,7 +149,7 @@ impl<J: Naming> Machine<J> {
         self.watched.core()
     }
 
-    /// The machine's core. Each share has counted the entries of its hart in the core's trace.
+    /// The machine's core. Each share has counted the steps of its hart in the core's trace.
     /// Waits for watchers that still look.
     pub fn close<R: Wait>(self, rt: &R, shares: Vec<Share<J>>) -> Core
         ensures core { result ≡ self }
@@ -130,7 +160,7 @@ impl<J: Naming> Machine<J> {
         self.audited(shares).close(rt)
     }
 
-    /// The core that is watched. Each share has counted the entries of its hart in its trace.
+    /// The core that is watched. Each share has counted the steps of its hart in its trace.
     fn audited(self, shares: Vec<Share<J>>) -> Watched<J>
         ensures core { result ≡ self }
         ensures counts { All
@@ -145,14 +175,27 @@ impl<J: Naming> Machine<J> {
     }
 }
 
-/// The newest entry of a core's trace.
-fn newest(core: &Core) -> Entry
+/// The newest event of a core's trace.
+fn newest(core: &Core) -> Event
     requires { 0 < length core.now.trace }
-    ensures { (before : List Entry) (entry : Entry) → core.now.trace ≡ before ++ entry ∷ []
-        → result ≡ entry }
+    ensures { (before : List Event) (event : Event) → core.now.trace ≡ before ++ event ∷ []
+        → result ≡ event }
 {
-    let entries = core.view().entries;
-    entries[entries.len() - 1]
+    let events = core.view().entries;
+    events[events.len() - 1]
+}
+
+/// The entry of the newest event of a core's trace, which is a step.
+fn newest_entry(core: &Core) -> Entry
+    requires { (before : List Event) × (entry : Entry)
+        × (core.now.trace ≡ before ++ Event.Step entry ∷ []) }
+    ensures { (before : List Event) (entry : Entry)
+        → core.now.trace ≡ before ++ Event.Step entry ∷ [] → result ≡ entry }
+{
+    match newest(core) {
+        Event::Step(entry) => entry,
+        Event::Sweep { .. } => unreachable!("the newest event is a step"),
+    }
 }
 
 /// The number of harts of an image, which is at most 8.
@@ -165,56 +208,70 @@ fn hart_count(image: &Image) -> u8
     image.harts().len() as u8
 }
 
-/// Draws the shares of so many harts, each of which has counted its hart's entries among these.
+/// Draws the shares of so many harts, each of which has counted its hart's steps among these
+/// events.
 fn draw_shares<J: Naming>(
     alloc: Global,
     books: &mut Books<J>,
     tokens: Tokens<J>,
-    entries: &[Entry],
+    events: &[Event],
     harts: u8,
 ) -> Result<Vec<Share<J>>, NoMemory>
     requires harts { (harts ≤ 8) × (harts ≡ length J.image.harts) }
     requires books { books.old ≡ replicate 8 0 }
     requires parts { tokens.parts ≡ replicate 8 1 }
     requires amounts { tokens.amounts ≡ replicate 8 0 }
-    ensures shares { IfOk result (λ shares. shares.items ≡ shares_of entries.now harts) }
-    ensures books { OnOk result (IsCounted books.new entries.now harts) }
+    ensures shares { IfOk result (λ shares. shares.items ≡ shares_of events.now harts) }
+    ensures books { OnOk result (IsCounted books.new events.now harts) }
 {
     let mut tokens = tokens;
     let mut shares = Vec::with_capacity(alloc, usize::from(harts))?;
     for hart in 0..harts {
-        let share = draw_share(books, &mut tokens, entries, hart);
+        let share = draw_share(books, &mut tokens, events, hart);
         shares.push(share)?;
     }
     Ok(shares)
 }
 
-/// Draws the share of a hart, which has counted the hart's entries among these.
+/// Draws the share of a hart, which has counted the hart's steps among these events.
 fn draw_share<J: Naming>(
     books: &mut Books<J>,
     tokens: &mut Tokens<J>,
-    entries: &[Entry],
+    events: &[Event],
     hart: u8,
 ) -> Share<J>
     requires below { (hart < 8) × (hart < length J.image.harts) }
     requires whole { slice_index tokens.old.parts hart ≡ 1 }
     requires none { slice_index tokens.old.amounts hart ≡ 0 }
     requires fresh { slice_index books.old hart ≡ 0 }
-    ensures share { result ≡ share_at entries.now hart }
-    ensures books { books.new ≡ slice_set books.old hart (step_count entries.now hart) }
+    ensures share { result ≡ share_at events.now hart }
+    ensures books { books.new ≡ slice_set books.old hart (step_count events.now hart) }
     ensures lanes { length books.old ≡ 8 }
     ensures parts { tokens.new.parts ≡ slice_set tokens.old.parts hart 0 }
     ensures amounts { tokens.new.amounts ≡ tokens.old.amounts }
 {
     let mut share = tokens.draw(hart);
-    books.add(&mut share, step_count(entries, hart));
+    books.add(&mut share, step_count(events, hart));
     share
 }
 
-/// How many of these entries are a hart's.
+/// How many of these events are a hart's steps.
 #[tactic(auto, unfolding(cheri_model::specs::Replay::step_count))]
-fn step_count(entries: &[Entry], hart: u8) -> u64
-    ensures { result ≡ step_count entries.now hart }
+fn step_count(events: &[Event], hart: u8) -> u64
+    ensures { result ≡ step_count events.now hart }
 {
-    entries.iter().filter(|entry| entry.hart == hart).count() as u64
+    events
+        .iter()
+        .filter(|event| is_step_of(**event, hart))
+        .count() as u64
+}
+
+/// Whether an event is a step of this hart.
+fn is_step_of(event: Event, hart: u8) -> bool
+    ensures { result ≡ is_step_of hart event }
+{
+    match event {
+        Event::Step(entry) => entry.hart == hart,
+        Event::Sweep { .. } => false,
+    }
 }

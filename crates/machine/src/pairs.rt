@@ -1,7 +1,7 @@
 //! Two copies of a core: watchers read one, while the other takes in what came.
 
 ghost use Rattle.std.specs.Prelude.{◌≡◌, ◌<◌, [], None, IfOk, OnOk, OnErr};
-ghost use Rattle.machine.specs.Copies.{asked, taken};
+ghost use Rattle.cheri_model.specs.Replay.{operations_of};
 ghost use Rattle.machine.specs.Cores.{core_after, refused};
 ghost use Rattle.machine.specs.Names.{order_named};
 ghost use Rattle.machine.specs.Watches.{watch_of};
@@ -12,9 +12,9 @@ use crate::faults::WatchFault;
 use crate::shares::Naming;
 use crate::shown::{Shown, Ticket};
 use crate::watches::{Receipt, Watch};
-use cheri_model::NoMemory;
+use cheri_model::{NoMemory, Op};
 use core::mem::replace_with;
-use history::{Keeper, Operation, Seen};
+use history::{Keeper, Seen};
 use left_right::writer::Writer;
 use std::alloc::{AllocError, Global};
 use std::marker::Model;
@@ -46,7 +46,7 @@ impl<J: Naming> Pair<J> {
     /// Two copies of a core, all of whose order was seen. Fails only when out of memory.
     pub fn of(alloc: Global, core: &Core, seen: &Seen<OrderOf<J>>) -> Result<Pair<J>, NoMemory>
         requires image { core.now.image ≡ J.image }
-        requires order { seen.now ≡ taken core.now.trace }
+        requires order { seen.now ≡ operations_of core.now.trace }
         ensures { IfOk result (λ pair. pair ≡ core.now) }
     {
         let token = seen.token();
@@ -78,20 +78,20 @@ impl<J: Naming> Pair<J> {
     pub fn take<R: Wait>(
         &mut self,
         rt: &R,
-        operation: Operation,
+        op: Op,
         keeper: &mut Keeper<OrderOf<J>>,
     ) -> Result<(), NoMemory>
-        requires none { refused self.old (asked operation) ≡ None }
-        requires order { keeper.old ≡ taken self.old.trace }
-        ensures ok { OnOk result (self.new ≡ core_after self.old (asked operation)) }
-        ensures order { keeper.new ≡ taken self.new.trace }
+        requires none { refused self.old op ≡ None }
+        requires order { keeper.old ≡ operations_of self.old.trace }
+        ensures ok { OnOk result (self.new ≡ core_after self.old op) }
+        ensures order { keeper.new ≡ operations_of self.new.trace }
         ensures image { self.new.image ≡ J.image }
         ensures err { OnErr result (self.new ≡ self.old) }
     {
-        let Ok(()) = self.copies.append(Ticket::Take(operation)) else {
+        let Ok(()) = self.copies.append(Ticket::Take(op)) else {
             return Err(AllocError);
         };
-        keeper.add(operation);
+        keeper.add(op);
         tell(&mut self.copies, keeper.seen().token());
         replace_with(&mut self.copies, rt, publish::<J, R>);
         Ok(())

@@ -6,26 +6,26 @@ ghost use Rattle.machine.specs.Runs.{IsRunOf};
 
 use crate::cores::Core;
 use crate::faults::{BootFault, StepFault};
-use cheri_model::Image;
+use cheri_model::{Image, Op};
 use std::alloc::Global;
 
-/// Boots the image and steps its harts in this order, until a step is refused. It takes the longest
-/// beginning of the order that is legal and no longer than the limit of the trace. Where that is
-/// shorter than the order, it answers the place of the refused step, counted from 0, and the
-/// refusal. Fails with `Limit` exactly where the limit is not from 1 to 100,000, and otherwise only
-/// when out of memory.
+/// Boots the image and takes the operations of this order, until one is refused. It takes the
+/// longest beginning of the order that is legal and no longer than the limit of the trace. Where
+/// that is shorter than the order, it answers the place of the refused operation, counted from 0,
+/// and the refusal. Fails with `Limit` exactly where the limit is not from 1 to 100,000, and
+/// otherwise only when out of memory.
 pub fn run_order(
     alloc: Global,
     image: Image,
-    order: &[u8],
+    order: &[Op],
     limit: u32,
 ) -> Result<(Core, Option<(usize, StepFault)>), BootFault>
     ensures limit { (result ≡ Err BootFault.Limit) ↔ (is_limit limit ≡ false) }
     ensures run { IfOk result (λ run. IsRunOf image order.now limit run.0 run.1) }
 {
     let mut core = Core::boot(alloc, image, limit)?;
-    for (place, hart) in order.iter().enumerate() {
-        if let Err(fault) = core.step(*hart) {
+    for (place, op) in order.iter().enumerate() {
+        if let Err(fault) = core.apply(*op) {
             return Ok((core, Some((place, fault))));
         }
     }

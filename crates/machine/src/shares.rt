@@ -1,4 +1,4 @@
-//! Shares: tokens of a machine, one for each hart. Together they count the entries of each hart,
+//! Shares: tokens of a machine, one for each hart. Together they count the steps of each hart,
 //! exactly, over any number of threads. Tokens and books take no bytes.
 
 ghost use Rattle.std.specs.Prelude.{◌≡◌, ◌+◌, ◌<◌, length, slice_index, slice_set};
@@ -194,7 +194,7 @@ impl<J: Naming> Model for Books<J> {
         ∷ b.hart4.total ∷ b.hart5.total ∷ b.hart6.total ∷ b.hart7.total ∷ [] };
 }
 
-/// What one hart of a machine may step by: it knows its hart, and counts the hart's entries. There
+/// What one hart of a machine may step by: it knows its hart, and counts the hart's steps. There
 /// is one for each hart.
 #[derive(Drop)]
 pub struct Share<J: Naming> {
@@ -270,7 +270,7 @@ impl<J: Naming> Share<J> {
 }
 
 impl<J: Naming> Books<J> {
-    /// Counts so many more entries of the share's hart.
+    /// Counts so many more steps of the share's hart.
     pub fn add(&mut self, share: &mut Share<J>, count: u64)
         ensures books { self.new
             ≡ slice_set self.old share.old.hart (slice_index self.old share.old.hart + count) }

@@ -1,12 +1,9 @@
 //! What watchers read of a machine: one of two copies of its core, beside what was seen of the
 //! order of its operations.
 
-ghost use Rattle.std.specs.Prelude.{◌≡◌};
-ghost use Rattle.machine.specs.Copies.{asked};
-ghost use Rattle.machine.specs.Cores.{applied};
-
 use crate::cores::Core;
-use history::{Operation, Token};
+use cheri_model::Op;
+use history::Token;
 use left_right::Absorb;
 use std::alloc::AllocError;
 
@@ -22,7 +19,7 @@ pub struct Shown {
 /// What both copies take in: an operation, or what was then seen of the order.
 #[derive(Drop)]
 pub enum Ticket {
-    Take(Operation),
+    Take(Op),
     Tell(Token),
 }
 
@@ -40,8 +37,8 @@ impl Absorb<Ticket> for Shown {
     #[tactic(auto, unfolding(crate::specs::Copies::shown_after))]
     fn absorb_first(&mut self, ticket: &Ticket, _other: &Shown) -> Result<(), AllocError> {
         match ticket {
-            Ticket::Take(operation) => {
-                apply(&mut self.core, *operation);
+            Ticket::Take(op) => {
+                let _event = self.core.apply(*op);
                 self.told = false;
             }
             Ticket::Tell(token) => {
@@ -50,16 +47,5 @@ impl Absorb<Ticket> for Shown {
             }
         }
         Ok(())
-    }
-}
-
-/// Takes an operation, unless the core refuses it.
-pub fn apply(core: &mut Core, operation: Operation)
-    ensures { core.new ≡ applied core.old (asked operation) }
-{
-    match operation {
-        Operation::Step(hart) => {
-            let _entry = core.step(hart);
-        }
     }
 }

@@ -94,11 +94,11 @@ impl From<ReportFault> for SimFault {
     }
 }
 
-/// Runs the machine of a listing in an order, with a trace of at most `limit` entries, and writes
-/// its report. Answers the step that was refused, if one was, with its place in the order counted
-/// from 0. Nothing is written before both texts are good; the listing is judged first, then the
-/// order, then the limit, which is from 1 to 100,000. After a fault of the report the sink took a
-/// beginning of it.
+/// Runs the machine of a listing in an order, with a trace of at most `limit` events, and writes
+/// its report. Answers the operation that was refused, if one was, with its place in the order
+/// counted from 0. Nothing is written before both texts are good; the listing is judged first, then
+/// the order, then the limit, which is from 1 to 100,000. After a fault of the report the sink took
+/// a beginning of it.
 pub fn simulate<S: Sink>(
     alloc: Global,
     listing: &[u8],
@@ -116,8 +116,8 @@ pub fn simulate<S: Sink>(
     ensures place { S.place out.new ≡ S.place out.old }
 {
     let image = read_listing(alloc, listing)?;
-    let harts = read_order(alloc, order)?;
-    let (core, refused) = run_order(alloc, image, harts.as_slice(), limit)?;
+    let ops = read_order(alloc, order)?;
+    let (core, refused) = run_order(alloc, image, ops.as_slice(), limit)?;
     write_report(alloc, core.view(), out)?;
     Ok(refused)
 }

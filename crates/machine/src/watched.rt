@@ -2,7 +2,7 @@
 //! keeper of the order of its operations.
 
 ghost use Rattle.std.specs.Prelude.{◌≡◌, [], None, IfOk, OnOk, OnErr};
-ghost use Rattle.machine.specs.Copies.{asked, taken};
+ghost use Rattle.cheri_model.specs.Replay.{operation_of, operations_of};
 ghost use Rattle.machine.specs.Cores.{core_after, refused};
 ghost use Rattle.machine.specs.Names.{order_named};
 ghost use Rattle.machine.specs.Watches.{watch_of};
@@ -12,10 +12,9 @@ use crate::cores::Core;
 use crate::faults::WatchFault;
 use crate::pairs::Pair;
 use crate::shares::Naming;
-use crate::shown::apply;
 use crate::watches::{Receipt, Watch};
-use cheri_model::{Entry, NoMemory};
-use history::{Blank, Keeper, Operation};
+use cheri_model::{Event, NoMemory, Op};
+use history::{Blank, Keeper};
 use std::alloc::Global;
 use std::marker::Model;
 use std::sync::Wait;
@@ -43,13 +42,13 @@ impl<J: Naming> Model for Watched<J> {
     ghost Value = { CoreParts };
 
     ghost use Rattle.std.specs.Prelude.{◌≡◌};
-    ghost use Rattle.machine.specs.Copies.{taken};
+    ghost use Rattle.cheri_model.specs.Replay.{operations_of};
     ghost use Rattle.machine.specs.Stages.{core_at};
 
     ghost view = { λ w. core_at w.stage };
 
     ghost invariant = { λ w. ((core_at w.stage).image ≡ J.image)
-        × (w.keeper ≡ taken (core_at w.stage).trace) };
+        × (w.keeper ≡ operations_of (core_at w.stage).trace) };
 }
 
 impl<J: Naming> Watched<J> {
@@ -81,18 +80,18 @@ impl<J: Naming> Watched<J> {
 
     /// Takes an operation that is not refused, and shows it to watchers. Fails only when out of
     /// memory, and then nothing changes. Waits for a watcher that still looks at the other copy.
-    pub fn take<R: Wait>(&mut self, rt: &R, operation: Operation) -> Result<(), NoMemory>
-        requires { refused self.old (asked operation) ≡ None }
-        ensures ok { OnOk result (self.new ≡ core_after self.old (asked operation)) }
+    pub fn take<R: Wait>(&mut self, rt: &R, op: Op) -> Result<(), NoMemory>
+        requires { refused self.old op ≡ None }
+        ensures ok { OnOk result (self.new ≡ core_after self.old op) }
         ensures err { OnErr result (self.new ≡ self.old) }
     {
         match &mut self.stage {
             Stage::Alone(core) => {
-                apply(core, operation);
-                self.keeper.add(operation);
+                let _event = core.apply(op);
+                self.keeper.add(op);
                 Ok(())
             }
-            Stage::Copied(pair) => pair.take(rt, operation, &mut self.keeper),
+            Stage::Copied(pair) => pair.take(rt, op, &mut self.keeper),
         }
     }
 
@@ -140,13 +139,23 @@ impl<J: Naming> Watched<J> {
     }
 }
 
-/// Adds the operations of these entries to an order that is empty.
-#[tactic(auto, unfolding(crate::specs::Copies::taken))]
-fn add_all<J: Naming>(keeper: &mut Keeper<OrderOf<J>>, entries: &[Entry])
+/// Adds the operations of these events to an order that is empty.
+#[tactic(auto, unfolding(cheri_model::specs::Replay::operations_of))]
+fn add_all<J: Naming>(keeper: &mut Keeper<OrderOf<J>>, events: &[Event])
     requires { keeper.old ≡ [] }
-    ensures { keeper.new ≡ taken entries.now }
+    ensures { keeper.new ≡ operations_of events.now }
 {
-    for entry in entries {
-        keeper.add(Operation::Step(entry.hart));
+    for event in events {
+        keeper.add(operation_of(*event));
+    }
+}
+
+/// The operation that an event records.
+fn operation_of(event: Event) -> Op
+    ensures { result ≡ operation_of event }
+{
+    match event {
+        Event::Step(entry) => Op::Step(entry.hart),
+        Event::Sweep { lo, hi, cleared: _ } => Op::Sweep { lo, hi },
     }
 }

@@ -1,8 +1,8 @@
 //! Watches: who looks at a machine takes no lock, and never sees its time go back.
 
 ghost use Rattle.std.specs.Prelude.{◌≡◌, ◌⊎◌, IfOk, IfErr, IfSome};
-ghost use Rattle.cheri_model.specs.Replay.{IsBeginning};
-ghost use Rattle.machine.specs.Copies.{IsShown, taken, trace_of};
+ghost use Rattle.cheri_model.specs.Replay.{IsBeginning, operations_of};
+ghost use Rattle.machine.specs.Copies.{IsShown};
 ghost use Rattle.machine.specs.Names.{order_named};
 ghost use Rattle.machine.specs.Watches.{watch_of};
 
@@ -16,33 +16,33 @@ use std::marker::Model;
 /// What somebody has seen of a machine's trace. Contracts see that trace.
 #[derive(Drop)]
 pub struct Receipt<J: Naming> {
-    entries: usize,
+    events: usize,
     seen: Seen<OrderOf<J>>,
 }
 
 impl<J: Naming> Model for Receipt<J> {
     ghost use Rattle.std.specs.Prelude.{List};
-    ghost use Rattle.cheri_model.specs.declared.trace.Entry.{Entry};
+    ghost use Rattle.cheri_model.specs.declared.operation.Event.{Event};
 
-    ghost Value = { List Entry };
+    ghost Value = { List Event };
 
     ghost use Rattle.std.specs.Prelude.{◌≡◌, length};
-    ghost use Rattle.machine.specs.Copies.{trace_of};
+    ghost use Rattle.cheri_model.specs.Replay.{replayed_events};
 
-    ghost view = { λ r. trace_of J.image r.seen };
+    ghost view = { λ r. replayed_events J.image r.seen };
 
-    ghost invariant = { λ r. r.entries ≡ length r.seen };
+    ghost invariant = { λ r. r.events ≡ length r.seen };
 }
 
 impl<J: Naming> Receipt<J> {
     /// The receipt for the trace of a core, all of whose order was seen.
     pub(crate) fn of_core(core: &Core, seen: Seen<OrderOf<J>>) -> Receipt<J>
         requires image { core.now.image ≡ J.image }
-        requires order { seen ≡ taken core.now.trace }
+        requires order { seen ≡ operations_of core.now.trace }
         ensures { result ≡ core.now.trace }
     {
         Receipt {
-            entries: core.view().entries.len(),
+            events: core.view().entries.len(),
             seen,
         }
     }
@@ -52,7 +52,7 @@ impl<J: Naming> Receipt<J> {
         ensures { result ≡ self.now }
     {
         Receipt {
-            entries: self.entries,
+            events: self.events,
             seen: self.seen.again(),
         }
     }
@@ -65,7 +65,7 @@ impl<J: Naming> Receipt<J> {
     {
         self.seen.meet(&other.seen);
         other.seen.meet(&self.seen);
-        if self.entries < other.entries {
+        if self.events < other.events {
             other
         } else {
             self
@@ -82,7 +82,7 @@ impl<J: Naming> Receipt<J> {
             return None;
         }
         let now = Receipt::of_core(&shown.core, shown.token.tied::<OrderOf<J>>());
-        if now.entries < self.entries {
+        if now.events < self.events {
             return None;
         }
         self.seen.meet(&now.seen);

@@ -1,3 +1,6 @@
-pub mod HartNumbers
-pub mod Names
-pub mod StepLemmas
+pub mod AskedLemmas
+pub mod NumberLemmas
+pub mod OrderLemmas
+pub mod PushLemmas
+pub mod SweepLemmas
+pub mod TextFaults

@@ -1,1 +1,4 @@
+pub mod Faults
+pub mod Numbers
+pub mod Sweeps
 pub mod Orders

@@ -9,16 +9,18 @@ use thiserror::Error;
 /// What is wrong with an order.
 #[derive(Clone, Copy, Debug, PartialEq, Eq)]
 pub enum OrderFaultKind {
-    /// A byte other than `0` to `7`, a space and a newline.
+    /// A byte that no order can have after the bytes before it, or a text that ends inside a sweep.
     Byte = 1,
-    /// More than 100,000 steps.
+    /// More than 100,000 operations.
     Size,
     /// Out of memory, which says nothing of the order.
     NoMemory,
+    /// A sweep that ends before it begins, or beyond the address space, at its `[`.
+    Range,
 }
 
 impl OrderFaultKind {
-    ghost use Rattle.orders.specs.Orders.{order_fault_number, order_fault_name};
+    ghost use Rattle.orders.specs.Faults.{order_fault_number, order_fault_name};
 
     /// The number by which reports of faults name the kind.
     pub fn number(self) -> u8
@@ -35,13 +37,14 @@ impl OrderFaultKind {
             OrderFaultKind::Byte => "Byte",
             OrderFaultKind::Size => "Size",
             OrderFaultKind::NoMemory => "NoMemory",
+            OrderFaultKind::Range => "Range",
         }
     }
 }
 
 impl fmt::Display for OrderFaultKind {
     ghost use Rattle.std.specs.Prelude.{Some};
-    ghost use Rattle.orders.specs.Orders.{order_fault_text};
+    ghost use Rattle.orders.specs.Faults.{order_fault_text};
 
     ghost output = { λ kind. Some (order_fault_text kind) };
 
@@ -58,8 +61,22 @@ pub struct OrderFault {
     pub kind: OrderFaultKind,
 }
 
+impl OrderFault {
+    ghost use Rattle.orders.specs.Faults.{byte_fault};
+
+    /// The fault of a byte at this offset, or of a text that ends there.
+    pub(crate) fn byte(offset: usize) -> OrderFault
+        ensures { result ≡ byte_fault offset }
+    {
+        OrderFault {
+            offset,
+            kind: OrderFaultKind::Byte,
+        }
+    }
+}
+
 impl From<AllocError> for OrderFault {
-    ghost use Rattle.orders.specs.Orders.{no_memory};
+    ghost use Rattle.orders.specs.Faults.{no_memory};
 
     ghost from_gives = { λ _ fault. fault ≡ no_memory };
 

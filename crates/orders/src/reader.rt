@@ -7,72 +7,99 @@ ghost use Rattle.std.specs.Prelude.{
   ◌+◌,
   ◌++◌,
   [],
-  ◌∷◌,
+  IsTrue,
   IfOk,
   OnOk,
   All,
   length,
   take,
+  slice_index,
 };
-ghost use Rattle.orders.specs.Orders.{order_of, Gives, hart_of_digit, hart_numbers, is_foreign};
+ghost use Rattle.std.specs.List.{cons_option};
+ghost use Rattle.orders.specs.Orders.{
+  order_of,
+  Gives,
+  IsAsked,
+  is_version_2,
+  body_start,
+  token_at,
+};
 
 use crate::fault::{OrderFault, OrderFaultKind};
+use crate::sweeps::sweep_at;
+use cheri_model::Op;
 use std::alloc::{AllocError, Global};
 
-/// The most steps that an order may ask for.
+/// The most operations that an order may ask for.
 pub const ORDER_LIMIT: usize = 100_000;
 
-/// The hart of a digit.
-fn hart_of_digit(byte: u8) -> Option<u8>
-    ensures { result ≡ hart_of_digit byte }
+/// What an order of version 2 begins with.
+const HEADER: &[u8; 8] = b"order 2\n";
+
+/// Whether a text is an order of version 2.
+fn is_version_2(text: &[u8]) -> bool
+    ensures version { result ≡ is_version_2 text.now }
+    ensures room { IsTrue result → 8 ≤ length text.now }
 {
-    match byte {
-        b'0'..=b'7' => Some(byte - b'0'),
-        _ => None,
+    text.starts_with(HEADER)
+}
+
+/// Where an order's first token is.
+fn body_start(text: &[u8]) -> usize
+    ensures start { result ≡ body_start text.now }
+    ensures room { result ≤ length text.now }
+{
+    if is_version_2(text) { HEADER.len() } else { 0 }
+}
+
+/// The token at a place: the operation that it asks for, if any, and the place after it.
+fn token_at(text: &[u8], place: usize) -> Result<(Option<Op>, usize), OrderFault>
+    requires { place < length text.now }
+    ensures token { result ≡ token_at text.now place (slice_index text.now place) }
+    ensures next { IfOk result (λ token. (place < token.1) × (token.1 ≤ length text.now)) }
+{
+    match text[place] {
+        digit @ b'0'..=b'7' => Ok((Some(Op::Step(digit - b'0')), place + 1)),
+        b' ' | b'\n' => Ok((None, place + 1)),
+        b'[' if is_version_2(text) => {
+            let (sweep, next) = sweep_at(text, place)?;
+            Ok((Some(sweep), next))
+        }
+        _ => Err(OrderFault::byte(place)),
     }
 }
 
-/// Whether an order cannot have this byte.
-fn is_foreign(byte: u8) -> bool
-    ensures { result ≡ is_foreign byte }
-{
-    hart_of_digit(byte).is_none() && !matches!(byte, b' ' | b'\n')
-}
-
-/// Appends the hart of a digit. An order that is too long already takes no more.
-fn push_step(order: &mut Vec<u8>, byte: u8) -> Result<(), AllocError>
+/// Appends an operation, if there is one. An order that is too long already takes no more.
+fn push_operation(order: &mut Vec<Op>, operation: Option<Op>) -> Result<(), AllocError>
     requires { length order.old.items ≤ ORDER_LIMIT + 1 }
     ensures { OnOk result (order.new.items
-        ≡ take (ORDER_LIMIT + 1) (order.old.items ++ hart_numbers (byte ∷ []))) }
+        ≡ take (ORDER_LIMIT + 1) (order.old.items ++ cons_option operation [])) }
 {
-    if let Some(hart) = hart_of_digit(byte) {
+    if let Some(operation) = operation {
         if order.len() <= ORDER_LIMIT {
-            order.push(hart)?;
+            order.push(operation)?;
         }
     }
     Ok(())
 }
 
-/// The hart numbers, each below 8, that an order's text asks to step, in turn: one for each digit.
-/// Spaces and newlines are skipped. The first other byte is refused, by its offset; else more than
-/// [`ORDER_LIMIT`] digits are, at offset 0. Running out of memory says nothing of the text.
-pub fn read_order(alloc: Global, text: &[u8]) -> Result<Vec<u8>, OrderFault>
+/// The operations that an order's text asks for, in turn: a step of a hart for each digit, and in
+/// version 2 sweeps. The first fault is answered, by its offset; else more than [`ORDER_LIMIT`]
+/// operations are, at offset 0. Running out of memory says nothing of the text.
+pub fn read_order(alloc: Global, text: &[u8]) -> Result<Vec<Op>, OrderFault>
     ensures meaning { Gives result (order_of text.now) }
-    ensures harts { IfOk result (λ order. All (λ hart. hart < 8) order.items) }
+    ensures operations { IfOk result (λ order. All IsAsked order.items) }
     ensures limit { IfOk result (λ order. length order.items ≤ ORDER_LIMIT) }
 {
     let mut order = Vec::new(alloc);
-    for (offset, byte) in text.iter().enumerate() {
-        if is_foreign(*byte) {
-            return Err(OrderFault {
-                offset,
-                kind: OrderFaultKind::Byte,
-            });
-        }
-        push_step(&mut order, *byte)?;
+    let mut place = body_start(text);
+    while place < text.len() {
+        let (operation, next) = token_at(text, place)?;
+        push_operation(&mut order, operation)?;
+        place = next;
     }
-    let steps = order.len();
-    if steps > ORDER_LIMIT {
+    let count = order.len();
+    if count > ORDER_LIMIT {
         return Err(OrderFault {
             offset: 0,
             kind: OrderFaultKind::Size,

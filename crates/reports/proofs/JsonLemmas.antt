@@ -7,7 +7,8 @@ use Rattle.serde_json.specs.Data.{Data, string, array, object, Items, Members, n
 use Rattle.serde_json.specs.View.{items_of}
 use Rattle.serde_json.specs.Written.{has_float, items_have_float, members_have_float}
 use Rattle.cheri_model.specs.declared.memory.TheConstants.{RAM_BASE, GRANULE_BYTES}
-use Rattle.cheri_model.specs.declared.trace.Entry.{Entry}
+use Rattle.cheri_model.specs.declared.operation.Event.{Event}
+use Rattle.cheri_model.specs.declared.operation.Event.TheVariants as event
 use Rattle.cheri_model.specs.declared.trace.Outcome.{Outcome}
 use Rattle.cheri_model.specs.declared.trace.Outcome.TheVariants as outcome
 use Rattle.cheri_model.specs.declared.trace.Status.{Status}
@@ -19,6 +20,7 @@ use Rattle.cheri_model.specs.ImageForm.{is_listed}
 use Rattle.cheri_model.specs.Machine.{MachineState}
 use Rattle.reports.specs.ReportText.{hex_text}
 use Rattle.reports.specs.Json.{count, value_data, entry_data, outcome_data, put_listed, put_registers, status_data, hart_data, put_granules, image_data, json_report}
+use Rattle.reports.specs.Report.{version_of}
 
 -- a value was put under its name
 pub listed_put : (name key : List ℕ) (held : CapValue) (value : Data) (listed : Bool) (before after : Members)
@@ -118,9 +120,10 @@ outcome_no_float hart pc outcome.Done = refl
 outcome_no_float hart pc outcome.Halt = refl
 outcome_no_float hart pc (outcome.Trap trap) = refl
 
-entry_no_float : (entry : Entry) → has_float (entry_data entry) ≡ false
+entry_no_float : (e : Event) → has_float (entry_data e) ≡ false
 unfolding entry_data
-entry_no_float entry = outcome_no_float entry.hart (hex_text 16 entry.pc) entry.outcome
+entry_no_float (event.Step entry) = outcome_no_float entry.hart (hex_text 16 entry.pc) entry.outcome
+entry_no_float (event.Sweep lo hi cleared) = refl
 
 status_no_float : (pcc regs : Data) (s : Status) → has_float pcc ≡ false → has_float regs ≡ false
     → has_float (status_data pcc regs s) ≡ false
@@ -143,19 +146,19 @@ image_no_float : (image : ImageParts) → has_float (image_data image) ≡ false
 unfolding image_data
 image_no_float image = refl
 
-report_members_no_float : (entries harts : Items) (image : Data) (mem : Members)
+report_members_no_float : (entries harts : Items) (image : Data) (mem : Members) (version : ℕ)
     → items_have_float entries ≡ false → items_have_float harts ≡ false → has_float image ≡ false
     → members_have_float mem ≡ false
     → members_have_float (member (codes "entries") (array entries) (member (codes "harts") (array harts)
-    (member (codes "image") image (member (codes "mem") (object mem) (member (codes "report") (count 1) no_members)))))
+    (member (codes "image") image (member (codes "mem") (object mem) (member (codes "report") (count version) no_members)))))
     ≡ false
-report_members_no_float entries harts image mem first second third fourth = rw (first, second, third, fourth)
+report_members_no_float entries harts image mem version first second third fourth = rw (first, second, third, fourth)
 
-pub report_no_float : (image : ImageParts) (entries : List Entry) (state : MachineState)
-    → has_float (json_report image entries state) ≡ false
+pub report_no_float : (image : ImageParts) (events : List Event) (state : MachineState)
+    → has_float (json_report image events state) ≡ false
 unfolding json_report
-report_no_float image entries state =
-    report_members_no_float (items_of (map entry_data entries)) (items_of (map hart_data state.harts)) (image_data image)
-    (put_granules 0 state.memory no_members) (items_no_float entry_data entry_no_float entries)
+report_no_float image events state =
+    report_members_no_float (items_of (map entry_data events)) (items_of (map hart_data state.harts)) (image_data image)
+    (put_granules 0 state.memory no_members) (version_of events) (items_no_float entry_data entry_no_float events)
     (items_no_float hart_data hart_no_float state.harts) (image_no_float image)
     (granules_no_float 0 state.memory no_members refl)

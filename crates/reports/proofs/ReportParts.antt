@@ -1,7 +1,7 @@
 -- A report in parts, as a sink takes them.
 use Rattle.std.proofs.Common.{◌≡◌, ℕ, ◌+◌, ◌<◌, ◌≤◌, List, ◌++◌, Option, codes, length, drop, get_or, refl, append_assoc}
 use Rattle.std.specs.Io.KnownBytes.{Appends}
-use Rattle.cheri_model.specs.declared.trace.Entry.{Entry}
+use Rattle.cheri_model.specs.declared.operation.Event.{Event}
 use Rattle.cheri_model.specs.Image.{ImageParts}
 use Rattle.cheri_model.specs.Machine.{MachineState}
 use Rattle.reports.specs.Report.{numbered, line, report, head_lines, shown_lines}
@@ -9,11 +9,11 @@ use Rattle.reports.specs.Sinks.{TakesAllBut, TakesBeginning}
 use Rattle.reports.proofs.ReportLines.{numbered_step, numbered_end}
 use Rattle.reports.proofs.SinkLemmas.{takes_then, stops_then, stops_on, begins_on, takes_to_end}
 
--- a report is the lines before the first entry, those that show the trace and the state, and the last one
-pub report_parts : (image : ImageParts) (entries : List Entry) (state : MachineState)
-    → report image entries state ≡ head_lines image entries ++ (shown_lines entries state ++ line (codes "end"))
+-- a report is the lines before the first event, those that show the trace and the state, and the last one
+pub report_parts : (image : ImageParts) (events : List Event) (state : MachineState)
+    → report image events state ≡ head_lines image events ++ (shown_lines events state ++ line (codes "end"))
 unfolding report head_lines shown_lines
-report_parts image entries state = simp append_assoc
+report_parts image events state = simp append_assoc
 
 -- an item more was written, and what was kept was put up to what is still kept
 pub item_takes : {X : Type 0} (text : ℕ → X → List ℕ) (items : List X) (place : ℕ) (d item : X)
@@ -51,28 +51,28 @@ pub three_parts : (kept first second third : List ℕ)
 three_parts kept first second third = simp append_assoc
 
 -- a report of which a beginning was put up to its last line
-pub report_begins : (image : ImageParts) (entries : List Entry) (state : MachineState) (before now : Option (List ℕ)) (head : List ℕ)
-    → head ≡ head_lines image entries → TakesBeginning before now (head ++ shown_lines entries state)
-    → TakesBeginning before now (report image entries state)
-report_begins image entries state before now head same begun =
-    rw (report_parts, ← append_assoc, ← same) (begins_on before now (head ++ shown_lines entries state) (line (codes "end")) begun)
+pub report_begins : (image : ImageParts) (events : List Event) (state : MachineState) (before now : Option (List ℕ)) (head : List ℕ)
+    → head ≡ head_lines image events → TakesBeginning before now (head ++ shown_lines events state)
+    → TakesBeginning before now (report image events state)
+report_begins image events state before now head same begun =
+    rw (report_parts, ← append_assoc, ← same) (begins_on before now (head ++ shown_lines events state) (line (codes "end")) begun)
 
 -- the same, where the last line was put too, and failed
-pub report_stops : (image : ImageParts) (entries : List Entry) (state : MachineState) (before now after : Option (List ℕ))
+pub report_stops : (image : ImageParts) (events : List Event) (state : MachineState) (before now after : Option (List ℕ))
     (head kept last : List ℕ)
-    → head ≡ head_lines image entries → TakesAllBut before now kept (head ++ shown_lines entries state)
+    → head ≡ head_lines image events → TakesAllBut before now kept (head ++ shown_lines events state)
     → last ≡ kept ++ line (codes "end") → TakesBeginning now after last
-    → TakesBeginning before after (report image entries state)
-report_stops image entries state before now after head kept last same so_far written stop =
+    → TakesBeginning before after (report image events state)
+report_stops image events state before now after head kept last same so_far written stop =
     rw (report_parts, ← append_assoc, ← same)
-    (stops_on before now after kept (head ++ shown_lines entries state) (line (codes "end")) so_far (rw written at stop))
+    (stops_on before now after kept (head ++ shown_lines events state) (line (codes "end")) so_far (rw written at stop))
 
 -- the same, where it was taken
-pub report_ends : (image : ImageParts) (entries : List Entry) (state : MachineState) (before now after : Option (List ℕ))
+pub report_ends : (image : ImageParts) (events : List Event) (state : MachineState) (before now after : Option (List ℕ))
     (head kept last : List ℕ)
-    → head ≡ head_lines image entries → TakesAllBut before now kept (head ++ shown_lines entries state)
+    → head ≡ head_lines image events → TakesAllBut before now kept (head ++ shown_lines events state)
     → last ≡ kept ++ line (codes "end") → Appends now after last
-    → Appends before after (report image entries state)
-report_ends image entries state before now after head kept last same so_far written put =
+    → Appends before after (report image events state)
+report_ends image events state before now after head kept last same so_far written put =
     rw (report_parts, ← append_assoc, ← same)
-    (takes_to_end before now after kept (head ++ shown_lines entries state) (line (codes "end")) so_far (rw written at put))
+    (takes_to_end before now after kept (head ++ shown_lines events state) (line (codes "end")) so_far (rw written at put))

@@ -3,7 +3,8 @@ use Rattle.std.specs.Prelude.{ℕ, ◌+◌, ◌*◌, if◌then◌else◌, List, 
 use Rattle.serde_json.specs.Data.{Data, boolean, number, unsigned, string, array, object, Members, no_members, member, put}
 use Rattle.serde_json.specs.View.{items_of}
 use Rattle.cheri_model.specs.declared.memory.TheConstants.{RAM_BASE, GRANULE_BYTES}
-use Rattle.cheri_model.specs.declared.trace.Entry.{Entry}
+use Rattle.cheri_model.specs.declared.operation.Event.{Event}
+use Rattle.cheri_model.specs.declared.operation.Event.TheVariants as event
 use Rattle.cheri_model.specs.declared.trace.Outcome.{Outcome}
 use Rattle.cheri_model.specs.declared.trace.Outcome.TheVariants as outcome
 use Rattle.cheri_model.specs.declared.trace.Status.{Status}
@@ -14,6 +15,7 @@ use Rattle.cheri_model.specs.Image.{ImageParts}
 use Rattle.cheri_model.specs.ImageForm.{is_listed}
 use Rattle.cheri_model.specs.Machine.{MachineState}
 use Rattle.reports.specs.ReportText.{hex_text, type_text, word_text}
+use Rattle.reports.specs.Report.{version_of}
 
 abbrev pub count : ℕ → Data
 count n = number (unsigned n)
@@ -36,7 +38,7 @@ value_data v =
     else object
     (member (codes "tag") (boolean false) (member (codes "word") (string (word_text (bits_of v))) no_members))
 
--- an entry of the trace: the hart, how its step ended, and PCC's address before it
+-- a step: the hart, how it ended, and PCC's address before it
 abbrev pub outcome_data : Data → Data → Outcome → Data
 outcome_data hart pc outcome.Done = object
     (member (codes "hart") hart (member (codes "outcome") (string (codes "done")) (member (codes "pc") pc no_members)))
@@ -49,8 +51,18 @@ outcome_data hart pc (outcome.Trap trap) = object
     (member (codes "pc") pc
     (member (codes "reg") (count trap.reg) no_members)))))
 
-unfoldable pub entry_data : Entry → Data
-entry_data entry = outcome_data (count entry.hart) (string (hex_text 16 entry.pc)) entry.outcome
+-- a sweep, by the texts of its range's ends: how many tags it cleared
+abbrev pub sweep_data : List ℕ → List ℕ → ℕ → Data
+sweep_data lo hi cleared = object
+    (member (codes "cleared") (count cleared)
+    (member (codes "hi") (string hi)
+    (member (codes "lo") (string lo)
+    (member (codes "outcome") (string (codes "sweep")) no_members))))
+
+-- an event of the trace
+unfoldable pub entry_data : Event → Data
+entry_data (event.Step entry) = outcome_data (count entry.hart) (string (hex_text 16 entry.pc)) entry.outcome
+entry_data (event.Sweep lo hi cleared) = sweep_data (hex_text 16 lo) (hex_text 17 hi) cleared
 
 -- the members with one more, unless its value is an untagged 0
 abbrev pub put_listed : List ℕ → CapValue → Members → Members
@@ -91,10 +103,10 @@ image_data image = object
     (member (codes "harts") (count (length image.harts))
     (member (codes "ram") (count image.ram) no_members)))
 
-unfoldable pub json_report : ImageParts → List Entry → MachineState → Data
-json_report image entries state = object
-    (member (codes "entries") (array (items_of (map entry_data entries)))
+unfoldable pub json_report : ImageParts → List Event → MachineState → Data
+json_report image events state = object
+    (member (codes "entries") (array (items_of (map entry_data events)))
     (member (codes "harts") (array (items_of (map hart_data state.harts)))
     (member (codes "image") (image_data image)
     (member (codes "mem") (object (put_granules 0 state.memory no_members))
-    (member (codes "report") (count 1) no_members)))))
+    (member (codes "report") (count (version_of events)) no_members)))))

@@ -1,7 +1,9 @@
--- Report 1: the text that shows an image, the entries of a trace, and the state that they lead to. One definition
+-- The report: the text that shows an image, the events of a trace, and the state that they lead to. One definition
 -- for each kind of line.
-use Rattle.std.specs.Prelude.{ℕ, ◌+◌, ◌*◌, if◌then◌else◌, List, [], ◌∷◌, ◌++◌, length, codes, decimal, zero, suc}
-use Rattle.cheri_model.specs.declared.trace.Entry.{Entry}
+use Rattle.std.specs.Prelude.{ℕ, ◌+◌, ◌*◌, Bool, true, false, if◌then◌else◌, List, [], ◌∷◌, ◌++◌, length, codes, decimal, zero, suc}
+use Rattle.std.specs.List.{list_any}
+use Rattle.cheri_model.specs.declared.operation.Event.{Event}
+use Rattle.cheri_model.specs.declared.operation.Event.TheVariants as event
 use Rattle.cheri_model.specs.declared.trace.Outcome.{Outcome}
 use Rattle.cheri_model.specs.declared.trace.Status.{Status}
 use Rattle.cheri_model.specs.CapValue.{CapValue}
@@ -21,8 +23,16 @@ unfoldable pub numbered : {X : Type 0} → (ℕ → X → List ℕ) → ℕ → 
 numbered text number [] = []
 numbered text number (item ∷ rest) = text number item ++ numbered text (number + 1) rest
 
-unfoldable pub title_line : List ℕ
-title_line = line (codes "cheri-sim report 1")
+abbrev pub is_sweep : Event → Bool
+is_sweep (event.Step entry) = false
+is_sweep (event.Sweep lo hi cleared) = true
+
+-- the version of a report: 2 where the trace has a sweep
+unfoldable pub version_of : List Event → ℕ
+version_of events = if list_any is_sweep events then 2 else 1
+
+unfoldable pub title_line : ℕ → List ℕ
+title_line version = line (codes "cheri-sim report " +++ decimal version)
 
 -- how many harts, how many bytes of RAM, how many instructions
 unfoldable pub image_line : ImageParts → List ℕ
@@ -30,7 +40,7 @@ image_line image =
     line (codes "image harts=" +++ decimal (length image.harts) +++ codes " ram=" +++ decimal image.ram
     +++ codes " code=" +++ decimal (length image.program))
 
--- how many entries
+-- how many events
 unfoldable pub count_line : ℕ → List ℕ
 count_line count = line (codes "entries " +++ decimal count)
 
@@ -38,11 +48,15 @@ count_line count = line (codes "entries " +++ decimal count)
 unfoldable pub ending : Outcome → List ℕ
 ending outcome = line (codes " " +++ outcome_text outcome)
 
--- an entry of the trace: its place from 0 on, the hart, PCC's address before the step, and how the step ended
-unfoldable pub entry_line : ℕ → Entry → List ℕ
-entry_line place entry =
+-- an event of the trace, after its place from 0 on. A step: the hart, PCC's address before it, and how it ended. A
+-- sweep: its range, and how many tags it cleared.
+unfoldable pub entry_line : ℕ → Event → List ℕ
+entry_line place (event.Step entry) =
     line (decimal place +++ codes " hart=" +++ decimal entry.hart +++ codes " pc=" +++ hex_text 16 entry.pc
     +++ codes " " +++ outcome_text entry.outcome)
+entry_line place (event.Sweep lo hi cleared) =
+    line (decimal place +++ codes " sweep lo=" +++ hex_text 16 lo +++ codes " hi=" +++ hex_text 17 hi
+    +++ codes " cleared=" +++ decimal cleared)
 
 unfoldable pub status_line : ℕ → Status → List ℕ
 status_line number status = line (codes "hart " +++ decimal number +++ codes " " +++ status_text status)
@@ -73,15 +87,15 @@ granule_line number v =
     else []
 
 -- the lines before the first entry
-unfoldable pub head_lines : ImageParts → List Entry → List ℕ
-head_lines image entries = title_line +++ image_line image +++ count_line (length entries)
+unfoldable pub head_lines : ImageParts → List Event → List ℕ
+head_lines image events = title_line (version_of events) +++ image_line image +++ count_line (length events)
 
--- the lines of the entries, the harts and the granules
-unfoldable pub shown_lines : List Entry → MachineState → List ℕ
-shown_lines entries state =
-    numbered entry_line 0 entries +++ numbered hart_lines 0 state.harts +++ numbered granule_line 0 state.memory
+-- the lines of the events, the harts and the granules
+unfoldable pub shown_lines : List Event → MachineState → List ℕ
+shown_lines events state =
+    numbered entry_line 0 events +++ numbered hart_lines 0 state.harts +++ numbered granule_line 0 state.memory
 
-unfoldable pub report : ImageParts → List Entry → MachineState → List ℕ
-report image entries state =
-    title_line +++ image_line image +++ count_line (length entries) +++ numbered entry_line 0 entries
+unfoldable pub report : ImageParts → List Event → MachineState → List ℕ
+report image events state =
+    title_line (version_of events) +++ image_line image +++ count_line (length events) +++ numbered entry_line 0 events
     +++ numbered hart_lines 0 state.harts +++ numbered granule_line 0 state.memory +++ line (codes "end")

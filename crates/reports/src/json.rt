@@ -11,10 +11,12 @@ ghost use Rattle.serde_json.specs.Data.{array, object, no_members};
 ghost use Rattle.serde_json.specs.View.{items_of, members_view, view as data_of};
 ghost use Rattle.serde_json.specs.Written.{compact_text};
 
-use crate::report::is_listed;
 use crate::report::text::{Hex, HexWord, TypeText, Word, granule_address};
+use crate::report::{is_listed, version_of};
 use cap_ops::Cap;
-use cheri_model::{Entry, GRANULE_BYTES, Image, NoMemory, Outcome, RAM_BASE, Reg, Status, Trap};
+use cheri_model::{
+    Entry, Event, GRANULE_BYTES, Image, NoMemory, Outcome, RAM_BASE, Reg, Status, Trap,
+};
 use hart_step::{Hart, View};
 use serde_json::{Map, Value, json, put};
 use std::alloc::Global;
@@ -53,10 +55,10 @@ fn value_json(alloc: Global, held: Cap) -> Result<Value, NoMemory>
     capability_json(alloc, base, perms, top, otype, word)
 }
 
-/// An entry of the trace.
+/// A step.
 #[tactic(auto, unfolding(crate::specs::Json::entry_data))]
-fn entry_json(alloc: Global, entry: &Entry) -> Result<Value, NoMemory>
-    ensures { IfOk result (λ v. data_of v ≡ entry_data entry.now) }
+fn step_json(alloc: Global, entry: &Entry) -> Result<Value, NoMemory>
+    ensures { IfOk result (λ v. data_of v ≡ entry_data (Event.Step entry.now)) }
 {
     let hart = entry.hart;
     let pc = HexWord(entry.pc).to_string(alloc)?;
@@ -69,13 +71,33 @@ fn entry_json(alloc: Global, entry: &Entry) -> Result<Value, NoMemory>
     }
 }
 
-/// The entries of the trace.
-fn entries_json(alloc: Global, entries: &[Entry]) -> Result<Value, NoMemory>
+/// A sweep.
+#[tactic(auto, unfolding(crate::specs::Json::entry_data))]
+fn sweep_json(alloc: Global, lo: u64, hi: u128, cleared: u32) -> Result<Value, NoMemory>
+    ensures { IfOk result (λ v. data_of v ≡ entry_data (Event.Sweep lo hi cleared)) }
+{
+    let lo = HexWord(lo).to_string(alloc)?;
+    let hi = Hex::of_top(hi).to_string(alloc)?;
+    json!(in alloc; {"cleared": cleared, "hi": hi, "lo": lo, "outcome": "sweep"})
+}
+
+/// An event of the trace.
+fn entry_json(alloc: Global, event: &Event) -> Result<Value, NoMemory>
+    ensures { IfOk result (λ v. data_of v ≡ entry_data event.now) }
+{
+    match event {
+        Event::Step(entry) => step_json(alloc, entry),
+        Event::Sweep { lo, hi, cleared } => sweep_json(alloc, *lo, *hi, *cleared),
+    }
+}
+
+/// The events of the trace.
+fn entries_json(alloc: Global, entries: &[Event]) -> Result<Value, NoMemory>
     ensures { IfOk result (λ v. data_of v ≡ array (items_of (map entry_data entries.now))) }
 {
     let mut values = Vec::new(alloc);
-    for entry in entries {
-        values.push(entry_json(alloc, entry)?)?;
+    for event in entries {
+        values.push(entry_json(alloc, event)?)?;
     }
     Ok(Value::Array(values))
 }
@@ -186,7 +208,10 @@ fn report_value(alloc: Global, view: View<'_>) -> Result<Value, NoMemory>
     let harts = harts_json(alloc, view.harts)?;
     let image = image_json(alloc, view.image)?;
     let mem = granules_json(alloc, view)?;
-    json!(in alloc; {"entries": entries, "harts": harts, "image": image, "mem": mem, "report": 1u8})
+    let version = version_of(view.entries);
+    json!(in alloc; {
+        "entries": entries, "harts": harts, "image": image, "mem": mem, "report": version
+    })
 }
 
 /// The JSON report of what a view shows: compact, with its keys in byte order. Fails only when

@@ -1,10 +1,11 @@
-//! Report 1: the text that shows what a machine started from, its trace, and its state.
+//! The report: the text that shows what a machine started from, its trace, and its state.
 
 ghost use Rattle.std.specs.Prelude.{◌≡◌, ◌+◌, ◌++◌, OnOk, IfOk, string_bytes};
 ghost use Rattle.std.specs.Io.KnownBytes.{Appends};
 ghost use Rattle.cheri_model.specs.ImageForm.{is_listed};
-ghost use Rattle.reports.specs.Report.{numbered, image_line, ending, entry_line, register_line};
-ghost use Rattle.reports.specs.Report.{register_lines, hart_lines, granule_line};
+ghost use Rattle.reports.specs.Report.{version_of, numbered, title_line, image_line};
+ghost use Rattle.reports.specs.Report.{ending, entry_line, register_line, register_lines};
+ghost use Rattle.reports.specs.Report.{hart_lines, granule_line};
 ghost use Rattle.reports.specs.Report.{head_lines, shown_lines, report};
 ghost use Rattle.reports.specs.ReportFaults.{failures_of};
 ghost use Rattle.reports.specs.Sinks.{TakesAllBut, TakesBeginning};
@@ -15,18 +16,40 @@ pub mod text;
 
 use crate::sink::{Sink, put_whole};
 use cap_ops::Cap;
-use cheri_model::{Entry, Image, NoMemory, Outcome, Reg};
+use cheri_model::{Entry, Event, Image, NoMemory, Outcome, Reg};
 use fault::ReportFault;
 use hart_step::{Hart, View};
 use itoa::Buffer;
 use std::alloc::Global;
-use text::{HexWord, OutcomeText, StatusText, ValueText, granule_address};
+use text::{Hex, HexWord, OutcomeText, StatusText, ValueText, granule_address};
 
 /// Whether a value is tagged or not all 0: the others have no line in a report.
 pub(crate) fn is_listed(value: Cap) -> bool
     ensures { result ≡ is_listed value }
 {
     value.tag() || value.bits() != 0
+}
+
+/// The version of a report of these events: 2 where one is a sweep. So a reader of version 1 reads
+/// what it always did wherever nothing was swept.
+pub(crate) fn version_of(events: &[Event]) -> u8
+    ensures { result ≡ version_of events.now }
+{
+    for event in events {
+        if let Event::Sweep { .. } = event {
+            return 2;
+        }
+    }
+    1
+}
+
+/// Appends the line of the version.
+#[tactic(auto, unfolding(crate::specs::Report::title_line))]
+fn write_title(out: &mut String, version: u8) -> Result<(), NoMemory>
+    ensures { OnOk result (string_bytes out.new ≡ string_bytes out.old ++ title_line version) }
+{
+    writeln!(out, "cheri-sim report {version}")?;
+    Ok(())
 }
 
 /// Appends the line of the image.
@@ -50,11 +73,11 @@ fn write_ending(out: &mut String, outcome: Outcome) -> Result<(), NoMemory>
     }
 }
 
-/// Appends the line of an entry of the trace, piece by piece: a report has up to 100,000 such
-/// lines, and a formatter takes twice the time.
-fn write_entry(out: &mut String, place: usize, entry: &Entry) -> Result<(), NoMemory>
+/// Appends the line of a step, piece by piece: a report has up to 100,000 such lines, and a
+/// formatter takes twice the time.
+fn write_step(out: &mut String, place: usize, entry: &Entry) -> Result<(), NoMemory>
     ensures { OnOk result (string_bytes out.new
-        ≡ string_bytes out.old ++ entry_line place entry.now) }
+        ≡ string_bytes out.old ++ entry_line place (Event.Step entry.now)) }
 {
     let mut number = Buffer::new();
     out.push_str(number.format(place))?;
@@ -64,6 +87,34 @@ fn write_entry(out: &mut String, place: usize, entry: &Entry) -> Result<(), NoMe
     out.push_str(number.format(HexWord(entry.pc)))?;
     write_ending(out, entry.outcome)?;
     Ok(())
+}
+
+/// Appends the line of a sweep.
+#[tactic(auto, unfolding(crate::specs::Report::entry_line))]
+fn write_sweep(
+    out: &mut String,
+    place: usize,
+    lo: u64,
+    hi: u128,
+    cleared: u32,
+) -> Result<(), NoMemory>
+    ensures { OnOk result (string_bytes out.new
+        ≡ string_bytes out.old ++ entry_line place (Event.Sweep lo hi cleared)) }
+{
+    let (lo, hi) = (HexWord(lo), Hex::of_top(hi));
+    writeln!(out, "{place} sweep lo={lo} hi={hi} cleared={cleared}")?;
+    Ok(())
+}
+
+/// Appends the line of an event of the trace.
+fn write_entry(out: &mut String, place: usize, event: &Event) -> Result<(), NoMemory>
+    ensures { OnOk result (string_bytes out.new
+        ≡ string_bytes out.old ++ entry_line place event.now) }
+{
+    match event {
+        Event::Step(entry) => write_step(out, place, entry),
+        Event::Sweep { lo, hi, cleared } => write_sweep(out, place, *lo, *hi, *cleared),
+    }
 }
 
 /// Appends the line of a register, if it has one.
@@ -134,11 +185,11 @@ fn make_room<S: Sink>(out: &mut String, sink: &mut S) -> Result<(), ReportFault>
     Ok(())
 }
 
-/// Writes the lines of the entries.
+/// Writes the lines of the events.
 fn put_entries<S: Sink>(
     out: &mut String,
     sink: &mut S,
-    entries: &[Entry],
+    entries: &[Event],
 ) -> Result<(), ReportFault>
     ensures whole { OnOk result (TakesAllBut (S.taken sink.old) (S.taken sink.new)
         (string_bytes out.new) (string_bytes out.old ++ numbered entry_line 0 entries.now)) }
@@ -147,8 +198,8 @@ fn put_entries<S: Sink>(
     ensures failures { S.failures sink.new ≡ S.failures sink.old + failures_of result }
     ensures place { S.place sink.new ≡ S.place sink.old }
 {
-    for (place, entry) in entries.iter().enumerate() {
-        write_entry(out, place, entry)?;
+    for (place, event) in entries.iter().enumerate() {
+        write_entry(out, place, event)?;
         make_room(out, sink)?;
     }
     Ok(())
@@ -187,7 +238,7 @@ fn put_granules<S: Sink>(out: &mut String, sink: &mut S, view: View<'_>) -> Resu
     Ok(())
 }
 
-/// Writes the lines of the entries, the harts and the granules.
+/// Writes the lines of the events, the harts and the granules.
 fn put_parts<S: Sink>(out: &mut String, sink: &mut S, view: View<'_>) -> Result<(), ReportFault>
     ensures whole { OnOk result (TakesAllBut (S.taken sink.old) (S.taken sink.new)
         (string_bytes out.new)
@@ -203,19 +254,18 @@ fn put_parts<S: Sink>(out: &mut String, sink: &mut S, view: View<'_>) -> Result<
 }
 
 /// Appends the lines of a report before the first entry.
-#[tactic(auto, unfolding(crate::specs::Report::title_line, crate::specs::Report::count_line))]
 fn write_head(out: &mut String, view: View<'_>) -> Result<(), NoMemory>
     ensures { OnOk result (string_bytes out.new
         ≡ string_bytes out.old ++ head_lines view.entry.image.now view.entry.entries.now) }
 {
-    writeln!(out, "cheri-sim report 1")?;
+    write_title(out, version_of(view.entries))?;
     write_image(out, view.image)?;
     writeln!(out, "entries {}", view.entries.len())?;
     Ok(())
 }
 
-/// Writes report 1 of what a view shows, in pieces of at most 64 KiB. After a fault the sink
-/// took a beginning of it.
+/// Writes the report of what a view shows, in pieces of at most 64 KiB: report 2 where its trace
+/// has a sweep, else report 1. After a fault the sink took a beginning of it.
 pub fn write_report<S: Sink>(alloc: Global, view: View<'_>, sink: &mut S) -> Result<(), ReportFault>
     ensures whole { OnOk result (Appends (S.taken sink.old) (S.taken sink.new)
         (report view.entry.image.now view.entry.entries.now (state_of view.entry))) }

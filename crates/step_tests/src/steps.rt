@@ -17,6 +17,7 @@ mod invokes;
 mod jumps;
 mod memory;
 mod readings;
+mod sweeps;
 
 /// A word and its tag: the tag, the upper half, the address.
 type Tagged = (bool, u64, u64);

@@ -3,3 +3,4 @@ pub mod Open
 pub mod PackedBytes
 pub mod PackedTags
 pub mod PackedRam
+pub mod SweptRam

@@ -1,2 +1,3 @@
 pub mod MemoryFaults
 pub mod Packed
+pub mod SweptTags

@@ -7,6 +7,7 @@
 mod fault;
 mod packed;
 mod ram;
+mod sweeping;
 
 pub use fault::MemFault;
 pub use ram::Ram;

@@ -33,9 +33,11 @@ ghost use Rattle.cheri_model.specs.Memory.{
   store_capability,
   IsMemory,
 };
+ghost use Rattle.cheri_model.specs.Sweeps.{swept_memory, cleared_in_memory};
 
 use crate::fault::MemFault;
 use crate::packed::{data_at, put_bytes, put_tag, tag_at, unpacked, word_at};
+use crate::sweeping::sweep_tags;
 use cap_ops::Cap;
 use cheri_model::{GRANULE_BYTES, MAX_RAM_BYTES, RAM_BASE, Width};
 use std::alloc::Global;
@@ -191,5 +193,13 @@ impl Ram {
         let old = self.load_cap(addr);
         self.store_cap(addr, value);
         old
+    }
+    /// Clears the tag of every capability whose base lies in the addresses from `lo` up to `hi`, and
+    /// says how many that is. The bytes stay. Takes no memory.
+    pub fn sweep(&mut self, lo: u64, hi: u128) -> u32
+        ensures memory { self.new ≡ swept_memory lo hi self.old }
+        ensures cleared { result ≡ cleared_in_memory lo hi self.old }
+    {
+        sweep_tags(self.bytes.as_slice(), &mut self.tags, lo, hi)
     }
 }

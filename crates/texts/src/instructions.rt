@@ -33,6 +33,7 @@ fn three_name(op: ThreeOp) -> &'static str
         ThreeOp::CSetHigh => "csethigh",
         ThreeOp::CSeal => "cseal",
         ThreeOp::CUnseal => "cunseal",
+        ThreeOp::CBuildCap => "cbuildcap",
         ThreeOp::CTestSubset => "ctestsubset",
         ThreeOp::CSetEqualExact => "csetequalexact",
         ThreeOp::Add => "add",

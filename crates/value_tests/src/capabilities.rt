@@ -9,6 +9,7 @@ use std::process::Abort;
 mod changing;
 mod making;
 mod reading;
+mod rebuilding;
 mod sealing;
 
 /// A word and its tag: the upper half, the address, the tag.
@@ -32,4 +33,9 @@ fn made(rt: &impl Abort, base: u64, len: u128, addr: u64, perms: Perms) -> Cap {
 /// The sixteen bytes from 0x8000_0000 on, with all permissions.
 fn sixteen_bytes(rt: &impl Abort) -> Cap {
     made(rt, 0x8000_0000, 16, 0x8000_0000, perms(ALL))
+}
+
+/// The untagged word of this upper half at an address.
+fn untagged(upper: u64, addr: u64) -> Cap {
+    Cap::from_word(u128::from(upper) << 64 | u128::from(addr))
 }

@@ -2,9 +2,12 @@
 
 use cap_ops::Cap;
 use cheri_model::{Perms, Width};
+use std::alloc::Global;
 use std::process::Abort;
 use std::test::Fail;
 use tagged_mem::{MemFault, Ram};
+
+mod sweeps;
 
 const WIDTHS: [Width; 4] = [Width::Byte, Width::Half, Width::Word, Width::Double];
 

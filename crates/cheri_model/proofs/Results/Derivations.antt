@@ -9,12 +9,14 @@ use Rattle.cheri_model.specs.CapValue.{CapValue, valid, raw, bits_of, tag_of, pa
 use Rattle.cheri_model.specs.Results.{address_of, is_open, has_permission, in_bounds, keeps_bounds, is_exact, set_address, inc_offset, with_bounds_of_rounding, set_bounds, set_bounds_exact}
 use Rattle.cheri_model.specs.FieldResults.{and_perm, set_flags, set_high}
 use Rattle.cheri_model.specs.SealResults.{global_permission, seal_permission, unseal_permission, execute_permission, is_sealable, has_type_authority, seal, unsealed_perms, unseal, seal_entry, unsealed}
-use Rattle.cheri_model.specs.CapInstructions.{CapInstruction, CMove, CClearTag, CSetAddr, CIncOffset, CSetBounds, CSetBoundsExact, CAndPerm, CSetFlags, CSetHigh, CSeal, CUnseal, CSealEntry, UnsealedByJump, capability_result}
+use Rattle.cheri_model.specs.CapInstructions.{CapInstruction, CMove, CClearTag, CSetAddr, CIncOffset, CSetBounds, CSetBoundsExact, CAndPerm, CSetFlags, CSetHigh, CSeal, CUnseal, CSealEntry, CBuildCap, UnsealedByJump, capability_result}
+use Rattle.cheri_model.specs.Rebuilt.{build, unsealed_parts}
 use Rattle.cheri_model.specs.Authority.{IsWithin}
 use Rattle.cheri_model.specs.Derivation.{IsDerived}
 use Rattle.cheri_model.proofs.Words.BoundsRounded.{rounding_from, rounding_to}
 use Rattle.cheri_model.proofs.Results.Values.{result_is_lawful, bits_lt, open_parts, word_with_upper_lt}
 use Rattle.cheri_model.proofs.Results.AddressResults.{set_address-result, set_bounds-result, set_bounds_exact-result}
+use Rattle.cheri_model.proofs.Results.Rebuildings.{can_build, built_lawful}
 use Rattle.cheri_model.proofs.Results.FieldResultsMade.{and_perm-result, set_flags-result, seal-result, unseal-result, seal_entry-result, unsealed-result}
 
 -- an address has 64 bits
@@ -38,6 +40,7 @@ result_lawful CSetHigh v w h k = word_with_upper_lt (bits_of v) (address_of w) (
 result_lawful CSeal v w h k = result_is_lawful (seal-result v w h)
 result_lawful CUnseal v w h k = result_is_lawful (unseal-result v w h)
 result_lawful CSealEntry v w h k = result_is_lawful (seal_entry-result v h)
+result_lawful CBuildCap v w h k = built_lawful v w h k
 result_lawful UnsealedByJump v w h k = result_is_lawful (unsealed-result v h)
 
 -- what the changed capability is to the sources
@@ -201,6 +204,19 @@ unseal_derived v w =
       sealed = λ s. absurd (unsealed_not_sealable s);
     })
 
+-- CBuildCap, whose first source is the authority
+build_derived : (v w : CapValue) → tag_of (build v w) ≡ true → IsDerived (build v w) v w
+unfolding build
+build_derived v w =
+    derived_where _ (unsealed_parts w) _ v w
+    (λ t.
+    let can = can_build v w t in
+    record {
+      source = open_tagged v can.opened;
+      within = record { base = can.base; top = can.top; perms = can.perms };
+      sealed = λ s. absurd (unsealed_not_sealable s);
+    })
+
 -- every tagged result is derived from its sources
 pub result_derived : (i : CapInstruction) (v w : CapValue) → IsLawfulValue v → tag_of (capability_result i v w) ≡ true →
     IsDerived (capability_result i v w) v w
@@ -217,4 +233,5 @@ result_derived CSetHigh v w h t = absurd (false≢true t)
 result_derived CSeal v w h t = seal_derived v w t
 result_derived CUnseal v w h t = unseal_derived v w t
 result_derived CSealEntry v w h t = entry_derived v w t
+result_derived CBuildCap v w h t = build_derived v w t
 result_derived UnsealedByJump v w h t = unsealed_derived v w t

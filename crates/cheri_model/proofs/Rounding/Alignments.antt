@@ -1,13 +1,13 @@
 -- The length rounded at base 0, and bounds of that length at a base that is a multiple of its granule.
-use Rattle.std.proofs.Common.{◌≡◌, ℕ, ◌+◌, ◌%◌, ◌^◌, ◌<◌, ◌≤◌, refl, subst, ◌∙◌, bit_and, arith}
+use Rattle.std.proofs.Common.{◌≡◌, ℕ, ◌+◌, ◌-◌, ◌%◌, ◌^◌, ◌<◌, ◌≤◌, refl, subst, ◌∙◌, bit_and, arith}
 use Rattle.std.proofs.lemmas.Nat.Bits.{and_high_mask}
 use Rattle.cheri_model.specs.Numbers.{round_down}
 use Rattle.cheri_model.specs.Lengths.{granule}
 use Rattle.cheri_model.specs.Rounding.{rounded_base, rounded_top}
 use Rattle.cheri_model.specs.Alignment.{length_at_zero, representable_length, alignment_mask}
-use Rattle.cheri_model.proofs.Rounding.Multiples.{multiple_sum}
+use Rattle.cheri_model.proofs.Rounding.Multiples.{multiple_sum, multiple_rest}
 use Rattle.cheri_model.proofs.Rounding.Roundings.{rounding_bits, rounding_granule_power, rounding_bits_at_most, granule_of_rounding, rounded_base_at_most, rounded_top_at_least, rounded_top_below, rounded_top_multiple}
-use Rattle.cheri_model.proofs.Rounding.RoundingsWithin.{rounded_base_exact, rounded_top_exact}
+use Rattle.cheri_model.proofs.Rounding.RoundingsWithin.{rounded_base_exact, rounded_top_exact, exact_base_fits, exact_top_fits, rounded_top_inside}
 
 pub length_at_zero_from : (len : ℕ) → len ≤ length_at_zero len
 length_at_zero_from len = omega (arith, rounded_base_at_most 0 len, rounded_top_at_least 0 len)
@@ -39,6 +39,17 @@ pub aligned_top_exact : (base len : ℕ) → len ≤ 2 ^ 64 → base % granule (
 aligned_top_exact base len fits aligned =
     rounded_top_exact base (length_at_zero len) (length_at_zero_at_most len fits) aligned
     (multiple_sum _ base (length_at_zero len) aligned (length_at_zero_multiple len fits))
+
+-- no exact length from the requested one on is shorter
+pub length_at_zero_least : (base len exact : ℕ) → len ≤ exact → exact ≤ 2 ^ 64 → rounded_base base exact ≡ base → rounded_top base exact ≡ base + exact →
+    length_at_zero len ≤ exact
+length_at_zero_least base len exact from fits same_base same_top =
+    let first = exact_base_fits base exact fits same_base same_top in
+    let both = exact_top_fits base exact fits same_base same_top in
+    let rest = multiple_rest (granule exact) base exact first both in
+    let same : exact - 0 ≡ exact = omega arith in
+    let inside = rounded_top_inside 0 exact 0 len fits (omega arith) (rw same rest) (omega arith) (omega arith) in
+    omega arith
 
 -- the granule of that length, as a power of 2
 pub length_at_zero_granule : (len : ℕ) → len ≤ 2 ^ 64 → granule (length_at_zero len) ≡ 2 ^ rounding_bits 0 len

@@ -1,7 +1,7 @@
 -- Rounding down and up to multiples: how close it stays, and that no multiple lies between.
-use Rattle.std.proofs.Common.{◌≡◌, ℕ, ◌+◌, ◌-◌, ◌*◌, ◌/◌, ◌%◌, ◌^◌, ◌<◌, ◌≤◌, le_antisymm, arith}
+use Rattle.std.proofs.Common.{◌≡◌, ℕ, ◌+◌, ◌-◌, ◌*◌, ◌/◌, ◌%◌, ◌^◌, ◌<◌, ◌≤◌, le_antisymm, sym, ◌∙◌, arith}
 use Rattle.std.proofs.lemmas.Nat.{div-add-mod', pow_pos, le-div, div_below, mod-pow-add}
-use Rattle.std.proofs.Math.Nat.{mul-mod_left, mul-le-mul_right}
+use Rattle.std.proofs.Math.Nat.{mul-mod_left, mul-le-mul_right, add-mul-mod_self_right}
 use Rattle.cheri_model.specs.Numbers.{round_down, round_up}
 
 pub round_down_at_most : (g n : ℕ) → 0 < g → round_down g n ≤ n
@@ -69,3 +69,9 @@ pub multiple_sum : (g m n : ℕ) → m % g ≡ 0 → n % g ≡ 0 → (m + n) % g
 multiple_sum g m n first second =
     let sum : m + n ≡ (m / g + n / g) * g = omega (arith, div-add-mod' m g, div-add-mod' n g) in
     rw sum (mul-mod_left (m / g + n / g) g)
+
+-- what a multiple and a sum that is one differ by is one
+pub multiple_rest : (g m n : ℕ) → m % g ≡ 0 → (m + n) % g ≡ 0 → n % g ≡ 0
+multiple_rest g m n first both =
+    let whole : m + n ≡ n + m / g * g = omega (arith, div-add-mod' m g) in
+    sym (add-mul-mod_self_right n (m / g) g) ∙ (rw whole at both)

@@ -1,9 +1,11 @@
 -- Every value of a run is lawful and, if it is tagged, granted by what any moment before held: each step keeps it.
 use Rattle.std.proofs.Common.{◌≡◌, ◌==◌, ◌+◌, ◌%◌, ◌^◌, ◌≤◌, ℕ, leb-true, eqb-true, length, inl, inr, true, false, List, [], ◌∷◌, refl, ◌∙◌, arith}
-use Rattle.std.specs.Prelude.{nat_le, All, slice_set, slice_index_or, Result, Ok, Err, None, ⊤, if◌then◌else◌}
+use Rattle.std.specs.Prelude.{nat_le, All, slice_set, slice_index_or, map, Result, Ok, Err, None, ⊤, if◌then◌else◌}
 use Rattle.std.proofs.lemmas.List.{get_or_past}
-use Rattle.std.proofs.lemmas.List.Elements.{All-set, All-nil}
+use Rattle.std.proofs.lemmas.List.Elements.{All-set, All-map, All-nil, All-weaker}
 use Rattle.std.proofs.lemmas.Bool.{and_parts, cases_lt, false≢true}
+use Rattle.cheri_model.specs.declared.operation.Op.{Op}
+use Rattle.cheri_model.specs.declared.operation.Op.TheVariants as operation
 use Rattle.cheri_model.specs.declared.access.Access.TheVariants as access
 use Rattle.cheri_model.specs.declared.instr.Instr.{Instr}
 use Rattle.cheri_model.specs.declared.instr.Instr.TheVariants as instr
@@ -12,7 +14,7 @@ use Rattle.cheri_model.specs.declared.width.Width.{Width}
 use Rattle.cheri_model.specs.declared.width.Width.TheVariants.{Byte, Half, Word, Double}
 use Rattle.cheri_model.specs.CapInstructions.{CapInstruction, capability_result}
 use Rattle.cheri_model.specs.CapValue.{CapValue, valid, raw, bits_of, tag_of, parts_of}
-use Rattle.cheri_model.specs.Results.{in_bounds, with_address, address_of}
+use Rattle.cheri_model.specs.Results.{in_bounds, with_address, address_of, clear_tag}
 use Rattle.cheri_model.specs.SealResults.{unsealed}
 use Rattle.cheri_model.specs.Hart.{HartState, null, register, word_of_integer, put, following, next, link}
 use Rattle.cheri_model.specs.Actions.{Action, Put, Load, Store, LoadCap, StoreCap, Swap, Branch, Jump, JumpThrough, Invoke, Halt, action}
@@ -20,13 +22,14 @@ use Rattle.cheri_model.specs.HartStep.{Stepped, trapped, unless_trapped, access_
 use Rattle.cheri_model.specs.Checks.{first_failing, fetch_table, target_table, jump_table, invoke_table}
 use Rattle.cheri_model.specs.Image.{ImageParts}
 use Rattle.cheri_model.specs.Memory.{ram_base, bytes_of, granule_number, granule_offset, granule_at, load_data, store_data, load_capability, store_capability}
-use Rattle.cheri_model.specs.Machine.{MachineState, Operation, step_of, hart_at, no_hart, state_after_one}
+use Rattle.cheri_model.specs.Sweeps.{is_in_sweep, swept, swept_hart, swept_memory}
+use Rattle.cheri_model.specs.Machine.{MachineState, hart_at, no_hart, state_after_step, swept_state, state_after_one}
 use Rattle.cheri_model.specs.Replay.{state_after}
 use Rattle.cheri_model.specs.Authority.{EachOfHart, EachOfState}
 use Rattle.cheri_model.proofs.Runs.Fetches.{fetched_is}
 use Rattle.cheri_model.proofs.Runs.ChecksPassed.{IsPlacedAccess, access_is, target_within, IsEntered, jump_is, invoke_is}
 use Rattle.cheri_model.proofs.Results.Values.{bits_lt}
-use Rattle.cheri_model.proofs.Runs.Granted.{IsGood, IsGood-raw, IsGood-null, IsGood-derived, IsGood-entry, IsGood-unsealed, IsGood-permitted, IsGood-moved, with_bytes_below}
+use Rattle.cheri_model.proofs.Runs.Granted.{IsGood, IsGood-raw, IsGood-null, IsGood-derived, IsGood-cleared, IsGood-entry, IsGood-unsealed, IsGood-permitted, IsGood-moved, with_bytes_below}
 
 -- a data access lies within one granule
 within_granule : (addr : ℕ) (width : Width) → ram_base ≤ addr → addr % bytes_of width ≡ 0 → granule_offset addr + bytes_of width ≤ 16
@@ -147,6 +150,7 @@ module _ (sources : List CapValue) where
   action_good (instr.CSetHigh cd c1 c2) hart good = derive_good _ c1 c2 hart good
   action_good (instr.CSeal cd c1 c2) hart good = derive_good _ c1 c2 hart good
   action_good (instr.CUnseal cd c1 c2) hart good = derive_good _ c1 c2 hart good
+  action_good (instr.CBuildCap cd c1 c2) hart good = derive_good _ c1 c2 hart good
   action_good (instr.CSealEntry cd c1) hart good = derive_good _ c1 c1 hart good
   action_good (instr.AuiPcc cd imm) hart good = derive_by_good _ _ _ good.pcc
   action_good (instr.Lb cd c1 imm) hart good = tt
@@ -304,16 +308,42 @@ module _ (sources : List CapValue) where
 
   -- ---- runs
 
-  state_good : (image : ImageParts) (state : MachineState) (op : Operation) →
-      EachOfState Good state → EachOfState Good (state_after_one image state op)
-  unfolding state_after_one hart_at
-  state_good image state (step_of number) good =
+  step_state_good : (image : ImageParts) (state : MachineState) (number : ℕ) →
+      EachOfState Good state → EachOfState Good (state_after_step image state number)
+  unfolding state_after_step hart_at
+  step_state_good image state number good =
       let default : EachOfHart Good no_hart = record { pcc = IsGood-null sources; regs = All-nil Good } in
       let here = good_at (EachOfHart Good) state.harts number no_hart default good.harts in
       let after = step_good image.program (hart_at state number) state.memory here good.memory in
       record { harts = All-set (EachOfHart Good) state.harts number _ after.hart good.harts; memory = after.memory }
 
-  pub run_good : (image : ImageParts) (order : List Operation) (state : MachineState) →
+  -- a sweep clears tags, and leaves all else
+  swept_good : (lo hi : ℕ) (v : CapValue) → Good v → Good (swept lo hi v)
+  unfolding swept
+  swept_good lo hi v good = elim (is_in_sweep lo hi v) as (λ cleared. Good (if cleared then clear_tag v else v)) [
+    | true ↦ IsGood-cleared sources v good
+    | false ↦ good
+  ]
+
+  all_swept_good : (lo hi : ℕ) (values : List CapValue) → All Good values → All Good (map (swept lo hi) values)
+  all_swept_good lo hi values good = All-map Good (swept lo hi) values (All-weaker Good (λ v. Good (swept lo hi v)) (swept_good lo hi) values good)
+
+  swept_state_good : (lo hi : ℕ) (state : MachineState) → EachOfState Good state → EachOfState Good (swept_state lo hi state)
+  unfolding swept_state swept_hart swept_memory
+  swept_state_good lo hi state good = record {
+    harts = All-map (EachOfHart Good) (swept_hart lo hi) state.harts
+        (All-weaker (EachOfHart Good) (λ h. EachOfHart Good (swept_hart lo hi h))
+        (λ h each. record { pcc = swept_good lo hi h.pcc each.pcc; regs = all_swept_good lo hi h.regs each.regs }) state.harts good.harts);
+    memory = all_swept_good lo hi state.memory good.memory;
+  }
+
+  state_good : (image : ImageParts) (state : MachineState) (op : Op) →
+      EachOfState Good state → EachOfState Good (state_after_one image state op)
+  unfolding state_after_one
+  state_good image state (operation.Step number) good = step_state_good image state number good
+  state_good image state (operation.Sweep lo hi) good = swept_state_good lo hi state good
+
+  pub run_good : (image : ImageParts) (order : List Op) (state : MachineState) →
       EachOfState Good state → EachOfState Good (state_after image state order)
   unfolding state_after
   run_good image [] state good = good

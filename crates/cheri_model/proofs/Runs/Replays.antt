@@ -1,96 +1,114 @@
--- What an order followed by another does, and what one more legal operation does, to the state, the entries and the
+-- What an order followed by another does, and what one more legal operation does, to the state, the events and the
 -- legality of an order.
-use Rattle.std.proofs.Common.{◌≡◌, true, ◌&&◌, List, [], ◌∷◌, ◌++◌, refl, sym, ap, ◌∙◌, arith}
+use Rattle.std.proofs.Common.{◌≡◌, true, ◌&&◌, List, [], ◌∷◌, ◌++◌, map, ℕ, refl, sym, ap, ◌∙◌, arith}
 use Rattle.std.proofs.lemmas.Bool.{and_parts}
 use Rattle.std.proofs.lemmas.Grind.{common_steps}
-use Rattle.cheri_model.specs.declared.trace.Entry.{Entry}
+use Rattle.cheri_model.specs.declared.operation.Op.{Op}
+use Rattle.cheri_model.specs.declared.operation.Op.TheVariants as operation
+use Rattle.cheri_model.specs.declared.operation.Event.{Event}
+use Rattle.cheri_model.specs.declared.operation.Event.TheVariants as event
 use Rattle.cheri_model.specs.Image.{ImageParts}
-use Rattle.cheri_model.specs.Machine.{MachineState, Operation, step_of, opening_state, may_take, state_after_one, entry_of}
-use Rattle.cheri_model.specs.Replay.{state_after, entries_of, is_legal, operation_of, operations_of, replayed_state, replayed_entries, IsReplay, IsBeginning}
+use Rattle.cheri_model.specs.Machine.{MachineState, opening_state, may_take, state_after_step, entry_of, state_after_one, event_of}
+use Rattle.cheri_model.specs.Replay.{state_after, events_of, is_legal, operation_of, operations_of, replayed_state, replayed_events, IsReplay, IsBeginning, state_after_steps, entries_of_steps}
 
 module _ (image : ImageParts) where
-  pub state_after-append : (state : MachineState) (first later : List Operation) →
+  pub state_after-append : (state : MachineState) (first later : List Op) →
       state_after image state (first ++ later) ≡ state_after image (state_after image state first) later
   unfolding state_after
   state_after-append state [] later = refl
   state_after-append state (op ∷ first) later = state_after-append (state_after_one image state op) first later
 
-  pub entries_of-append : (state : MachineState) (first later : List Operation) →
-      entries_of image state (first ++ later) ≡ entries_of image state first ++ entries_of image (state_after image state first) later
-  unfolding state_after entries_of
-  entries_of-append state [] later = refl
-  entries_of-append state (op ∷ first) later =
-      ap (λ es. entry_of image state op ∷ es) (entries_of-append (state_after_one image state op) first later)
+  pub events_of-append : (state : MachineState) (first later : List Op) →
+      events_of image state (first ++ later) ≡ events_of image state first ++ events_of image (state_after image state first) later
+  unfolding state_after events_of
+  events_of-append state [] later = refl
+  events_of-append state (op ∷ first) later =
+      ap (λ es. event_of image state op ∷ es) (events_of-append (state_after_one image state op) first later)
 
-  pub is_legal-append : (state : MachineState) (first later : List Operation) →
+  pub is_legal-append : (state : MachineState) (first later : List Op) →
       is_legal image state (first ++ later) ≡ (is_legal image state first && is_legal image (state_after image state first) later)
   unfolding state_after is_legal
   is_legal-append state [] later = grind (arith, common_steps)
   is_legal-append state (op ∷ first) later =
       let rest = is_legal-append (state_after_one image state op) first later in grind (arith, common_steps)
 
-  -- a beginning of a legal order is legal, and its entries are a beginning of the whole's
-  pub legal_beginning : (state : MachineState) (first order : List Operation) → IsBeginning first order →
+  -- a beginning of a legal order is legal, and its events are a beginning of the whole's
+  pub legal_beginning : (state : MachineState) (first order : List Op) → IsBeginning first order →
       is_legal image state order ≡ true → is_legal image state first ≡ true
   legal_beginning state first order (later, is) legal =
       (and_parts (is_legal image state first) _ (rw (is, is_legal-append) at legal)).0
 
-  pub entries_beginning : (state : MachineState) (first order : List Operation) → IsBeginning first order →
-      IsBeginning (entries_of image state first) (entries_of image state order)
-  entries_beginning state first order (later, is) =
-      (entries_of image (state_after image state first) later, ap (entries_of image state) is ∙ entries_of-append state first later)
+  pub events_beginning : (state : MachineState) (first order : List Op) → IsBeginning first order →
+      IsBeginning (events_of image state first) (events_of image state order)
+  events_beginning state first order (later, is) =
+      (events_of image (state_after image state first) later, ap (events_of image state) is ∙ events_of-append state first later)
 
-  pub state_after_push : (state : MachineState) (order : List Operation) (op : Operation) →
+  pub state_after_push : (state : MachineState) (order : List Op) (op : Op) →
       state_after image state (order ++ op ∷ []) ≡ state_after_one image (state_after image state order) op
   unfolding state_after
   state_after_push state [] op = refl
   state_after_push state (first ∷ order) op = state_after_push (state_after_one image state first) order op
 
-  pub entries_of_push : (state : MachineState) (order : List Operation) (op : Operation) →
-      entries_of image state (order ++ op ∷ []) ≡ entries_of image state order ++ entry_of image (state_after image state order) op ∷ []
-  unfolding state_after entries_of
-  entries_of_push state [] op = refl
-  entries_of_push state (first ∷ order) op =
-      ap (λ es. entry_of image state first ∷ es) (entries_of_push (state_after_one image state first) order op)
+  pub events_of_push : (state : MachineState) (order : List Op) (op : Op) →
+      events_of image state (order ++ op ∷ []) ≡ events_of image state order ++ event_of image (state_after image state order) op ∷ []
+  unfolding state_after events_of
+  events_of_push state [] op = refl
+  events_of_push state (first ∷ order) op =
+      ap (λ es. event_of image state first ∷ es) (events_of_push (state_after_one image state first) order op)
 
-  pub is_legal_push : (state : MachineState) (order : List Operation) (op : Operation) →
+  pub is_legal_push : (state : MachineState) (order : List Op) (op : Op) →
       is_legal image state (order ++ op ∷ []) ≡ (is_legal image state order && may_take (state_after image state order) op)
   unfolding state_after is_legal
   is_legal_push state [] op = grind (arith, common_steps)
   is_legal_push state (first ∷ order) op =
       let rest = is_legal_push (state_after_one image state first) order op in grind (arith, common_steps)
 
-pub operations_of_push : (trace : List Entry) (entry : Entry) →
-    operations_of (trace ++ entry ∷ []) ≡ operations_of trace ++ operation_of entry ∷ []
+-- an order without sweeps
+pub state_after-steps : (image : ImageParts) (state : MachineState) (numbers : List ℕ) →
+    state_after image state (map operation.Step numbers) ≡ state_after_steps image state numbers
+unfolding state_after state_after_one state_after_steps
+state_after-steps image state [] = refl
+state_after-steps image state (number ∷ numbers) = state_after-steps image (state_after_step image state number) numbers
+
+pub events_of-steps : (image : ImageParts) (state : MachineState) (numbers : List ℕ) →
+    events_of image state (map operation.Step numbers) ≡ map event.Step (entries_of_steps image state numbers)
+unfolding events_of event_of state_after_one entries_of_steps
+events_of-steps image state [] = refl
+events_of-steps image state (number ∷ numbers) =
+    ap (λ es. event.Step (entry_of image state number) ∷ es) (events_of-steps image (state_after_step image state number) numbers)
+
+pub operations_of_push : (trace : List Event) (event : Event) →
+    operations_of (trace ++ event ∷ []) ≡ operations_of trace ++ operation_of event ∷ []
 unfolding operations_of
-operations_of_push trace entry = grind (arith, common_steps)
+operations_of_push trace event = grind (arith, common_steps)
 
--- an operation's entry records just this operation
-pub operation-entry_of : (image : ImageParts) (state : MachineState) (op : Operation) → operation_of (entry_of image state op) ≡ op
-unfolding entry_of
-operation-entry_of image state (step_of number) = refl
+-- an operation's event records just this operation
+pub operation-event_of : (image : ImageParts) (state : MachineState) (op : Op) → operation_of (event_of image state op) ≡ op
+unfolding event_of entry_of
+operation-event_of image state (operation.Step number) = refl
+operation-event_of image state (operation.Sweep lo hi) = refl
 
--- A legal operation keeps the replay: the trace grows by its entry, and the state is the one after it.
-module _ (image : ImageParts) (trace : List Entry) (state : MachineState) (op : Operation) where
-  operations_grown : operations_of (trace ++ entry_of image state op ∷ []) ≡ operations_of trace ++ op ∷ []
+-- A legal operation keeps the replay: the trace grows by its event, and the state is the one after it.
+module _ (image : ImageParts) (trace : List Event) (state : MachineState) (op : Op) where
+  operations_grown : operations_of (trace ++ event_of image state op ∷ []) ≡ operations_of trace ++ op ∷ []
   operations_grown =
-      operations_of_push trace (entry_of image state op) ∙ ap (λ n. operations_of trace ++ n ∷ []) (operation-entry_of image state op)
+      operations_of_push trace (event_of image state op) ∙ ap (λ n. operations_of trace ++ n ∷ []) (operation-event_of image state op)
 
   pub IsReplay_push : IsReplay image trace state → may_take state op ≡ true →
-      IsReplay image (trace ++ entry_of image state op ∷ []) (state_after_one image state op)
-  unfolding replayed_state replayed_entries
+      IsReplay image (trace ++ event_of image state op ∷ []) (state_after_one image state op)
+  unfolding replayed_state replayed_events
   IsReplay_push replay legal =
       let order = operations_of trace in
       let start = opening_state image in
       record {
         state = ap (λ s. state_after_one image s op) replay.state ∙ sym (state_after_push image start order op)
             ∙ ap (state_after image start) (sym operations_grown);
-        entries = ap (λ es. es ++ entry_of image state op ∷ []) replay.entries
-            ∙ ap (λ s. entries_of image start order ++ entry_of image s op ∷ []) replay.state
-            ∙ sym (entries_of_push image start order op) ∙ ap (entries_of image start) (sym operations_grown);
+        events = ap (λ es. es ++ event_of image state op ∷ []) replay.events
+            ∙ ap (λ s. events_of image start order ++ event_of image s op ∷ []) replay.state
+            ∙ sym (events_of_push image start order op) ∙ ap (events_of image start) (sym operations_grown);
         legal = rw (operations_grown, is_legal_push image start order op, ← replay.state) (grind (arith, common_steps));
       }
 
 pub IsReplay-opening : (image : ImageParts) → IsReplay image [] (opening_state image)
-unfolding replayed_state replayed_entries operations_of state_after entries_of is_legal
-IsReplay-opening image = record { state = refl; entries = refl; legal = refl }
+unfolding replayed_state replayed_events operations_of state_after events_of is_legal
+IsReplay-opening image = record { state = refl; events = refl; legal = refl }

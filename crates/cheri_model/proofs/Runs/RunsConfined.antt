@@ -6,13 +6,14 @@ use Rattle.std.specs.Int.Bits.{and_self}
 use Rattle.std.proofs.lemmas.List.{map-append}
 use Rattle.std.proofs.lemmas.List.Elements.{All-set, All-map, All-replicate, All-nil, All-cons, All-head, All-tail, All-weaker, All-contains_itself, All-from_get_or}
 use Rattle.cheri_model.specs.declared.instr.Instr.{Instr}
-use Rattle.cheri_model.specs.declared.trace.Entry.{Entry}
+use Rattle.cheri_model.specs.declared.operation.Op.{Op}
+use Rattle.cheri_model.specs.declared.operation.Event.{Event}
 use Rattle.cheri_model.specs.CapValue.{CapValue, valid, raw, IsLawfulValue}
 use Rattle.cheri_model.specs.Hart.{HartState, null}
 use Rattle.cheri_model.specs.HartStep.{Stepped, hart_step}
 use Rattle.cheri_model.specs.Image.{ImageParts, opening_hart, opening_memory}
 use Rattle.cheri_model.specs.Memory.{granule_number, granule_at, store_capability, IsMemory}
-use Rattle.cheri_model.specs.Machine.{MachineState, Operation, opening_state, state_after_one}
+use Rattle.cheri_model.specs.Machine.{MachineState, opening_state, state_after_one}
 use Rattle.cheri_model.specs.Replay.{state_after, replayed_state, operation_of, operations_of, IsReplay}
 use Rattle.cheri_model.specs.Authority.{IsGrantedValue, EachOfHart, EachOfState, IsLawfulState, IsConfined, IsConfinedTo, IsMonotone, alone, values_of_hart, values_of_image, values_in_hart, values_of_state}
 use Rattle.cheri_model.proofs.Runs.Granted.{IsGood}
@@ -71,6 +72,22 @@ state_each P state each =
           (All-flat_map P values_in_hart state.harts (All-left P harts state.memory each));
       memory = All-right P harts state.memory each;
     }
+
+-- and back
+All-both : {X : Type 0} (P : X → Type 0) (xs ys : List X) → All P xs → All P ys → All P (xs ++ ys)
+All-both P [] ys first second = second
+All-both P (x ∷ xs) ys first second = All-cons P x (xs ++ ys) (All-head P x xs first) (All-both P xs ys (All-tail P x xs first) second)
+
+each_of_harts : (P : CapValue → Type 0) (harts : List HartState) → All (EachOfHart P) harts → All P (flat_map values_in_hart harts)
+each_of_harts P [] each = All-nil P
+each_of_harts P (h ∷ harts) each =
+    let here = All-head (EachOfHart P) h harts each in
+    All-both P (values_in_hart h) (flat_map values_in_hart harts) (All-cons P h.pcc h.regs here.pcc here.regs)
+    (each_of_harts P harts (All-tail (EachOfHart P) h harts each))
+
+pub each_value : (P : CapValue → Type 0) (state : MachineState) → EachOfState P state → All P (values_of_state state)
+unfolding values_of_state
+each_value P state each = All-both P (flat_map values_in_hart state.harts) state.memory (each_of_harts P state.harts each.harts) each.memory
 
 -- a tagged value is granted by itself
 granted_itself : (sources : List CapValue) (v : CapValue) → Contains sources v → IsGrantedValue sources v
@@ -133,7 +150,7 @@ left_confined program hart memory after is lawful of_memory =
     subst (λ left. IsConfinedTo (alone hart memory) (alone left.hart left.memory)) is confined
 
 -- What holds after any order: every value is lawful, and every tagged one is granted by the initial capabilities.
-pub run_lawful : (image : ImageParts) (order : List Operation) → IsLawfulState (opening_state image) →
+pub run_lawful : (image : ImageParts) (order : List Op) → IsLawfulState (opening_state image) →
     IsLawfulState (replayed_state image order) × IsConfined image (replayed_state image order)
 unfolding replayed_state
 run_lawful image order lawful =
@@ -142,28 +159,33 @@ run_lawful image order lawful =
     let good = run_good sources image order (opening_state image) (both sources (opening_state image) lawful granted) in
     (lawful_half sources _ good, granted_half sources _ good)
 
+-- what operations leave is granted by what was there before them
+pub later_confined : (image : ImageParts) (state : MachineState) (order : List Op) → IsLawfulState state →
+    IsConfinedTo state (state_after image state order)
+later_confined image state order lawful =
+    let sources = values_of_state state in
+    let granted = state_each (IsGrantedValue sources) state (λ k d inside. granted_itself sources _ (All-contains_itself sources k d inside)) in
+    granted_half sources _ (run_good sources image order state (both sources state lawful granted))
+
 -- an order of two parts is run one part after the other
-state_after_both : (image : ImageParts) (state : MachineState) (before later : List Operation) →
+state_after_both : (image : ImageParts) (state : MachineState) (before later : List Op) →
     state_after image state (before ++ later) ≡ state_after image (state_after image state before) later
 unfolding state_after
 state_after_both image state [] later = refl
 state_after_both image state (op ∷ before) later = state_after_both image (state_after_one image state op) before later
 
 -- the same of the values that any beginning of the order left
-pub run_monotone : (image : ImageParts) (before later : List Operation) → IsLawfulState (opening_state image) →
+pub run_monotone : (image : ImageParts) (before later : List Op) → IsLawfulState (opening_state image) →
     IsConfinedTo (replayed_state image before) (replayed_state image (before ++ later))
 unfolding replayed_state
 run_monotone image before later lawful =
     let middle = state_after image (opening_state image) before in
-    let sources = values_of_state middle in
     let middle_lawful : IsLawfulState middle = (run_lawful image before lawful).0 in
-    let granted = state_each (IsGrantedValue sources) middle (λ k d inside. granted_itself sources _ (All-contains_itself sources k d inside)) in
-    let good = run_good sources image later middle (both sources middle middle_lawful granted) in
-    subst (EachOfState (IsGrantedValue sources)) (sym (state_after_both image (opening_state image) before later))
-    (granted_half sources _ good)
+    subst (EachOfState (IsGrantedValue (values_of_state middle))) (sym (state_after_both image (opening_state image) before later))
+    (later_confined image middle later middle_lawful)
 
 -- and of a replay, for every beginning of its trace
-pub replay_monotone : (image : ImageParts) (trace : List Entry) (state : MachineState) → IsReplay image trace state →
+pub replay_monotone : (image : ImageParts) (trace : List Event) (state : MachineState) → IsReplay image trace state →
     IsLawfulState (opening_state image) → IsMonotone image trace state
 unfolding operations_of
 replay_monotone image trace state replay lawful before later is =

@@ -28,6 +28,15 @@ pub fn representable_length_is_enough()
     ensures wrapped { (len : ℕ) → length_at_zero len ≡ 2 ^ 64 → representable_length len ≡ 0 }
 {}
 
+/// The length that CRRL gives is the least one, not below the requested one, that a range can have
+/// which is rounded to itself, at any base.
+#[tactic(auto, using(crate::proofs::Rounding::Alignments::length_at_zero_least))]
+pub fn representable_length_is_least()
+    ensures { (base len exact : ℕ) → len ≤ exact → exact ≤ 2 ^ 64 →
+        rounded_base base exact ≡ base → rounded_top base exact ≡ base + exact →
+        length_at_zero len ≤ exact }
+{}
+
 /// The mask that CRAM gives rounds an address down to the granule of the length that CRRL gives.
 #[tactic(auto, using(crate::proofs::Rounding::Alignments::alignment_mask_aligns))]
 pub fn alignment_mask_rounds_down()

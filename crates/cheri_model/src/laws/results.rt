@@ -1,9 +1,13 @@
 //! Laws on the results of capability instructions, said once for all of them.
 
 ghost use Rattle.std.specs.Prelude.{◌≡◌, true};
-ghost use Rattle.cheri_model.specs.CapValue.{CapValue, tag_of, IsLawfulValue};
+ghost use Rattle.cheri_model.specs.Authority.{IsWithin};
+ghost use Rattle.cheri_model.specs.Capability.{Capability, IsLawful, unsealed_type};
+ghost use Rattle.cheri_model.specs.CapValue.{CapValue, valid, tag_of, parts_of, IsLawfulValue};
 ghost use Rattle.cheri_model.specs.CapInstructions.{CapInstruction, capability_result};
 ghost use Rattle.cheri_model.specs.Derivation.{IsDerived};
+ghost use Rattle.cheri_model.specs.Rebuilt.{build};
+ghost use Rattle.cheri_model.specs.Results.{is_open, clear_tag};
 
 /// Lawful values give a lawful value.
 pub fn results_are_lawful()
@@ -18,4 +22,12 @@ pub fn results_are_derived()
     ensures { (i : CapInstruction) (v w : CapValue) → IsLawfulValue v →
         tag_of (capability_result i v w) ≡ true →
         IsDerived (capability_result i v w) v w }
+{}
+
+/// An unsealed capability within an open authority is rebuilt under it from its word, which needs
+/// no tag: so it can be swapped out to memory without tags, and back in.
+pub fn capabilities_are_rebuilt_from_their_words()
+    ensures { (authority : CapValue) (c : Capability) → is_open authority ≡ true → IsLawful c →
+        c.otype ≡ unsealed_type → IsWithin c (parts_of authority) →
+        build authority (clear_tag (valid c)) ≡ valid c }
 {}

@@ -3,17 +3,17 @@
 
 ghost use Rattle.std.specs.Prelude.{◌≡◌, List, [], ◌∷◌, ◌++◌, true};
 ghost use Rattle.cheri_model.specs.declared.instr.Instr.{Instr};
-ghost use Rattle.cheri_model.specs.declared.trace.Entry.{Entry};
+ghost use Rattle.cheri_model.specs.declared.operation.Event.{Event};
+ghost use Rattle.cheri_model.specs.declared.operation.Op.{Op};
 ghost use Rattle.cheri_model.specs.CapValue.{CapValue};
 ghost use Rattle.cheri_model.specs.Hart.{HartState};
 ghost use Rattle.cheri_model.specs.HartStep.{hart_step};
 ghost use Rattle.cheri_model.specs.Image.{ImageParts};
 ghost use Rattle.cheri_model.specs.Machine.{
   MachineState,
-  Operation,
   opening_state,
   may_take,
-  entry_of,
+  event_of,
   state_after_one,
 };
 ghost use Rattle.cheri_model.specs.Replay.{IsReplay, replayed_state};
@@ -23,9 +23,9 @@ ghost use Rattle.cheri_model.specs.Authority.{IsLawfulState, IsConfined, IsConfi
 /// one.
 pub fn replay_grows()
     ensures opening { (image : ImageParts) → IsReplay image [] (opening_state image) }
-    ensures one_more { (image : ImageParts) (trace : List Entry) (state : MachineState)
-        (op : Operation) → IsReplay image trace state → may_take state op ≡ true
-        → IsReplay image (trace ++ entry_of image state op ∷ []) (state_after_one image state op) }
+    ensures one_more { (image : ImageParts) (trace : List Event) (state : MachineState)
+        (op : Op) → IsReplay image trace state → may_take state op ≡ true
+        → IsReplay image (trace ++ event_of image state op ∷ []) (state_after_one image state op) }
 {}
 
 /// Where the values of a hart and of memory are lawful, every tagged one after a step of the hart
@@ -40,11 +40,11 @@ pub fn steps_are_confined()
 /// every tagged one is granted by an initial capability: authority is never made (CHERI ISA v9,
 /// "capability monotonicity"). The same holds of the values after any beginning of the run.
 pub fn runs_are_confined()
-    ensures lawful { (image : ImageParts) (order : List Operation)
+    ensures lawful { (image : ImageParts) (order : List Op)
         → IsLawfulState (opening_state image) → IsLawfulState (replayed_state image order) }
-    ensures confined { (image : ImageParts) (order : List Operation)
+    ensures confined { (image : ImageParts) (order : List Op)
         → IsLawfulState (opening_state image) → IsConfined image (replayed_state image order) }
-    ensures monotone { (image : ImageParts) (before later : List Operation)
+    ensures monotone { (image : ImageParts) (before later : List Op)
         → IsLawfulState (opening_state image)
         → IsConfinedTo (replayed_state image before) (replayed_state image (before ++ later)) }
 {}

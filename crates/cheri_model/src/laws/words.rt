@@ -2,10 +2,11 @@
 //! address of the window (CHERI ISA v9, "capability encoding"; CHERI Concentrate, "representable
 //! region").
 
-ghost use Rattle.std.specs.Prelude.{◌≡◌, ℕ, ◌+◌, ◌-◌, ◌*◌, ◌/◌, ◌%◌, ◌^◌, ◌<◌, ◌≤◌, ◌↔◌, Bool};
+ghost use Rattle.std.specs.Prelude.{◌≡◌, ℕ, ◌+◌, ◌-◌, ◌*◌, ◌/◌, ◌%◌, ◌^◌, ◌<◌, ◌≤◌, ◌↔◌, Bool, true};
 ghost use Rattle.cheri_model.specs.Window.{IsInWindow};
 ghost use Rattle.cheri_model.specs.Fields.{with_null_fields, word_exponent, word_b, word_t14};
 ghost use Rattle.cheri_model.specs.RawBounds.{region_floor, region_start, raw_base, raw_top};
+ghost use Rattle.cheri_model.specs.Rebuilt.{are_aligned};
 ghost use Rattle.cheri_model.specs.Capability.{
   Capability,
   IsLawful,
@@ -101,6 +102,14 @@ pub fn raw_bounds_fit()
     ensures t { (upper : ℕ) → word_t14 upper < 2 ^ 14 }
     ensures base { (upper a : ℕ) → raw_base upper a < 2 ^ 64 }
     ensures top { (upper a : ℕ) → raw_top upper a < 2 ^ 65 }
+{}
+
+/// The bounds that a word says are multiples of the granule of their length, whether or not a
+/// capability has the word, where its top is at most 2^64. A base above the top makes a length of
+/// 0.
+pub fn raw_bounds_are_aligned()
+    ensures { (upper a : ℕ) → raw_top upper a ≤ 2 ^ 64 →
+        are_aligned (raw_base upper a) (raw_top upper a) ≡ true }
 {}
 
 /// The window is where the raw bounds stay as they are: at any other address the base is another

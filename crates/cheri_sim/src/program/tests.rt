@@ -16,6 +16,7 @@ mod devices;
 mod json;
 mod numbers;
 mod races;
+mod rebuilding;
 mod runs;
 
 /// Two harts with the same code: it narrows a capability, reads the length, and halts.

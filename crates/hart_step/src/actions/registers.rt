@@ -60,6 +60,7 @@ pub fn three_action(op: ThreeOp, cd: Reg, c1: Reg, c2: Reg, hart: &Hart) -> Acti
         ThreeOp::CSetHigh => put(cd, v.set_high(b)),
         ThreeOp::CSeal => put(cd, v.seal(w)),
         ThreeOp::CUnseal => put(cd, v.unseal(w)),
+        ThreeOp::CBuildCap => put(cd, v.build(w)),
         ThreeOp::CTestSubset => put_truth(cd, v.test_subset(w)),
         ThreeOp::CSetEqualExact => put_truth(cd, v.equal_exact(w)),
         ThreeOp::Add => put_integer(cd, a.wrapping_add(b)),

@@ -2,7 +2,7 @@
 //! a look.
 
 use super::gates::Flag;
-use cheri_model::Entry;
+use cheri_model::Event;
 use harts::{Gate, Turn, Viewer};
 use machine::{Look, Naming, Watch};
 use std::alloc::Global;
@@ -31,7 +31,7 @@ pub(super) fn look_of<J: Naming>(watch: Watch<J>) -> Result<Look<J>, Watch<J>> {
 #[derive(Drop)]
 pub(super) struct Follower {
     whole: usize,
-    seen: Vec<Entry>,
+    seen: Vec<Event>,
     pub(super) was_called: bool,
     pub(super) saw_all: bool,
     pub(super) went_back: bool,
@@ -52,7 +52,7 @@ impl Follower {
     }
 
     /// Keeps the entries of a look, which begin with those of the look before.
-    fn follow(&mut self, entries: &[Entry]) {
+    fn follow(&mut self, entries: &[Event]) {
         if !entries.starts_with(self.seen.as_slice()) {
             self.went_back = true;
         }
@@ -146,7 +146,7 @@ impl Viewer for Spotter<'_> {
 /// A viewer that keeps one look for a while, and compares what it shows before and after.
 #[derive(Drop)]
 pub(super) struct Keeper {
-    seen: Vec<Entry>,
+    seen: Vec<Event>,
     pub(super) was_called: bool,
     pub(super) was_kept: bool,
     pub(super) has_changed: bool,

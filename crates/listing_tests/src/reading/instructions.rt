@@ -1,7 +1,9 @@
 //! The operands of instructions.
 
-use crate::reading::{all_read, first_refused};
+use crate::reading::{HART, all_read, first_refused, joined};
+use cheri_model::{Instr, Reg};
 use grammar::fault::ListingFaultKind;
+use listings::read_listing;
 use std::test::Fail;
 
 #[test]
@@ -142,5 +144,35 @@ fn counts_of_operands(rt: HostRuntime) -> Result<(), Fail> {
             "cinvoke c1, c2, c3",
             "ecall 1",
         ],
+    )
+}
+
+/// The destination comes first, then the authority, then the word.
+#[test]
+fn cbuildcap_has_three_registers(rt: HostRuntime) -> Result<(), Fail> {
+    let alloc = rt.alloc();
+    let text = joined(alloc, HART, "cbuildcap c1, c2, c3\n")?;
+    let image = read_listing(alloc, text.as_slice())?;
+    let read = Instr::CBuildCap {
+        cd: Reg::new(1),
+        c1: Reg::new(2),
+        c2: Reg::new(3),
+    };
+    assert_eq!(&rt; image.program(), [read].as_slice());
+    first_refused(
+        &rt,
+        alloc,
+        ListingFaultKind::Operand,
+        &[
+            "cbuildcap c1, c2",
+            "cbuildcap c1, c2, c3, c4",
+            "cbuildcap c1, c2, 3",
+        ],
+    )?;
+    first_refused(
+        &rt,
+        alloc,
+        ListingFaultKind::Word,
+        &["CBuildCap c1, c2, c3", "cbuildcaps c1, c2, c3"],
     )
 }

@@ -140,6 +140,35 @@ fn capabilities_are_changed(rt: HostRuntime) {
     }
 }
 
+/// CBUILDCAP with its authority in c5 and its source in c6, and what it writes to c7: the authority
+/// comes first, and a source without a tag gets one.
+#[test]
+fn capabilities_are_rebuilt(rt: HostRuntime) {
+    let (cd, c1, c2) = (Reg::new(7), Reg::new(5), Reg::new(6));
+    let zero = Reg::new(0);
+    let root = Given::Open(0, 1 << 64, 0, ALL);
+    let word = Given::Word(UPPER, 0x8000_0004);
+    let rows: [(Reg, Reg, Given, Given, Tagged); 7] = [
+        (c1, c2, K, word, (true, UPPER, 0x8000_0004)),
+        (c1, c2, word, K, (false, UPPER, 0x8000_0000)),
+        (c1, c2, SEALED, word, (false, UPPER, 0x8000_0004)),
+        (c1, c2, K, SEALED, (true, UPPER, 0x8000_0000)),
+        // Null says the whole address space without permissions.
+        (c1, zero, root, NULL, (true, 0, 0)),
+        (c1, zero, K, NULL, (false, 0, 0)),
+        (zero, c2, NULL, word, (false, UPPER, 0x8000_0004)),
+    ];
+    for (c1, c2, first, second, expected) in rows {
+        writes(
+            &rt,
+            rt.alloc(),
+            Instr::CBuildCap { cd, c1, c2 },
+            hart_with(&rt, first, second),
+            expected,
+        );
+    }
+}
+
 /// Each instruction with an immediate and the value of c5, and what it writes to c7.
 #[test]
 fn immediates_change_capabilities(rt: HostRuntime) {
@@ -198,10 +227,16 @@ fn immediates_change_capabilities(rt: HostRuntime) {
 fn register_zero_stays_null(rt: HostRuntime) {
     let (cd, c1) = (Reg::new(0), Reg::new(5));
     let hart = hart_with(&rt, K, NULL);
-    let left = after(&rt, rt.alloc(), Instr::CMove { cd, c1 }, hart, Cap::null());
-    let mut wanted = hart;
-    wanted.set_pcc(hart.pcc().set_addr(0x1000_0004));
-    assert!(rt; matches!(&left.outcome, Outcome::Done));
-    assert_eq!(rt; left.hart, wanted);
-    assert_eq!(rt; tagged_word(left.hart.register(cd)), (false, 0, 0));
+    for instr in [Instr::CMove { cd, c1 }, Instr::CBuildCap { cd, c1, c2: c1 }] {
+        let left = after(&rt, rt.alloc(), instr, hart, Cap::null());
+        let mut wanted = hart;
+        wanted.set_pcc(hart.pcc().set_addr(0x1000_0004));
+        assert!(rt; matches!(&left.outcome, Outcome::Done), "{instr:?}");
+        assert_eq!(rt; left.hart, wanted, "{instr:?}");
+        assert_eq!(rt;
+            tagged_word(left.hart.register(cd)),
+            (false, 0, 0),
+            "{instr:?}"
+        );
+    }
 }

@@ -161,11 +161,6 @@ fn unseals_under_authority(rt: HostRuntime) {
     }
 }
 
-/// The untagged word of this upper half at an address.
-fn untagged(upper: u64, addr: u64) -> Cap {
-    Cap::from_word(u128::from(upper) << 64 | u128::from(addr))
-}
-
 /// Words of K with a reserved type, and words with one and Seal and Unseal, that point at 5.
 const RESERVED: [(u64, u64, u64, u64); 2] = [
     (

@@ -40,6 +40,54 @@ fn orders(rt: HostRuntime) -> Result<(), Fail> {
     Ok(())
 }
 
+/// The report of `FIRST` after two steps of hart 0, a sweep of its data, and one step more.
+const SWEPT_REPORT: &str = "\
+cheri-sim report 2
+image harts=2 ram=4096 code=4
+entries 4
+0 hart=0 pc=0000000010000000 done
+1 hart=0 pc=0000000010000004 done
+2 sweep lo=0000000080000000 hi=00000000080000001 cleared=3
+3 hart=0 pc=0000000010000008 done
+hart 0 running
+pcc 1 0006000004058004_000000001000000c 0000000010000000 00000000010000010 00006 unsealed
+c5 0 000c000000018004_0000000080000000
+c6 0 0000000000000000_0000000000000064
+c7 0 000c000004188004_0000000080000000
+c8 0 0000000000000000_0000000000000064
+hart 1 running
+pcc 1 0006000004058004_0000000010000000 0000000010000000 00000000010000010 00006 unsealed
+c5 0 000c000000018004_0000000080000000
+end
+";
+
+/// An order of version 2 sweeps, and is refused at its first faulty byte or range.
+#[test]
+fn orders_with_sweeps(rt: HostRuntime) -> Result<(), Fail> {
+    for (order, status, printed, reported) in [
+        ("order 2\n00[0x80000000,0x80000001]0", 0, SWEPT_REPORT, ""),
+        ("order 2\n0", 0, ONE_STEP_REPORT, ""),
+        (
+            "order 2\n[0,0x10000000000000001]",
+            1,
+            "",
+            "order byte 8: 4 Range\n",
+        ),
+        ("order 2\n[2,1]", 1, "", "order byte 8: 4 Range\n"),
+        ("order 2\n0[1,", 1, "", "order byte 12: 1 Byte\n"),
+        ("order 2\n8", 1, "", "order byte 8: 1 Byte\n"),
+        ("order 2", 1, "", "order byte 0: 1 Byte\n"),
+    ] {
+        compare(
+            &rt,
+            &RUN,
+            &[("listing", FIRST), ("order", order)],
+            (status, printed, reported),
+        )?;
+    }
+    Ok(())
+}
+
 /// An order of more than 100,000 steps is refused as a whole, unless one of its bytes is faulty.
 #[test]
 fn long_orders(rt: HostRuntime) -> Result<(), Fail> {

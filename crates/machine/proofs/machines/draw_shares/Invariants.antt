@@ -3,4 +3,4 @@ use Rattle.machine.proofs.ShareLemmas.{IsOpening}
 use Rattle.machine.proofs.machines.draw_shares.Given as goal
 
 abbrev pub invariant-loop-hart : goal.invariant-loop-hart
-invariant-loop-hart g l = IsOpening l.books l.tokens.parts l.tokens.amounts l.shares.items l.entries l.hart
+invariant-loop-hart g l = IsOpening l.books l.tokens.parts l.tokens.amounts l.shares.items l.events l.hart

@@ -1,4 +1,4 @@
--- The newest entry of a trace stands at its last place.
+-- The newest event of a trace stands at its last place.
 use Rattle.std.proofs.Common.{◌∙◌}
 use Rattle.machine.proofs.CopyLemmas.{read_newest}
 use Rattle.machine.proofs.machines.newest.Goals as goal

@@ -1,6 +1,7 @@
--- A step that is taken adds its hart to the order that was taken.
-use Rattle.std.proofs.Common.{◌≡◌, ap, ◌∙◌}
+-- An operation that is taken is added to the order that was taken.
+use Rattle.std.proofs.Common.{ap, ◌∙◌}
 use Rattle.std.specs.Prelude.{None}
+use Rattle.cheri_model.specs.declared.operation.Op.TheVariants as operation
 use Rattle.cheri_model.specs.Replay.{operations_of}
 use Rattle.machine.specs.Cores.{CoreParts, core_after}
 use Rattle.machine.proofs.RunLemmas.{taken_more, run_of, whole_order}
@@ -20,8 +21,8 @@ unfolding core_after
 loop-place-preserved c =
     let after = c.in_default.ensures.ok in
     let was = c.loop-place.invariant in record {
-      core = c.step.ensures.core;
-      taken = taken_more c.loop-place.core c.step.new.self c.args.order.now c.loop-place.place c.loop-place-test.true was.taken after;
+      core = c.apply.ensures.core;
+      taken = taken_more c.loop-place.core c.apply.new.self c.args.order.now c.loop-place.place (operation.Step 0) c.loop-place-test.true was.taken after;
       image = ap (λ (k : CoreParts). k.image) after ∙ was.image;
       limit = ap (λ (k : CoreParts). k.limit) after ∙ was.limit;
     }

@@ -18,11 +18,11 @@ none_fails : {X : Type 0} (answer : Result X SimFault) (fault : SimFault) (failu
     IsErrAnd answer (λ f. f ≡ fault) → failures_of_run {X = X} (Err fault) ≡ 0 → failures ≡ failures + failures_of_run answer
 none_fails answer fault failures is none = omega (arith, failures_are answer fault is, none)
 
-pub returns-in_err-harts-clause-untouched : goal.returns-in_err-harts-clause-untouched
-returns-in_err-harts-clause-untouched g c = MatchResult-from_err _ _ _ c.from_residual-in_err-harts.ensures.0 (λ fault other. refl)
+pub returns-in_err-ops-clause-untouched : goal.returns-in_err-ops-clause-untouched
+returns-in_err-ops-clause-untouched g c = MatchResult-from_err _ _ _ c.from_residual-in_err-ops.ensures.0 (λ fault other. refl)
 
-pub returns-in_err-harts-clause-failures : goal.returns-in_err-harts-clause-failures
-returns-in_err-harts-clause-failures g c = none_fails _ _ _ c.from_residual-in_err-harts.ensures.1 refl
+pub returns-in_err-ops-clause-failures : goal.returns-in_err-ops-clause-failures
+returns-in_err-ops-clause-failures g c = none_fails _ _ _ c.from_residual-in_err-ops.ensures.1 refl
 
 pub returns-in_err-core-clause-untouched : goal.returns-in_err-core-clause-untouched
 returns-in_err-core-clause-untouched g c = MatchResult-from_err _ _ _ c.from_residual-in_err-core.ensures.0 (λ fault other. refl)
@@ -37,10 +37,10 @@ returns-in_err-write_report-clause-refused g c =
       c.in_ok-core.refused,
       record {
         image = c.in_ok-image.image;
-        harts = c.in_ok-harts.harts.items;
+        ops = c.in_ok-ops.ops.items;
         core = c.in_ok-core.core;
         listing_is = c.in_ok-image.ensures;
-        order_is = c.in_ok-harts.ensures.meaning;
+        order_is = c.in_ok-ops.ensures.meaning;
         run_is = rw c.as_slice.ensures.value at c.in_ok-core.ensures.run;
         shown = rw (c.view.ensures.image, c.view.ensures.entries, c.view.ensures.state) at c.write_report.ensures.beginning;
       },
@@ -53,10 +53,10 @@ returns-in_err-write_report-clause-failures g c =
 pub returns-clause-shown : goal.returns-clause-shown
 returns-clause-shown g c = record {
   image = c.in_ok-image.image;
-  harts = c.in_ok-harts.harts.items;
+  ops = c.in_ok-ops.ops.items;
   core = c.in_ok-core.core;
   listing_is = c.in_ok-image.ensures;
-  order_is = c.in_ok-harts.ensures.meaning;
+  order_is = c.in_ok-ops.ensures.meaning;
   run_is = rw c.as_slice.ensures.value at c.in_ok-core.ensures.run;
   shown = rw (c.view.ensures.image, c.view.ensures.entries, c.view.ensures.state) at c.in_ok-write_report.ensures.whole;
 }

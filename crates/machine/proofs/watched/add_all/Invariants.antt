@@ -1,7 +1,7 @@
--- the order so far is that of the entries so far
+-- the order so far is that of the events so far
 use Rattle.std.proofs.Common.{◌≡◌, take}
-use Rattle.machine.specs.Copies.{taken}
+use Rattle.cheri_model.specs.Replay.{operations_of}
 use Rattle.machine.proofs.watched.add_all.Given as goal
 
-abbrev pub invariant-loop-entry : goal.invariant-loop-entry
-invariant-loop-entry g l = l.keeper ≡ taken (take l.entry-index l.entries)
+abbrev pub invariant-loop-event : goal.invariant-loop-event
+invariant-loop-event g l = l.keeper ≡ operations_of (take l.event-index l.events)

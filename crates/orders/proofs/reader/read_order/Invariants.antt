@@ -1,11 +1,15 @@
-use Rattle.std.proofs.Common.{◌≡◌, ◌+◌, ◌≤◌, ◌++◌, length, take, drop}
-use Rattle.std.specs.List.{position_or_len}
-use Rattle.orders.specs.Orders.{hart_numbers, is_foreign, order_limit}
+use Rattle.std.proofs.Common.{◌≡◌, ◌+◌, ◌-◌, ◌≤◌, [], length}
+use Rattle.orders.specs.Orders.{order_limit, body_start}
+use Rattle.orders.proofs.OrderLemmas.{from_place, kept}
 use Rattle.orders.proofs.reader.read_order.Given as goal
 
--- the first foreign byte is not before this one, and the hart numbers are those so far and those of the bytes from here on
-abbrev pub invariant-loop-offset : goal.invariant-loop-offset
-invariant-loop-offset l =
-    (l.offset + position_or_len is_foreign (drop l.offset l.text) ≡ position_or_len is_foreign l.text)
-    × (length l.order.items ≤ order_limit + 1)
-    × (take (order_limit + 1) (l.order.items ++ hart_numbers (drop l.offset l.text)) ≡ take (order_limit + 1) (hart_numbers l.text))
+-- the operations so far and those of the tokens from here on are the operations of the whole text
+abbrev pub invariant-loop-place : goal.invariant-loop-place
+invariant-loop-place l = record {
+  inside : l.place ≤ length l.text;
+  few : length l.order.items ≤ order_limit + 1;
+  read : kept (order_limit + 1) l.order.items (from_place l.text l.place) ≡ kept (order_limit + 1) [] (from_place l.text (body_start l.text));
+}
+
+abbrev pub decreases-loop-place : goal.decreases-loop-place
+decreases-loop-place l = length l.text - l.place

@@ -4,5 +4,5 @@ use Rattle.serde_json.specs.View.{view}
 use Rattle.reports.specs.Json.{entry_data}
 use Rattle.reports.proofs.json.entries_json.Given as goal
 
-abbrev pub invariant-loop-entry : goal.invariant-loop-entry
-invariant-loop-entry l = map view l.values.items ≡ map entry_data (take l.entry-index l.entries)
+abbrev pub invariant-loop-event : goal.invariant-loop-event
+invariant-loop-event l = map view l.values.items ≡ map entry_data (take l.event-index l.entries)

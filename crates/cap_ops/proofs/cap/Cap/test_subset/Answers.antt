@@ -7,14 +7,6 @@ pub returns-then-not-same_tag : goal.returns-then-not-same_tag
 unfolding is_subset
 returns-then-not-same_tag c = grind (arith, common_steps)
 
-pub returns-then-base-other_base : goal.returns-then-base-other_base
-unfolding is_subset
-returns-then-base-other_base c = grind (arith, common_steps)
-
-pub returns-then-other_top-top : goal.returns-then-other_top-top
-unfolding is_subset
-returns-then-other_top-top c = grind (arith, common_steps)
-
 pub returns : goal.returns
 unfolding is_subset
 returns c = grind (arith, common_steps)

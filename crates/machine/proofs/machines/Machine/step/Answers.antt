@@ -2,40 +2,42 @@
 use Rattle.std.proofs.Common.{◌≡◌, refl, sym, ap, length, ◌∙◌}
 use Rattle.std.specs.Prelude.{None}
 use Rattle.cheri_model.specs.Image.{ImageParts}
-use Rattle.cheri_model.specs.Machine.{step_of}
-use Rattle.history.specs.declared.links.Operation.TheVariants.{Step}
+use Rattle.cheri_model.specs.declared.operation.Op.TheVariants as operation
+use Rattle.cheri_model.specs.Machine.{entry_of}
 use Rattle.machine.specs.Cores.{CoreParts, applied, core_after, refused}
 use Rattle.machine.proofs.CoreLemmas.{hart_is_there}
-use Rattle.machine.proofs.CopyLemmas.{after_some, applied_after, refused_answered, refused_for_another, taken_answered}
+use Rattle.machine.proofs.CopyLemmas.{applied_after, ends_with_step, refused_for_another, refused_step_answered, taken_step_answered}
 use Rattle.machine.proofs.ShareLemmas.{counted_after}
 use Rattle.machine.proofs.machines.Machine.step.Goals as goal
 
 pub returns-in-Some-clause-answered : goal.returns-in-Some-clause-answered
 returns-in-Some-clause-answered g c = λ other.
-    refused_answered c.args.self.now c.args.share.now.hart c.in-Some.fault
-    (c.in-Some.ensures.value ∙ (λ i. refused ((c.core.ensures.core ∙ c.self.view_is) i) (step_of (c.hart-hart.ensures.hart i))))
+    refused_step_answered c.args.self.now c.args.share.now.hart c.in-Some.fault
+    (c.in-Some.ensures.value ∙ (λ i. refused ((c.core.ensures.core ∙ c.self.view_is) i) (operation.Step (c.hart-hart.ensures.hart i))))
 
 pub returns-in-Some-clause-there : goal.returns-in-Some-clause-there
 returns-in-Some-clause-there g c = λ missing.
     hart_is_there c.self.inside.watched c.core.result.now c.hart-hart.result _ c.in-Some.fault c.refusal.ensures.core c.core.ensures.core
     (ap (λ (image : ImageParts). length image.harts) c.self.invariant.1) c.hart-hart.ensures.below
-    (refused_answered c.self.inside.watched c.hart-hart.result c.in-Some.fault
-    (c.in-Some.ensures.value ∙ ap (λ (k : CoreParts). refused k (step_of c.hart-hart.result)) c.core.ensures.core)) (cc)
+    (c.in-Some.ensures.value ∙ ap (λ (k : CoreParts). refused k (operation.Step c.hart-hart.result)) c.core.ensures.core) (cc)
 
 pub returns-in-Some-clause-memory : goal.returns-in-Some-clause-memory
 returns-in-Some-clause-memory g c = λ memory. absurd
-    (refused_for_another c.core.result.now c.hart-hart.result c.in-Some.fault c.in-Some.ensures.value (cc))
+    (refused_for_another c.core.result.now (operation.Step c.hart-hart.result) c.in-Some.fault c.in-Some.ensures.value (cc))
 
-pub newest-requires : goal.newest-requires
-newest-requires g c =
-    after_some c.self.inside.watched c.core-2.result.now c.hart-hart.result (c.core-2.ensures.core ∙ c.in-Ok.ensures.ok)
+pub newest_entry-requires : goal.newest_entry-requires
+newest_entry-requires g c = (
+  c.self.inside.watched.trace,
+  entry_of c.self.inside.watched.image c.self.inside.watched.state c.hart-hart.result,
+  ends_with_step c.self.inside.watched c.core-2.result.now c.hart-hart.result (c.core-2.ensures.core ∙ c.in-Ok.ensures.ok),
+)
 
 pub invariant_of-self-2 : goal.invariant_of-self-2
 unfolding core_after
 invariant_of-self-2 g c =
     let hart = c.args.share.now.hart in
-    let after : c.take.new.self ≡ core_after c.self.inside.watched (step_of hart) =
-    c.in-Ok.ensures.ok ∙ ap (λ n. core_after c.self.inside.watched (step_of n)) c.hart-hart.ensures.hart in (
+    let after : c.take.new.self ≡ core_after c.self.inside.watched (operation.Step hart) =
+    c.in-Ok.ensures.ok ∙ ap (λ n. core_after c.self.inside.watched (operation.Step n)) c.hart-hart.ensures.hart in (
       rw c.add.ensures.books (counted_after c.self.inside.books c.self.inside.watched c.take.new.self hart _ c.add.ensures.inside after c.self.invariant.0),
       ap (λ (k : CoreParts). k.image) after ∙ c.self.invariant.1,
     )
@@ -43,24 +45,24 @@ invariant_of-self-2 g c =
 pub returns-clause-answered : goal.returns-clause-answered
 returns-clause-answered g c =
     let hart = c.args.share.now.hart in
-    let after : c.take.new.self ≡ core_after c.self.inside.watched (step_of hart) =
-    c.in-Ok.ensures.ok ∙ ap (λ n. core_after c.self.inside.watched (step_of n)) c.hart-hart.ensures.hart in
-    let none : refused c.self.inside.watched (step_of hart) ≡ None =
-    sym (c.in-None.ensures.value ∙ (λ i. refused (c.core.ensures.core i) (step_of (c.hart-hart.ensures.hart i)))) in
-    λ other. taken_answered c.args.self.now c.core-2.result.now hart c.newest.result
-    (ap (λ (k : CoreParts). refused k (step_of hart)) (sym c.self.view_is) ∙ none)
-    (c.core-2.ensures.core ∙ (after ∙ ap (λ (k : CoreParts). core_after k (step_of hart)) c.self.view_is))
-    c.newest.ensures
+    let after : c.take.new.self ≡ core_after c.self.inside.watched (operation.Step hart) =
+    c.in-Ok.ensures.ok ∙ ap (λ n. core_after c.self.inside.watched (operation.Step n)) c.hart-hart.ensures.hart in
+    let none : refused c.self.inside.watched (operation.Step hart) ≡ None =
+    sym (c.in-None.ensures.value ∙ (λ i. refused (c.core.ensures.core i) (operation.Step (c.hart-hart.ensures.hart i)))) in
+    λ other. taken_step_answered c.args.self.now c.core-2.result.now hart c.newest_entry.result
+    (ap (λ (k : CoreParts). refused k (operation.Step hart)) (sym c.self.view_is) ∙ none)
+    (c.core-2.ensures.core ∙ (after ∙ ap (λ (k : CoreParts). core_after k (operation.Step hart)) c.self.view_is))
+    c.newest_entry.ensures
 
 pub returns-clause-applied : goal.returns-clause-applied
 returns-clause-applied g c =
     let hart = c.args.share.now.hart in
-    let after : c.take.new.self ≡ core_after c.self.inside.watched (step_of hart) =
-    c.in-Ok.ensures.ok ∙ ap (λ n. core_after c.self.inside.watched (step_of n)) c.hart-hart.ensures.hart in
-    let none : refused c.self.inside.watched (step_of hart) ≡ None =
-    sym (c.in-None.ensures.value ∙ (λ i. refused (c.core.ensures.core i) (step_of (c.hart-hart.ensures.hart i)))) in
-    after ∙ (sym (applied_after c.self.inside.watched (Step hart) none)
-    ∙ ap (λ (k : CoreParts). applied k (step_of hart)) c.self.view_is)
+    let after : c.take.new.self ≡ core_after c.self.inside.watched (operation.Step hart) =
+    c.in-Ok.ensures.ok ∙ ap (λ n. core_after c.self.inside.watched (operation.Step n)) c.hart-hart.ensures.hart in
+    let none : refused c.self.inside.watched (operation.Step hart) ≡ None =
+    sym (c.in-None.ensures.value ∙ (λ i. refused (c.core.ensures.core i) (operation.Step (c.hart-hart.ensures.hart i)))) in
+    after ∙ (sym (applied_after c.self.inside.watched (operation.Step hart) none)
+    ∙ ap (λ (k : CoreParts). applied k (operation.Step hart)) c.self.view_is)
 
 pub returns-clause-counted : goal.returns-clause-counted
 returns-clause-counted g c = c.add.ensures.share

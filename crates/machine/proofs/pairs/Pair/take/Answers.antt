@@ -1,14 +1,16 @@
 -- An operation that is not refused is taken by the copies, and the order grows by it.
 use Rattle.std.proofs.Common.{[], ◌∷◌, ◌++◌, List, ◌≡◌, sym, ap, ◌∙◌, drop, fold}
 use Rattle.std.specs.Prelude.{None}
-use Rattle.history.specs.declared.links.Operation.{Operation}
-use Rattle.machine.specs.Copies.{asked, taken, shown_after}
+use Rattle.cheri_model.specs.declared.operation.Op.{Op}
+use Rattle.cheri_model.specs.Replay.{operations_of}
+use Rattle.machine.specs.Copies.{shown_after}
 use Rattle.machine.specs.Cores.{CoreParts, core_after, refused}
 use Rattle.machine.specs.Names.{order_named}
 use Rattle.machine.specs.declared.shown.Shown.{Shown}
 use Rattle.machine.specs.declared.shown.Ticket.{Ticket}
 use Rattle.machine.specs.declared.shown.Ticket.TheVariants.{Take}
-use Rattle.machine.proofs.CopyLemmas.{TakesAndMayTell, may_tell, taken_core, taken_shown, taken_push, image_after}
+use Rattle.machine.proofs.CoreLemmas.{operations_after}
+use Rattle.machine.proofs.CopyLemmas.{TakesAndMayTell, may_tell, taken_core, taken_shown, image_after}
 use Rattle.machine.proofs.pairs.Pair.take.Given.{Over}
 use Rattle.machine.proofs.pairs.Pair.take.Goals.{After-tell}
 use Rattle.machine.proofs.pairs.Pair.take.Goals as goal
@@ -27,33 +29,33 @@ module _ (g : Over) (c : After-tell g) where
   seen : shown.core ≡ c.args.self.now
   seen = ap (λ (v : Shown). v.core) same ∙ c.self.view_is
 
-  none : refused shown.core (asked c.args.operation) ≡ None
-  none = ap (λ (k : CoreParts). refused k (asked c.args.operation)) seen ∙ c.requires.none
+  none : refused shown.core c.args.op ≡ None
+  none = ap (λ (k : CoreParts). refused k c.args.op) seen ∙ c.requires.none
 
-  may : TakesAndMayTell pending c.args.operation c.token-2.result
+  may : TakesAndMayTell pending c.args.op c.token-2.result
   may =
-      let one = c.in-Ok.ensures.pending ∙ ap (λ (ts : List Ticket). ts ++ Take c.args.operation ∷ []) c.self.invariant.1 in
-      may_tell pending _ c.args.operation c.token-2.result one c.tell.ensures.pending
+      let one = c.in-Ok.ensures.pending ∙ ap (λ (ts : List Ticket). ts ++ Take c.args.op ∷ []) c.self.invariant.1 in
+      may_tell pending _ c.args.op c.token-2.result one c.tell.ensures.pending
 
-  grown : c.add.new.self ≡ taken shown.core.trace ++ c.args.operation ∷ []
+  grown : c.add.new.self ≡ operations_of shown.core.trace ++ c.args.op ∷ []
   grown =
-      let before = c.requires.order ∙ ap (λ (k : CoreParts). taken k.trace) (sym seen) in
-      c.add.ensures ∙ ap (λ (os : List Operation). os ++ c.args.operation ∷ []) before
+      let before = c.requires.order ∙ ap (λ (k : CoreParts). operations_of k.trace) (sym seen) in
+      c.add.ensures ∙ ap (λ (os : List Op). os ++ c.args.op ∷ []) before
 
   -- what is shown then
-  after : (next : Shown) → next ≡ fold shown_after shown pending → next.core ≡ core_after shown.core (asked c.args.operation)
+  after : (next : Shown) → next ≡ fold shown_after shown pending → next.core ≡ core_after shown.core c.args.op
   after next is =
-      ap (λ (v : Shown). v.core) is ∙ taken_core shown c.args.operation c.token-2.result pending none may
+      ap (λ (v : Shown). v.core) is ∙ taken_core shown c.args.op c.token-2.result pending none may
 
   image : (next : Shown) → next ≡ fold shown_after shown pending → next.core.image ≡ g.J.Naming.image
   image next is =
       ap (λ (k : CoreParts). k.image) (after next is)
-      ∙ (image_after shown.core c.args.operation ∙ (ap (λ (v : Shown). v.core.image) same ∙ c.self.invariant.0))
+      ∙ (image_after shown.core c.args.op ∙ (ap (λ (v : Shown). v.core.image) same ∙ c.self.invariant.0))
 
 pub replace_with-requires : goal.replace_with-requires
 replace_with-requires g c =
     let told = (goal.at.replace_with-requires g c).After-tell in
-    taken_shown g.J.Naming.image (order_named g.J.Naming.names) (shown g told) c.args.operation c.token-2.result (pending g told) (none g told) (may g told)
+    taken_shown g.J.Naming.image (order_named g.J.Naming.names) (shown g told) c.args.op c.token-2.result (pending g told) (none g told) (may g told)
     c.token-2.ensures.book (sym c.token-2.ensures.order ∙ (c.seen.ensures ∙ grown g told))
 
 pub invariant_of-self-2 : goal.invariant_of-self-2
@@ -65,14 +67,14 @@ pub returns-clause-ok : goal.returns-clause-ok
 returns-clause-ok g c =
     let told = (goal.at.returns-clause-ok g c).After-tell in
     after g told c.replace_with.new.dest.desk.shown.value c.replace_with.ensures.0
-    ∙ ap (λ (k : CoreParts). core_after k (asked c.args.operation)) (seen g told)
+    ∙ ap (λ (k : CoreParts). core_after k c.args.op) (seen g told)
 
 pub returns-clause-order : goal.returns-clause-order
 returns-clause-order g c =
     let told = (goal.at.returns-clause-order g c).After-tell in
     let next = after g told c.replace_with.new.dest.desk.shown.value c.replace_with.ensures.0 in
     grown g told
-    ∙ (sym (taken_push (shown g told).core c.args.operation) ∙ ap (λ (k : CoreParts). taken k.trace) (sym next))
+    ∙ (sym (operations_after (shown g told).core c.args.op) ∙ ap (λ (k : CoreParts). operations_of k.trace) (sym next))
 
 pub returns-clause-image : goal.returns-clause-image
 returns-clause-image g c =

@@ -1,0 +1,2 @@
+pub mod StructLemmas
+pub mod Filling

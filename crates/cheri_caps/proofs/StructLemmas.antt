@@ -1,0 +1,21 @@
+-- Structs and the values that they mean.
+use Rattle.std.proofs.Common.{◌≡◌, ℕ, ◌+◌, ◌*◌, ◌/◌, ◌%◌, ◌^◌, ◌&&◌, Bool, true, false, refl, ap, arith, ◌∙◌}
+use Rattle.cheri_model.specs.Capability.{Capability, word_of}
+use Rattle.cheri_model.specs.CapValue.{CapValue, valid, raw, bits_of, tag_of, value_at, IsLawfulValue}
+use Rattle.cheri_model.specs.EditedWords.{word_of_halves}
+use Rattle.cheri_model.proofs.Words.WordsBack.{capability_at_word_of, encoding_of}
+use Rattle.cap_ops.specs.Tagged.{is_encoding, value_from}
+use Rattle.cap_ops.proofs.Encodings.{encoding_passes}
+use Rattle.cheri_caps.specs.Structs.{value_of, struct_of}
+
+-- a value comes back from its tag and its word
+value_from_own : (v : CapValue) → IsLawfulValue v → value_from (tag_of v) (bits_of v) ≡ v
+unfolding value_from
+value_from_own (valid c) h = rw (encoding_passes (word_of c) (encoding_of c h)) (ap valid (capability_at_word_of c h))
+value_from_own (raw word) h = refl
+
+pub struct_read_back : (v : CapValue) → IsLawfulValue v → value_of (struct_of v) ≡ v
+unfolding value_of struct_of
+struct_read_back v h =
+    let halves : word_of_halves (bits_of v / 2 ^ 64) (bits_of v % 2 ^ 64) ≡ bits_of v = omega arith in
+    rw halves (value_from_own v h)

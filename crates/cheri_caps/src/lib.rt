@@ -1,0 +1,15 @@
+//! The bounds, words and instructions of capabilities for programs in C and Python: each function
+//! here is one of the header `bindings/c/cheri_caps.h`, and each struct one of its structs.
+//!
+//! Every function answers for all arguments. A struct that comes in may have any bits; what it
+//! means, and what a struct that goes out is, say the definitions of `specs/Structs.antt`.
+#![tactic(auto)]
+
+mod arrays;
+mod instructions;
+pub mod laws;
+mod making;
+mod ranges;
+mod structs;
+mod values;
+mod words;

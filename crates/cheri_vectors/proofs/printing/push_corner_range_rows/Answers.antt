@@ -1,0 +1,9 @@
+use Rattle.cheri_vectors.specs.Ranges.{corner_range_row}
+use Rattle.cheri_vectors.proofs.RowLemmas.{rows_none, text_more}
+use Rattle.cheri_vectors.proofs.printing.push_corner_range_rows.Goals as goal
+
+pub loop-n-init : goal.loop-n-init
+loop-n-init c = rows_none corner_range_row _
+
+pub loop-n-preserved : goal.loop-n-preserved
+loop-n-preserved c = text_more corner_range_row c.loop-n.n _ _ _ c.loop-n.invariant c.in_ok-push_corner_range_row.ensures
