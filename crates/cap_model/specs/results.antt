@@ -5,5 +5,6 @@ pub mod Fields
 pub mod Seals
 pub mod Readings
 pub mod Rebuilt
+pub mod Swept
 pub mod CapInstructions
 pub mod Derivation

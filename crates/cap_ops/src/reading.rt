@@ -14,7 +14,7 @@ ghost use Rattle.cap_model.specs.results.Readings.{
   offset_of,
   is_sealed,
 };
-ghost use Rattle.cheri_model.specs.runs.Sweeps.{is_in_sweep};
+ghost use Rattle.cap_model.specs.results.Swept.{is_in_sweep};
 
 use crate::cap::Cap;
 use crate::fields::shown_permissions;

@@ -20,7 +20,7 @@ ghost use Rattle.cheri_model.specs.steps.Memory.{ram_base};
 
 use crate::instr::Instr;
 use crate::memory::{GRANULE_BYTES, MAX_RAM_BYTES, RAM_BASE};
-use crate::value::Value;
+use cap_model::Value;
 use std::alloc::{AllocError, Global};
 use std::marker::Model;
 

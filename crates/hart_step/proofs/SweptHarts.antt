@@ -11,7 +11,8 @@ use Rattle.cap_model.specs.values.CapValue.{CapValue, IsLawfulValue}
 use Rattle.cheri_model.specs.steps.Hart.{HartState, null}
 use Rattle.cap_model.specs.results.Readings.{number_of}
 use Rattle.cap_model.specs.results.Addresses.{clear_tag}
-use Rattle.cheri_model.specs.runs.Sweeps.{is_in_sweep, swept, cleared_in_hart}
+use Rattle.cap_model.specs.results.Swept.{is_in_sweep, swept}
+use Rattle.cheri_model.specs.runs.Sweeps.{cleared_in_hart}
 use Rattle.cap_model.proofs.Results.Values.{bits_lt}
 use Rattle.hart_step.specs.Hart.{IsHart}
 

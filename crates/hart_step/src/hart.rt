@@ -7,7 +7,8 @@ ghost use Rattle.cheri_model.specs.steps.Hart.{next, null, put, register};
 ghost use Rattle.cheri_model.specs.runs.Image.{opening_hart};
 ghost use Rattle.cap_model.specs.results.Readings.{number_of};
 ghost use Rattle.cap_model.specs.results.Addresses.{address_of, in_bounds, is_open};
-ghost use Rattle.cheri_model.specs.runs.Sweeps.{is_in_sweep, swept, swept_hart, cleared_in_hart};
+ghost use Rattle.cap_model.specs.results.Swept.{is_in_sweep, swept};
+ghost use Rattle.cheri_model.specs.runs.Sweeps.{swept_hart, cleared_in_hart};
 
 use crate::places::following;
 use cap_ops::Cap;

@@ -9,7 +9,8 @@ use Rattle.cheri_model.specs.declared.operation.Event.TheVariants as event
 use Rattle.cap_model.specs.values.CapValue.{CapValue}
 use Rattle.cheri_model.specs.steps.Hart.{HartState}
 use Rattle.cheri_model.specs.runs.ImageForm.{is_image}
-use Rattle.cheri_model.specs.runs.Sweeps.{is_in_sweep, cleared_in_memory}
+use Rattle.cap_model.specs.results.Swept.{is_in_sweep}
+use Rattle.cheri_model.specs.runs.Sweeps.{cleared_in_memory}
 use Rattle.cheri_model.specs.runs.Machine.{event_of, state_after_one, swept_state, cleared}
 use Rattle.cheri_model.specs.runs.Authority.{EachOfState}
 use Rattle.cheri_model.proofs.Runs.Sweeping.{state_left}

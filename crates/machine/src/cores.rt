@@ -8,7 +8,7 @@ ghost use Rattle.cheri_model.specs.runs.Authority.{EachOfState, IsConfined, IsMo
 ghost use Rattle.cheri_model.specs.runs.Machine.{opening_state, entry_of, event_of};
 ghost use Rattle.cheri_model.specs.runs.Machine.{swept_state, cleared};
 ghost use Rattle.cheri_model.specs.runs.Replay.{IsReplay};
-ghost use Rattle.cheri_model.specs.runs.Sweeps.{is_in_sweep};
+ghost use Rattle.cap_model.specs.results.Swept.{is_in_sweep};
 ghost use Rattle.hart_step.specs.View.{state_of};
 ghost use Rattle.machine.specs.Cores.{CoreParts, IsCore, IsHartStep};
 ghost use Rattle.machine.specs.Cores.{applied, answered, answered_step};

@@ -7,7 +7,7 @@ ghost use Rattle.std.specs.Prelude.{false};
 ghost use Rattle.cheri_model.specs.runs.Authority.{EachOfState};
 ghost use Rattle.cheri_model.specs.runs.Machine.{swept_state, cleared};
 ghost use Rattle.cheri_model.specs.runs.Replay.{is_step_of, step_count};
-ghost use Rattle.cheri_model.specs.runs.Sweeps.{is_in_sweep};
+ghost use Rattle.cap_model.specs.results.Swept.{is_in_sweep};
 ghost use Rattle.machine.specs.Cores.{answered, answered_step, applied, refused};
 ghost use Rattle.machine.specs.Shares.{share_at, shares_of, IsCounted};
 ghost use Rattle.machine.specs.Watches.{watch_of};

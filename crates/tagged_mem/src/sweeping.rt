@@ -3,7 +3,7 @@
 
 ghost use Rattle.std.specs.Prelude.{◌≡◌, ◌+◌, ◌-◌, ◌*◌, ◌/◌, ◌<◌, ◌≤◌, length, min};
 ghost use Rattle.cap_model.specs.results.Readings.{number_of};
-ghost use Rattle.cheri_model.specs.runs.Sweeps.{is_in_sweep};
+ghost use Rattle.cap_model.specs.results.Swept.{is_in_sweep};
 ghost use Rattle.tagged_mem.specs.Packed.{packed_at, IsPackedRam};
 ghost use Rattle.tagged_mem.specs.SweptTags.{cleared_between, IsSweptBetween};
 

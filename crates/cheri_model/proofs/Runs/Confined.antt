@@ -22,7 +22,8 @@ use Rattle.cheri_model.specs.steps.HartStep.{Stepped, trapped, unless_trapped, a
 use Rattle.cheri_model.specs.steps.Checks.{first_failing, fetch_table, target_table, jump_table, invoke_table}
 use Rattle.cheri_model.specs.runs.Image.{ImageParts}
 use Rattle.cheri_model.specs.steps.Memory.{ram_base, bytes_of, granule_number, granule_offset, granule_at, load_data, store_data, load_capability, store_capability}
-use Rattle.cheri_model.specs.runs.Sweeps.{is_in_sweep, swept, swept_hart, swept_memory}
+use Rattle.cap_model.specs.results.Swept.{is_in_sweep, swept}
+use Rattle.cheri_model.specs.runs.Sweeps.{swept_hart, swept_memory}
 use Rattle.cheri_model.specs.runs.Machine.{MachineState, hart_at, no_hart, state_after_step, swept_state, state_after_one}
 use Rattle.cheri_model.specs.runs.Replay.{state_after}
 use Rattle.cheri_model.specs.runs.Authority.{EachOfHart, EachOfState}

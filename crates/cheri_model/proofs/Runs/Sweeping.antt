@@ -9,7 +9,8 @@ use Rattle.cheri_model.specs.declared.operation.Op.{Op}
 use Rattle.cap_model.specs.values.Capability.{Capability, word_of}
 use Rattle.cap_model.specs.values.CapValue.{CapValue, valid, raw}
 use Rattle.cheri_model.specs.runs.Image.{ImageParts}
-use Rattle.cheri_model.specs.runs.Sweeps.{is_in_sweep, swept, swept_hart, swept_memory, reaches}
+use Rattle.cap_model.specs.results.Swept.{is_in_sweep, swept}
+use Rattle.cheri_model.specs.runs.Sweeps.{swept_hart, swept_memory, reaches}
 use Rattle.cheri_model.specs.runs.Machine.{MachineState, swept_state}
 use Rattle.cheri_model.specs.runs.Replay.{state_after}
 use Rattle.cheri_model.specs.runs.Authority.{IsGrantedValue, EachOfHart, EachOfState, IsLawfulState, values_of_state}

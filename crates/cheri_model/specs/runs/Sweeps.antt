@@ -1,22 +1,15 @@
 -- Sweeps: clearing the tag of every capability whose base lies in a range of addresses, so that what was freed can be
 -- given out again (revocation, as in CheriBSD and Cornucopia; that a sweep is one event is this project's own).
-use Rattle.std.specs.Prelude.{ℕ, nat_le, nat_lt, Bool, ◌&&◌, if◌then◌else◌, List, ◌∷◌, map, count_by}
+use Rattle.std.specs.Prelude.{ℕ, nat_le, Bool, ◌&&◌, List, ◌∷◌, map, count_by}
 use Rattle.cap_model.specs.declared.encoding.TheConstants.{ADDRESS_SPACE}
-use Rattle.cap_model.specs.values.CapValue.{CapValue, tag_of, parts_of}
-use Rattle.cap_model.specs.results.Addresses.{clear_tag, in_bounds}
+use Rattle.cap_model.specs.values.CapValue.{CapValue, tag_of}
+use Rattle.cap_model.specs.results.Addresses.{in_bounds}
+use Rattle.cap_model.specs.results.Swept.{is_in_sweep, swept}
 use Rattle.cheri_model.specs.steps.Hart.{HartState}
 
 -- a range that can be swept: it does not end before it begins, nor after the address space
 abbrev pub is_range : ℕ → ℕ → Bool
 is_range lo hi = nat_le lo hi && nat_le hi ADDRESS_SPACE
-
--- whether a sweep of [lo, hi) clears this value's tag: it is tagged, and its base lies in the range
-abbrev pub is_in_sweep : ℕ → ℕ → CapValue → Bool
-is_in_sweep lo hi v = tag_of v && nat_le lo (parts_of v).base && nat_lt (parts_of v).base hi
-
--- the value after the sweep
-unfoldable pub swept : ℕ → ℕ → CapValue → CapValue
-swept lo hi v = if is_in_sweep lo hi v then clear_tag v else v
 
 -- a hart after it: its registers and PCC; it may have stopped
 unfoldable pub swept_hart : ℕ → ℕ → HartState → HartState
