@@ -1,4 +1,4 @@
-//! Tests of `cheri_model`, `cap_bounds`, `cap_ops` and `tagged_mem` by their public calls alone, as
+//! Tests of `cap_model`, `cheri_model`, `cap_bounds`, `cap_ops` and `tagged_mem` by their public calls alone, as
 //! their users make them.
 #![tactic(auto)]
 

@@ -2,38 +2,16 @@
 //! code, so that a wrong one would be wrong on both sides; these laws hold them to what the
 //! documents say.
 
-ghost use Rattle.std.specs.Prelude.{◌≡◌, ◌^◌, List, [], ◌∷◌};
+ghost use Rattle.std.specs.Prelude.{◌≡◌, List, [], ◌∷◌};
 ghost use Rattle.cheri_model.specs.declared.code.TheConstants.{CODE_BASE, INSTRUCTION_BYTES};
-ghost use Rattle.cheri_model.specs.declared.encoding.TheConstants.{
-  ADDRESS_SPACE,
-  MAX_EXPONENT,
-  NULL_FIELDS,
-};
 ghost use Rattle.cheri_model.specs.declared.image.TheConstants.{MAX_HARTS, MAX_INSTRUCTIONS};
 ghost use Rattle.cheri_model.specs.declared.memory.TheConstants.{
   GRANULE_BYTES,
   MAX_RAM_BYTES,
   RAM_BASE,
 };
-ghost use Rattle.cheri_model.specs.declared.otype.TheConstants.{
-  LAST_SEALABLE_TYPE,
-  SENTRY_TYPE,
-  UNSEALED_TYPE,
-};
-ghost use Rattle.cheri_model.specs.declared.permission.TheConstants as permission;
 
 use crate::trace::Trap;
-
-/// The format's numbers: the address space, the greatest exponent, null's fields, and the object
-/// types.
-pub fn format_numbers()
-    ensures address_space { ADDRESS_SPACE ≡ 2 ^ 64 }
-    ensures max_exponent { MAX_EXPONENT ≡ 52 }
-    ensures null_fields { NULL_FIELDS ≡ 0x1FFFFC018004 }
-    ensures unsealed { UNSEALED_TYPE ≡ 262143 }
-    ensures sentry { SENTRY_TYPE ≡ 262142 }
-    ensures last_sealable { LAST_SEALABLE_TYPE ≡ 262139 }
-{}
 
 /// The places and sizes of code and memory.
 pub fn machine_numbers()
@@ -44,17 +22,6 @@ pub fn machine_numbers()
     ensures ram_base { RAM_BASE ≡ 0x80000000 }
     ensures granule_bytes { GRANULE_BYTES ≡ 16 }
     ensures max_ram_bytes { MAX_RAM_BYTES ≡ 1048576 }
-{}
-
-/// The permissions' numbers, in the order of their names in listings.
-pub fn permission_numbers()
-    ensures access { permission.GLOBAL ∷ permission.EXECUTE ∷ permission.LOAD ∷ permission.STORE
-        ∷ permission.LOAD_CAP ∷ permission.STORE_CAP ∷ permission.STORE_LOCAL ∷ []
-        ≡ 0 ∷ 1 ∷ 2 ∷ 3 ∷ 4 ∷ 5 ∷ 6 ∷ [] }
-    ensures authority { permission.SEAL ∷ permission.CINVOKE ∷ permission.UNSEAL
-        ∷ permission.SYSREGS ∷ permission.SET_CID ∷ [] ≡ 7 ∷ 8 ∷ 9 ∷ 10 ∷ 11 ∷ [] }
-    ensures software { permission.SW0 ∷ permission.SW1 ∷ permission.SW2 ∷ permission.SW3 ∷ []
-        ≡ 15 ∷ 16 ∷ 17 ∷ 18 ∷ [] }
 {}
 
 /// The causes' numbers, in their order, and the register number that means PCC.
