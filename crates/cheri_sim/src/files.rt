@@ -38,11 +38,7 @@ pub struct SystemFiles<'a, R>(pub &'a R);
 
 /// The first bytes of a file, up to `most`. Room for all of them is taken at once, where the system
 /// tells how many there are.
-fn read_beginning<R: rt::Files + AllocGlobal>(
-    rt: &R,
-    name: &str,
-    most: u64,
-) -> io::Result<Vec<u8>>
+fn read_beginning<R: rt::Files + AllocGlobal>(rt: &R, name: &str, most: u64) -> io::Result<Vec<u8>>
     ensures { IfOk result (λ bytes. length bytes.items ≤ most) }
 {
     let file = fs::open(rt, name)?;

@@ -25,7 +25,10 @@ const LISTING_NO_MEMORY: u8 = 10;
 /// Checks that this run may refuse memory: a call has said that there was none.
 pub(crate) fn assert_may_refuse(rt: &(impl Abort + Env)) {
     let mut value = [0; 64];
-    assert!(rt; rt.var("REFUSE", &mut value).is_ok(), "no memory where none was refused");
+    assert!(rt;
+        rt.var("REFUSE", &mut value).is_ok(),
+        "no memory where none was refused"
+    );
 }
 
 /// The image of the first listing.

@@ -147,7 +147,14 @@ fn assert_swaps(rt: &impl Abort, entries: &[Event], first: u8) {
         assert!(rt; hart < 2 && steps[hart] < 2);
         assert_eq!(rt; entry.pc, 0x1000_0000 + 4 * steps[hart]);
         let is_swap = steps[hart] == 0;
-        assert!(rt; entry.outcome == if is_swap { Outcome::Done } else { Outcome::Halt });
+        assert!(rt;
+            entry.outcome
+                == if is_swap {
+                    Outcome::Done
+                } else {
+                    Outcome::Halt
+                }
+        );
         steps[hart] += 1;
     }
 }

@@ -294,7 +294,11 @@ fn each_store_is_that_of_a_plain_list(rt: HostRuntime) -> Result<(), Fail> {
         for (place, (bits, tag)) in plain.0.iter().enumerate() {
             assert!(rt; place < ram.granule_count());
             let value = ram.granule(place);
-            assert_eq!(rt; (value.bits(), value.tag()), (*bits, *tag), "store {n}, {place}");
+            assert_eq!(rt;
+                (value.bits(), value.tag()),
+                (*bits, *tag),
+                "store {n}, {place}"
+            );
         }
     }
     Ok(())
