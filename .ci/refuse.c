@@ -1,7 +1,8 @@
 // A preloaded library that refuses one call of the system's library. REFUSE names its kind and its number, as in
 // "memory 12": the twelfth allocation answers that there is none. An "open", "read", "write" or "thread" fails as where
 // the file may not be read, the device is broken or there are too many threads. With "short 1" every read and write
-// moves one byte. Where the call came, the file that REFUSED names is made.
+// moves one byte. Where the call came, the file that REFUSED names is made. At the end the file that LEFT names gets how
+// many blocks of memory were not freed.
 #define _GNU_SOURCE
 #include <dlfcn.h>
 #include <errno.h>
@@ -20,11 +21,13 @@ void *__libc_malloc(size_t size);
 void *__libc_calloc(size_t count, size_t size);
 void *__libc_realloc(void *old, size_t size);
 void *__libc_memalign(size_t align, size_t size);
+void __libc_free(void *block);
 
 static int (*start)(pthread_t *, const pthread_attr_t *, void *(*)(void *), void *);
 static char kind[16];
 static long number;
 static atomic_long calls;
+static atomic_long blocks;
 
 // Nothing is refused before this has run.
 __attribute__((constructor)) static void begin(void) {
@@ -44,25 +47,54 @@ static int is_refused(const char *call) {
     return 1;
 }
 
+__attribute__((destructor)) static void end(void) {
+    const char *left = getenv("LEFT");
+    char text[32];
+    if (left == NULL)
+        return;
+    int file = (int)syscall(SYS_openat, AT_FDCWD, left, O_CREAT | O_WRONLY | O_TRUNC, 0666);
+    int size = snprintf(text, sizeof text, "%ld\n", atomic_load(&blocks));
+    syscall(SYS_write, file, text, size);
+    syscall(SYS_close, file);
+}
+
 static void *no_memory(void) {
     errno = ENOMEM;
     return NULL;
 }
 
+static void *counted(void *block) {
+    if (block != NULL)
+        atomic_fetch_add(&blocks, 1);
+    return block;
+}
+
 void *malloc(size_t size) {
-    return is_refused("memory") ? no_memory() : __libc_malloc(size);
+    return is_refused("memory") ? no_memory() : counted(__libc_malloc(size));
 }
 
 void *calloc(size_t count, size_t size) {
-    return is_refused("memory") ? no_memory() : __libc_calloc(count, size);
+    return is_refused("memory") ? no_memory() : counted(__libc_calloc(count, size));
+}
+
+void free(void *block) {
+    if (block != NULL)
+        atomic_fetch_sub(&blocks, 1);
+    __libc_free(block);
 }
 
 void *realloc(void *old, size_t size) {
+    if (old == NULL)
+        return malloc(size);
+    if (size == 0) {
+        free(old);
+        return NULL;
+    }
     return is_refused("memory") ? no_memory() : __libc_realloc(old, size);
 }
 
 void *aligned_alloc(size_t align, size_t size) {
-    return is_refused("memory") ? no_memory() : __libc_memalign(align, size);
+    return is_refused("memory") ? no_memory() : counted(__libc_memalign(align, size));
 }
 
 void *memalign(size_t align, size_t size) {

@@ -1,5 +1,9 @@
 -- What files hold.
 use Rattle.std.specs.Prelude.{◌≡◌, ℕ, List, Option, Some, None, ⊤}
+use Rattle.std.specs.declared.io.ErrorKind.{ErrorKind}
+use Rattle.std.specs.declared.io.ErrorKind.TheVariants as kind
+use Rattle.cheri_sim.specs.declared.files.FileFault.{FileFault}
+use Rattle.cheri_sim.specs.declared.files.FileFault.TheVariants.{CannotRead, NoMemory}
 
 -- What the file of each name holds, where that is known.
 abbrev pub KnownFiles : Type 0
@@ -9,3 +13,8 @@ KnownFiles = List ℕ → Option (List ℕ)
 abbrev pub AreBytesOf : Option (List ℕ) → List ℕ → Type 0
 AreBytesOf None bytes = ⊤
 AreBytesOf (Some known) bytes = bytes ≡ known
+
+-- why a file was not read, where its device failed so
+abbrev pub file_fault : ErrorKind → FileFault
+file_fault kind.OutOfMemory = NoMemory
+file_fault _ = CannotRead

@@ -4,6 +4,7 @@
 mod answers;
 mod faults;
 mod files;
+mod laws;
 mod printing;
 mod program;
 mod races;

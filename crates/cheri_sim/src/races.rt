@@ -83,7 +83,7 @@ impl Viewer for Looker {
 }
 
 /// Looks a number of times through a watch, and counts the looks that showed the machine.
-fn look_often<J: Naming>(watch: Watch<J>) -> (Watch<J>, u32)
+pub(crate) fn look_often<J: Naming>(watch: Watch<J>) -> (Watch<J>, u32)
     ensures { result.1 ≤ LOOKS }
 {
     let mut watch = watch;

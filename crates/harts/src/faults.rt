@@ -14,7 +14,7 @@ pub enum RunFault {
     Spawn,
     /// Out of memory, after the machine was booted.
     NoMemory,
-    /// The machine's stored image is not the one that was handed in.
+    /// The machine that is left is not of the image and the limit that were handed in.
     ImageDiffers,
 }
 

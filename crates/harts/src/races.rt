@@ -1,6 +1,7 @@
 //! Races: one worker for each hart of an image, in threads of their own.
 
-ghost use Rattle.std.specs.Prelude.{◌≡◌, ◌≢◌, ◌↔◌, [], length, map, All, false, IfOk, Err, vec_len};
+ghost use Rattle.std.specs.Prelude.{◌≡◌, ◌≢◌, ◌↔◌, [], length, map, All, false, IfOk, Ok, Err, vec_len};
+ghost use Rattle.std.specs.Prelude.{MatchResult};
 ghost use Rattle.cheri_model.specs.runs.Replay.{IsReplay};
 ghost use Rattle.machine.specs.Cores.{is_limit};
 ghost use Rattle.harts.specs.Reports.{AreReports, KeepsTurns};
@@ -22,8 +23,8 @@ use std::thread::{Promise, Scope, Threads};
 /// them. Answers the core that they left and a report for each hart, in hart order, whose steps are
 /// the hart's own in the core's trace. Fails with `Boot` and `Limit` exactly where the limit is
 /// not from 1 to 100,000; with `Spawn` where a worker could not be started, after those that were
-/// are joined; with `ImageDiffers` where the image that the machine stores at the end is not the
-/// given one; and when out of memory, with `Boot` and `NoMemory` while the machine is booted and
+/// are joined; with `ImageDiffers` where the machine that is left is not of the given image and
+/// limit; and when out of memory, with `Boot` and `NoMemory` while the machine is booted and
 /// with `NoMemory` after that.
 pub fn run_harts<G: Gate + Sync, R: Threads + Wait + Sync>(
     rt: &R,
@@ -35,6 +36,7 @@ pub fn run_harts<G: Gate + Sync, R: Threads + Wait + Sync>(
 ) -> Result<(Core, Vec<HartReport>), RunFault>
     ensures limit { (result ≡ Err (RunFault.Boot BootFault.Limit)) ↔ (is_limit limit ≡ false) }
     ensures image { IfOk result (λ run. run.0.image ≡ image) }
+    ensures room { IfOk result (λ run. run.0.limit ≡ limit) }
     ensures replay { IfOk result (λ run. IsReplay run.0.image run.0.trace run.0.state) }
     ensures reports { IfOk result (λ run.
         AreReports turns run.0.trace (length image.harts) run.1.items) }
@@ -56,6 +58,7 @@ pub fn run_watched<G: Gate + Sync, V: Viewer, R: Threads + Wait + Sync>(
 ) -> Result<(Core, Vec<HartReport>), RunFault>
     ensures limit { (result ≡ Err (RunFault.Boot BootFault.Limit)) ↔ (is_limit limit ≡ false) }
     ensures image { IfOk result (λ run. run.0.image ≡ image) }
+    ensures room { IfOk result (λ run. run.0.limit ≡ limit) }
     ensures replay { IfOk result (λ run. IsReplay run.0.image run.0.trace run.0.state) }
     ensures reports { IfOk result (λ run.
         AreReports turns run.0.trace (length image.harts) run.1.items) }
@@ -77,13 +80,14 @@ fn boot_and_race<G: Gate + Sync, V: Viewer, R: Threads + Wait + Sync>(
 ) -> Result<(Core, Vec<HartReport>), RunFault>
     ensures limit { (result ≡ Err (RunFault.Boot BootFault.Limit)) ↔ (is_limit limit ≡ false) }
     ensures image { IfOk result (λ run. run.0.image ≡ image) }
+    ensures room { IfOk result (λ run. run.0.limit ≡ limit) }
     ensures replay { IfOk result (λ run. IsReplay run.0.image run.0.trace run.0.state) }
     ensures reports { IfOk result (λ run.
         AreReports turns run.0.trace (length image.harts) run.1.items) }
 {
     let core = Core::boot(alloc, image, limit)?;
     let given = core.view().image.copy(alloc)?;
-    race::<Brand, G, V, R>(
+    let (core, reports) = race::<Brand, G, V, R>(
         rt,
         alloc,
         core,
@@ -93,7 +97,11 @@ fn boot_and_race<G: Gate + Sync, V: Viewer, R: Threads + Wait + Sync>(
         viewer,
         is_watched,
         Blanks::new(),
-    )
+    )?;
+    if core.limit() != limit {
+        return Err(RunFault::ImageDiffers);
+    }
+    Ok((core, reports))
 }
 
 /// Races the harts of a core that was just booted from an image that is given, too.
@@ -269,14 +277,23 @@ fn work_rest<'s, E, J: Naming + Send + Sync, G: Gate + Sync, V: Viewer, R: Threa
             ≡ record { hart = share.hart; amount = result.report.steps } }
         ensures turned { KeepsTurns turns result.report }
     { work_one(work, turns, share) };
-    let Ok(worker) = scope.spawn_with(promise, job) else {
-        return Err(RunFault::Spawn);
-    };
+    let worker = started(scope.spawn_with(promise, job))?;
     let mut all = work_rest(scope, work, turns, shares, done, onlooker)?;
     let Ok(()) = all.push(worker.join(work.rt)) else {
         return Err(RunFault::NoMemory);
     };
     Ok(all)
+}
+
+/// A worker that was started, or the fault of one that was not.
+fn started<T, E: Drop>(spawned: Result<T, E>) -> Result<T, RunFault>
+    ensures worker { MatchResult result
+        (λ worker. spawned ≡ Ok worker) (λ fault. fault ≡ RunFault.Spawn) }
+{
+    match spawned {
+        Ok(worker) => Ok(worker),
+        Err(_) => Err(RunFault::Spawn),
+    }
 }
 
 /// The loop of one hart, whose share has counted nothing yet.

@@ -1,8 +1,8 @@
 //! The loop of one hart: its turns, each one hold of the machine's lock.
 
-ghost use Rattle.std.specs.Prelude.{◌≡◌, ◌+◌, ◌≤◌, OnOk, OnErr};
+ghost use Rattle.std.specs.Prelude.{◌≡◌, ◌≢◌, ◌+◌, ◌≤◌, ◌<◌, ℕ, OnOk, OnErr, Err};
 ghost use Rattle.machine.specs.declared.faults.StepFault.{StepFault};
-ghost use Rattle.harts.specs.Reports.{IsReason};
+ghost use Rattle.harts.specs.Reports.{IsReason, goes_on};
 
 use crate::gates::{Gate, Turn};
 use crate::lock::Shared;
@@ -34,7 +34,8 @@ pub struct HartReport {
 /// Steps the share's hart in up to this many turns. Each turn asks the gate, steps in one hold of
 /// the lock, and tells the gate when the lock is free again. Ends before a turn that the gate ends,
 /// after a step that halts or traps, and at a step that is refused, of which the gate is not told.
-/// The share has counted just the steps of the report.
+/// A hart is refused as stopped only before its first step. The share has counted just the steps of
+/// the report.
 pub fn hart_loop<J: Naming, G: Gate, R: Wait>(
     rt: &R,
     shared: &Shared<J>,
@@ -55,16 +56,39 @@ pub fn hart_loop<J: Naming, G: Gate, R: Wait>(
             return (report(hart, turn, Why::Gate), share);
         }
         match step_once(rt, shared, &mut share) {
-            Err(fault) => return (report(hart, turn, Why::Refused(fault)), share),
+            Err(fault) => return (report(hart, turn, why_refused(turn, fault)), share),
             Ok(entry) => {
                 gate.after(hart, turn);
-                if entry.outcome != Outcome::Done {
+                if !goes_on(entry.outcome) {
                     return (report(hart, turn + 1, Why::Stopped), share);
                 }
             }
         }
     }
     (report(hart, turns, Why::Turns), share)
+}
+
+/// Whether a hart goes on after a step that ended so.
+fn goes_on(outcome: Outcome) -> bool
+    ensures { result ≡ goes_on outcome }
+{
+    match outcome {
+        Outcome::Done => true,
+        Outcome::Halt | Outcome::Trap(_) => false,
+    }
+}
+
+/// Why a loop ends at a step that is refused after so many steps. A hart that is stopped after steps
+/// of its own was stopped by the last of them: nobody else has its share.
+fn why_refused(steps: u32, fault: StepFault) -> Why
+    requires there { fault ≢ StepFault.NoSuchHart }
+    requires steps { fault ≢ StepFault.BadRange }
+    ensures { (turns : ℕ) → steps < turns → IsReason turns steps result }
+{
+    match fault {
+        StepFault::HartStopped if steps > 0 => Why::Stopped,
+        _ => Why::Refused(fault),
+    }
 }
 
 /// A hart's report.
@@ -85,6 +109,8 @@ fn step_once<J: Naming, R: Wait>(
     ensures counted { OnOk result (share.new
         ≡ record { hart = share.old.hart; amount = share.old.amount + 1 }) }
     ensures kept { OnErr result (share.new ≡ share.old) }
+    ensures there { result ≢ Err StepFault.NoSuchHart }
+    ensures steps { result ≢ Err StepFault.BadRange }
 {
     shared.lock(rt).step(rt, share)
 }

@@ -3,8 +3,9 @@
 
 ghost use Rattle.std.specs.Prelude.{◌≡◌};
 
-use crate::memory::first_image;
+use crate::memory::{assert_may_refuse, first_image};
 use crate::samples::{TWO_HARTS, steps_of, watch_of};
+use crate::watches::looked;
 use cheri_model::{Entry, Outcome};
 use listings::read_listing;
 use machine::{
@@ -13,6 +14,7 @@ use machine::{
 use std::alloc::Global;
 use std::marker::Brand;
 use std::process::Abort;
+use std::rt::Env;
 use std::sync::Wait;
 use std::test::Fail;
 
@@ -81,10 +83,11 @@ fn a_machine_steps_the_hart_of_a_share(rt: HostRuntime) -> Result<(), Fail> {
 }
 
 /// The core of the first listing, before its first step.
-fn first_core(rt: &impl Abort, alloc: Global) -> Core {
+fn first_core(rt: &(impl Abort + Env), alloc: Global) -> Core {
     match Core::boot(alloc, first_image(rt, alloc), 4) {
         Ok(core) => core,
         Err(fault) => {
+            assert_may_refuse(rt);
             assert!(rt; fault == BootFault::NoMemory);
             let image = first_image(rt, alloc);
             Core::boot(alloc, image, 4).expect(rt, "it is booted once more")
@@ -93,10 +96,11 @@ fn first_core(rt: &impl Abort, alloc: Global) -> Core {
 }
 
 /// The first watch of a machine.
-fn first_watch<J: Naming>(rt: &impl Abort, machine: &mut Machine<J>) -> Watch<J> {
+fn first_watch<J: Naming>(rt: &(impl Abort + Env), machine: &mut Machine<J>) -> Watch<J> {
     match machine.watch() {
         Ok(watch) => watch,
         Err(fault) => {
+            assert_may_refuse(rt);
             assert!(rt; fault == WatchFault::NoMemory);
             watch_of(machine).expect(rt, "it is watched once more")
         }
@@ -111,9 +115,17 @@ fn assert_entry(rt: &impl Abort, entry: Entry, step: u8) {
     assert!(rt; entry.outcome == if last { Outcome::Halt } else { Outcome::Done });
 }
 
+/// Looks at a machine after these steps: whatever was refused before, a look shows all of them.
+fn seen<J: Naming>(rt: &impl Abort, watch: Watch<J>, steps: u8) -> Watch<J> {
+    let look = looked(watch).expect(rt, "a look shows the machine");
+    assert_eq!(rt; look.core().view().entries.len(), usize::from(steps));
+    look.end()
+}
+
 /// Opens a machine of the first listing, watched or not, takes the first steps of its hart 0, and
-/// closes it. A step that is refused memory changes nothing, and is taken the next time.
-fn take_steps<J: Naming, R: Wait + Abort>(
+/// closes it. A step that is refused memory changes nothing, and is taken the next time. A watch
+/// looks after each step.
+fn take_steps<J: Naming, R: Wait + Abort + Env>(
     rt: &R,
     alloc: Global,
     core: Core,
@@ -125,8 +137,8 @@ fn take_steps<J: Naming, R: Wait + Abort>(
     requires image { core.image ≡ J.image }
 {
     let (mut machine, mut shares) = Machine::<J>::open(alloc, core, blanks)?;
-    let watch = if is_watched {
-        Some(first_watch(rt, &mut machine))
+    let mut watch = if is_watched {
+        Some(seen(rt, first_watch(rt, &mut machine), 0))
     } else {
         None
     };
@@ -134,21 +146,19 @@ fn take_steps<J: Naming, R: Wait + Abort>(
         assert_eq!(rt; shares.len(), 2);
         let mut taken = machine.step(rt, &mut shares[0]);
         if taken == Err(StepFault::NoMemory) {
+            assert_may_refuse(rt);
             assert_eq!(rt; machine.core().view().entries.len(), usize::from(step));
             taken = machine.step(rt, &mut shares[0]);
         }
         assert_entry(rt, taken.expect(rt, "the step is taken"), step);
-    }
-    // Where memory was refused for what the last step tells watchers, there is no look.
-    if let Some(Ok(look)) = watch.map(|watch| watch.look()) {
-        assert!(rt; look.core().view().entries.len() <= usize::from(steps));
+        watch = watch.map(|watch| seen(rt, watch, step + 1));
     }
     Ok(machine.close(rt, shares))
 }
 
 /// Takes the first steps of hart 0 on a new machine of the first listing, watched or not.
 fn take_first_steps(
-    rt: &(impl Wait + Abort),
+    rt: &(impl Wait + Abort + Env),
     alloc: Global,
     is_watched: bool,
     steps: u8,
@@ -158,10 +168,11 @@ fn take_first_steps(
 }
 
 /// The same, where a machine that is refused memory is opened once more.
-fn try_first_steps(rt: &(impl Wait + Abort), alloc: Global, is_watched: bool, steps: u8) {
+fn try_first_steps(rt: &(impl Wait + Abort + Env), alloc: Global, is_watched: bool, steps: u8) {
     let left = match take_first_steps(rt, alloc, is_watched, steps) {
         Ok(left) => left,
         Err(fault) => {
+            assert_may_refuse(rt);
             assert_eq!(rt; fault.number(), 1);
             let again = take_first_steps(rt, alloc, is_watched, steps);
             again.expect(rt, "it is opened once more")

@@ -1,9 +1,10 @@
 //! Refused memory, in each call that takes memory, on the first worked run. A call that is refused
 //! memory says so by the name of that refusal, and the same call once more answers as where nothing
-//! is refused. So one that always says that there is no memory fails in every run.
+//! is refused. So one that always says that there is no memory fails in every run, and one that
+//! sometimes does fails where nothing is refused.
 //!
 //! `.ci/refuse` runs each test whose name begins with `refused_` under an allocator that refuses
-//! its N-th allocation, for N = 1, 2, .. until there are no more.
+//! its N-th allocation, for N = 1, 2, .. until there are no more. It sets the variable `REFUSE`.
 
 use crate::samples::{FIRST, FIRST_JSON, FIRST_REPORT, entry_at};
 use cheri_model::{Image, Op, Outcome, Status};
@@ -13,6 +14,7 @@ use orders::{OrderFaultKind, read_order};
 use reports::{MemSink, ReportFault, report_json, write_report};
 use std::alloc::Global;
 use std::process::Abort;
+use std::rt::Env;
 use std::test::Fail;
 use tagged_mem::{MemFault, Ram};
 use texts::write_listing;
@@ -20,11 +22,21 @@ use texts::write_listing;
 /// The number of a listing's refusal when out of memory.
 const LISTING_NO_MEMORY: u8 = 10;
 
+/// Checks that this run may refuse memory: a call has said that there was none.
+pub(crate) fn assert_may_refuse(rt: &(impl Abort + Env)) {
+    let mut value = [0; 64];
+    assert!(rt;
+        rt.var("REFUSE", &mut value).is_ok(),
+        "no memory where none was refused"
+    );
+}
+
 /// The image of the first listing.
-pub(crate) fn first_image(rt: &impl Abort, alloc: Global) -> Image {
+pub(crate) fn first_image(rt: &(impl Abort + Env), alloc: Global) -> Image {
     match read_listing(alloc, FIRST.as_bytes()) {
         Ok(image) => image,
         Err(fault) => {
+            assert_may_refuse(rt);
             assert_eq!(rt; fault.line, 0);
             assert_eq!(rt; fault.kind.number(), LISTING_NO_MEMORY);
             read_listing(alloc, FIRST.as_bytes()).expect(rt, "it is read once more")
@@ -33,11 +45,12 @@ pub(crate) fn first_image(rt: &impl Abort, alloc: Global) -> Image {
 }
 
 /// The core after hart 0's four steps.
-fn first_core(rt: &impl Abort, alloc: Global) -> Core {
+fn first_core(rt: &(impl Abort + Env), alloc: Global) -> Core {
     let order = [Op::Step(0); 4];
     let (core, refused) = match run_order(alloc, first_image(rt, alloc), &order, 100_000) {
         Ok(ran) => ran,
         Err(fault) => {
+            assert_may_refuse(rt);
             assert!(rt; fault == BootFault::NoMemory);
             let image = first_image(rt, alloc);
             run_order(alloc, image, &order, 100_000).expect(rt, "it is run once more")
@@ -61,7 +74,10 @@ fn refused_write_listing(rt: HostRuntime) -> Result<(), Fail> {
     let image = first_image(&rt, rt.alloc());
     let text = match write_listing(rt.alloc(), &image) {
         Ok(text) => text,
-        Err(_) => write_listing(rt.alloc(), &image).expect(&rt, "it is written once more"),
+        Err(_) => {
+            assert_may_refuse(&rt);
+            write_listing(rt.alloc(), &image).expect(&rt, "it is written once more")
+        }
     };
     assert_eq!(rt; text.strip_prefix(".ram 4096\n"), Some(FIRST));
     Ok(())
@@ -72,6 +88,7 @@ fn refused_read_order(rt: HostRuntime) -> Result<(), Fail> {
     let order = match read_order(rt.alloc(), b"0000") {
         Ok(order) => order,
         Err(fault) => {
+            assert_may_refuse(&rt);
             assert_eq!(rt; fault.offset, 0);
             assert!(rt; fault.kind == OrderFaultKind::NoMemory);
             read_order(rt.alloc(), b"0000").expect(&rt, "it is read once more")
@@ -86,6 +103,7 @@ fn refused_ram_new(rt: HostRuntime) -> Result<(), Fail> {
     let ram = match Ram::new(rt.alloc(), 16) {
         Ok(ram) => ram,
         Err(fault) => {
+            assert_may_refuse(&rt);
             assert!(rt; fault == MemFault::NoMemory);
             Ram::new(rt.alloc(), 16).expect(&rt, "it is made once more")
         }
@@ -118,6 +136,7 @@ fn refused_write_report(rt: HostRuntime) -> Result<(), Fail> {
         Ok(()) => assert!(rt; sink.bytes() == FIRST_REPORT),
         // a put that finds no memory fails
         Err(ReportFault::Write | ReportFault::NoMemory) => {
+            assert_may_refuse(&rt);
             assert!(rt; FIRST_REPORT.starts_with(sink.bytes()));
             let mut again = MemSink::new(rt.alloc(), 0, 7);
             assert!(rt; write_report(rt.alloc(), core.view(), &mut again) == Ok(()));
@@ -132,7 +151,10 @@ fn refused_report_json(rt: HostRuntime) -> Result<(), Fail> {
     let core = first_core(&rt, rt.alloc());
     let text = match report_json(rt.alloc(), core.view()) {
         Ok(text) => text,
-        Err(_) => report_json(rt.alloc(), core.view()).expect(&rt, "it is made once more"),
+        Err(_) => {
+            assert_may_refuse(&rt);
+            report_json(rt.alloc(), core.view()).expect(&rt, "it is made once more")
+        }
     };
     assert_eq!(rt; text.as_str(), FIRST_JSON);
     Ok(())
@@ -148,6 +170,7 @@ fn refused_simulate(rt: HostRuntime) -> Result<(), Fail> {
             assert!(rt; sink.bytes() == FIRST_REPORT);
         }
         Err(fault) => {
+            assert_may_refuse(&rt);
             assert!(rt; is_out_of_memory(fault));
             assert!(rt; FIRST_REPORT.starts_with(sink.bytes()));
             let mut again = MemSink::new(rt.alloc(), 0, 4096);

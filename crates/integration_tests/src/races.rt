@@ -3,8 +3,9 @@
 
 ghost use Rattle.std.specs.Prelude.{◌≡◌};
 
+use crate::memory::assert_may_refuse;
 use crate::samples::{entry_at, operation_of, steps_of};
-use cheri_model::{Image, Reg};
+use cheri_model::{Event, Image, Outcome, Reg, Status, Trap};
 use gates::{EndsAt, Meeting, Tally};
 use harts::{Gate, HartReport, RunFault, Shared, Why, hart_loop, run_harts};
 use listings::read_listing;
@@ -12,6 +13,7 @@ use machine::{Blanks, BootFault, Core, Machine, Naming, StepFault, run_order};
 use std::alloc::Global;
 use std::marker::Brand;
 use std::process::Abort;
+use std::rt::Env;
 use std::sync::Wait;
 use std::test::Fail;
 use std::thread::Threads;
@@ -133,6 +135,30 @@ fn assert_replayed(rt: &impl Abort, alloc: Global, core: &Core, listing: &[u8], 
     }
 }
 
+/// Checks that the trace has, of each of two harts, a swap and then a halt, and that the first of
+/// all is this hart's.
+fn assert_swaps(rt: &impl Abort, entries: &[Event], first: u8) {
+    assert_eq!(rt; entries.len(), 4);
+    assert_eq!(rt; entry_at(rt, entries, 0).hart, first);
+    let mut steps = [0u64; 2];
+    for place in 0..4 {
+        let entry = entry_at(rt, entries, place);
+        let hart = usize::from(entry.hart);
+        assert!(rt; hart < 2 && steps[hart] < 2);
+        assert_eq!(rt; entry.pc, 0x1000_0000 + 4 * steps[hart]);
+        let is_swap = steps[hart] == 0;
+        assert!(rt;
+            entry.outcome
+                == if is_swap {
+                    Outcome::Done
+                } else {
+                    Outcome::Halt
+                }
+        );
+        steps[hart] += 1;
+    }
+}
+
 /// Checks what two swaps leave, where this hart went first.
 fn assert_swapped(rt: &impl Abort, core: &Core, first: u8) {
     let view = core.view();
@@ -157,9 +183,7 @@ fn harts_meet_and_swap_both_ways_round(rt: HostRuntime) -> Result<(), Fail> {
         assert!(rt; !gate.gave_up.is_set());
         assert!(rt; gate.zero_came.is_set() && gate.one_came.is_set());
         assert!(rt; gate.first_stepped.is_set() && gate.second_stepped.is_set());
-        let entries = core.view().entries;
-        assert_eq!(rt; entries.len(), 4);
-        assert_eq!(rt; entry_at(&rt, entries, 0).hart, first);
+        assert_swaps(&rt, core.view().entries, first);
         assert_swapped(&rt, &core, first);
         assert_eq!(rt; reports.len(), 2);
         for report in reports {
@@ -200,6 +224,32 @@ fn harts_are_stopped_at_each_turn(rt: HostRuntime) -> Result<(), Fail> {
                     let why = if *end < 2 { Why::Gate } else { Why::Stopped };
                     assert!(rt; report.why == why);
                 }
+            }
+        }
+    }
+    Ok(())
+}
+
+/// Two harts that trap at their third instruction, which is past the bounds of their PCC.
+const TRAPS: &[u8] = b".hart 0x10000000 8 0x10000000 execute\n\
+.hart 0x10000000 8 0x10000000 execute\naddi c6, c0, 1\naddi c6, c6, 1\necall\n";
+
+/// A trap stops a hart as `ecall` does, in its last turn, too, and the gate is asked no more.
+#[test]
+fn harts_that_trap_are_stopped(rt: HostRuntime) -> Result<(), Fail> {
+    for runner in [Runner::Race, Runner::Loops] {
+        for turns in [3, 5] {
+            let gate = Tally::new();
+            let (core, reports) = run(&rt, rt.alloc(), runner, TRAPS, turns, 100, &gate);
+            assert_replayed(&rt, rt.alloc(), &core, TRAPS, 100);
+            assert_eq!(rt; (gate.asked(), gate.told()), (6, 6));
+            assert_eq!(rt; reports.len(), 2);
+            for report in reports {
+                assert_eq!(rt; report.steps, 3);
+                assert!(rt; report.why == Why::Stopped);
+            }
+            for hart in core.view().harts {
+                assert!(rt; hart.status() == Status::Trapped(Trap { cause: 8, reg: 32 }));
             }
         }
     }
@@ -298,10 +348,11 @@ fn a_hundred_thousand_steps_are_replayed(rt: HostRuntime) -> Result<(), Fail> {
 }
 
 /// The image of the two harts that swap.
-fn swap_image(rt: &impl Abort, alloc: Global) -> Image {
+fn swap_image(rt: &(impl Abort + Env), alloc: Global) -> Image {
     match read_listing(alloc, SWAP) {
         Ok(image) => image,
         Err(fault) => {
+            assert_may_refuse(rt);
             assert_eq!(rt; fault.kind.number(), 10);
             image_of(rt, alloc, SWAP)
         }
@@ -323,6 +374,7 @@ fn refused_run_harts(rt: HostRuntime) -> Result<(), Fail> {
     let (core, reports) = match run_harts(&rt, rt.alloc(), image, 2, 100, &EndsAt(&[])) {
         Ok(ran) => ran,
         Err(fault) => {
+            assert_may_refuse(&rt);
             assert!(rt; is_out_of_memory(fault));
             let image = swap_image(&rt, rt.alloc());
             let again = run_harts(&rt, rt.alloc(), image, 2, 100, &EndsAt(&[]));

@@ -1,10 +1,10 @@
-//! One watch, one step, one look; and two looks at once.
+//! One watch, one step, one look; two looks at once; and eight watches.
 
 ghost use Rattle.std.specs.Prelude.{◌≡◌};
 
 use crate::samples::{FIRST, entry_at, watch_of};
 use listings::read_listing;
-use machine::{Blanks, Core, Look, Machine, Naming, Watch};
+use machine::{Blanks, Core, Look, Machine, Naming, Watch, WatchFault};
 use std::alloc::Global;
 use std::marker::Brand;
 use std::process::Abort;
@@ -89,6 +89,45 @@ fn looked_twice<J: Naming, R: Wait + Abort>(
     assert!(rt; other.core().view().entries.is_empty());
     drop(other);
     drop(kept);
+    let _core = machine.close(rt, shares);
+    Ok(())
+}
+
+#[test]
+fn there_are_eight_places(rt: HostRuntime) -> Result<(), Fail> {
+    let image = read_listing(rt.alloc(), FIRST.as_bytes()).expect(&rt, "the listing is good");
+    let core = Core::boot(rt.alloc(), image, 100).expect(&rt, "it boots");
+    watched_by_eight::<Brand, _>(&rt, rt.alloc(), core, Blanks::new())
+}
+
+/// Takes all eight places, each of which looks, and gives one back.
+fn watched_by_eight<J: Naming, R: Wait + Abort>(
+    rt: &R,
+    alloc: Global,
+    core: Core,
+    blanks: Blanks,
+) -> Result<(), Fail>
+    requires names { blanks ≡ J.names }
+    requires image { core.image ≡ J.image }
+{
+    let Ok((mut machine, shares)) = Machine::<J>::open(alloc, core, blanks) else {
+        return Err(Fail::from("the machine opens"));
+    };
+    let mut watches = Vec::new(alloc);
+    for _ in 0..8 {
+        let watch = machine.watch().expect(rt, "there is a place");
+        let look = looked(watch).expect(rt, "each of the eight looks");
+        watches.push(look.end()).expect(rt, "there is memory");
+    }
+    for _ in 0..8 {
+        assert!(rt; machine.watch().err() == Some(WatchFault::NoPlace));
+        drop(watches.pop());
+        watches
+            .push(machine.watch().expect(rt, "a place was given back"))
+            .expect(rt, "there is memory");
+    }
+    assert_eq!(rt; watches.len(), 8);
+    drop(watches);
     let _core = machine.close(rt, shares);
     Ok(())
 }

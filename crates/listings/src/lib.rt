@@ -4,6 +4,7 @@
 mod draft;
 mod fault;
 mod granules;
+pub mod laws;
 mod reader;
 mod statement;
 

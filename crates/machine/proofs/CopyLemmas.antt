@@ -116,6 +116,20 @@ refused_for_another core (operation.Sweep lo hi) fault is memory =
     by_tests true false is = cc
     by_tests true true is = cc
 
+-- and a step never with BadRange
+pub step_refused_for_another : (core : CoreParts) (hart : ℕ) (fault : StepFault) → Some fault ≡ refused core (operation.Step hart) → fault ≢ BadRange
+unfolding refused
+step_refused_for_another core hart fault is range =
+    by_tests (nat_lt hart (length core.state.harts)) (nat_lt (length core.trace) core.limit) (is_running (hart_at core.state hart).status)
+    (ap (λ (f : StepFault). Some f) (sym range) ∙ is)
+  where
+    by_tests : (there room runs : Bool) → ◌≡◌ {A = Option StepFault} (Some BadRange)
+        (if not there then Some NoSuchHart else if not room then Some TraceFull else if not runs then Some HartStopped else None) → ⊥
+    by_tests false room runs is = cc
+    by_tests true false runs is = cc
+    by_tests true true false is = cc
+    by_tests true true true is = cc
+
 -- what an operation answers: why it is refused, or the newest event of the trace that it leaves
 pub refused_answered : (core : CoreParts) (op : Op) (fault : StepFault) → Some fault ≡ refused core op →
     ◌≡◌ {A = Result Event StepFault} (Err fault) (answered core op)

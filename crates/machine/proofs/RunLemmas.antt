@@ -6,7 +6,7 @@ use Rattle.cheri_model.specs.declared.operation.Op.{Op}
 use Rattle.cheri_model.specs.runs.Image.{ImageParts}
 use Rattle.cheri_model.specs.runs.Replay.{operations_of}
 use Rattle.machine.specs.declared.faults.StepFault.{StepFault}
-use Rattle.machine.specs.Cores.{CoreParts, IsCore, core_after}
+use Rattle.machine.specs.Cores.{CoreParts, IsCore, core_after, is_limit}
 use Rattle.machine.specs.Runs.{IsRefusedAt, IsRunOf}
 use Rattle.machine.proofs.CoreLemmas.{core_confined, operations_after}
 
@@ -17,6 +17,7 @@ pub run_of : (image : ImageParts) (order : List Op) (limit : ℕ) (core : CorePa
 run_of image order limit core end is same_image same_limit taken = record {
   image_is = same_image;
   limit_is = same_limit;
+  limited = ap (λ l. is_limit l) (sym same_limit) ∙ is.limited;
   within = (let within = is.within in omega arith);
   replay = is.replay;
   confined = core_confined core is;

@@ -1,5 +1,5 @@
 -- The run of a listing in an order, from two texts to what a sink took.
-use Rattle.std.specs.Prelude.{◌≡◌, ℕ, List, Option, Result, Ok, Err, IsOk, ⊤, Bool, true, false, codes}
+use Rattle.std.specs.Prelude.{◌≡◌, ℕ, List, Option, Result, Ok, Err, IsOk, Bool, true, false, codes}
 use Rattle.listings.specs.Faults.{Gives}
 use Rattle.listings.specs.Meaning.{listing_meaning}
 use Rattle.orders.specs.Orders.{GivesFault, order_of}
@@ -27,13 +27,15 @@ pub record IsShownRun (listing order : List ℕ) (limit : ℕ) (IsSo : List ℕ 
   pub run_is : IsRunOf image ops limit core end
   pub shown : IsSo (report core.image core.trace core.state)
 
+-- a machine is not booted for its limit, or with a good one when out of memory
 abbrev pub IsRefusedBoot : BootFault → ℕ → Type 0
 IsRefusedBoot boot.Limit limit = is_limit limit ≡ false
-IsRefusedBoot boot.NoMemory limit = ⊤
+IsRefusedBoot boot.NoMemory limit = is_limit limit ≡ true
 
 -- A run was refused: for the listing's own fault, after a good listing for the order's, after good texts for the
 -- limit, and after a run because its report was not taken whole, of which this is so. Running out of memory says
--- nothing of the texts.
+-- nothing of the texts. So where both texts are good and the limit isn't, the answer is its refusal, or that a text found
+-- no memory.
 abbrev pub IsRefusedRun : List ℕ → List ℕ → ℕ → (List ℕ → Type 0) → SimFault → Type 0
 IsRefusedRun listing order limit IsSo (Listing fault) = Gives (Err fault) (listing_meaning listing)
 IsRefusedRun listing order limit IsSo (Order fault) =

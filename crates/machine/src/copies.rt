@@ -70,8 +70,10 @@ pub fn publish<J: Naming, R: Wait>(copies: Copies<J>, rt: &R) -> (Copies<J>, ())
     (copies, ())
 }
 
-/// Lets both copies know what was seen of the order, where there is memory for it. Where there is
-/// none, watchers get no look until a later operation tells.
+/// Lets both copies know what was seen of the order, right after an operation was appended. The
+/// queue makes room for four tickets when it first grows, and never holds more: the two that one
+/// copy lacks, and two that are pending. So the operation's ticket has made the room for this one,
+/// and a step finds memory for both or for neither.
 pub fn tell<J: Naming>(copies: &mut Copies<J>, token: Token)
     ensures shown { copies.new.desk ≡ copies.old.desk }
     ensures pending { (drop copies.new.behind copies.new.log.items
@@ -79,5 +81,6 @@ pub fn tell<J: Naming>(copies: &mut Copies<J>, token: Token)
         ⊎ (drop copies.new.behind copies.new.log.items
         ≡ drop copies.old.behind copies.old.log.items ++ Tell token ∷ []) }
 {
+    // Were there none, looks would answer `Err` until the next operation tells.
     let _told = copies.append(Ticket::Tell(token));
 }

@@ -96,6 +96,13 @@ impl Core {
         })
     }
 
+    /// The most events that its trace may have.
+    pub fn limit(&self) -> u32
+        ensures { result ≡ self.now.limit }
+    {
+        self.limit
+    }
+
     /// Why this operation would be refused, if it would be: the first fault that applies.
     pub fn refusal(&self, op: Op) -> Option<StepFault>
         ensures value { result ≡ refused self.now op }

@@ -134,7 +134,7 @@ impl From<AllocError> for OpenFault {
     }
 }
 
-/// Why a watch cannot be had.
+/// Why no watch is given.
 #[derive(Clone, Copy, Debug, PartialEq, Eq)]
 pub enum WatchFault {
     /// Each place for a watch is in use.
@@ -151,5 +151,15 @@ impl WatchFault {
         ensures { result ≡ watch_fault_number self }
     {
         self as u8
+    }
+}
+
+impl From<AllocError> for WatchFault {
+    ghost use Rattle.machine.specs.declared.faults.WatchFault.TheVariants.{NoMemory};
+
+    ghost from_gives = { λ _ fault. fault ≡ NoMemory };
+
+    fn from(_refused: AllocError) -> WatchFault {
+        WatchFault::NoMemory
     }
 }

@@ -5,6 +5,7 @@
 mod copies;
 mod cores;
 mod faults;
+pub mod laws;
 mod machines;
 mod opening;
 mod pairs;

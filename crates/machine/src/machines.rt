@@ -26,6 +26,9 @@ use std::sync::Wait;
 
 /// A core that threads may share under a lock, each stepping the hart of its share. At every moment
 /// its books have counted the steps of each hart in the trace. Contracts see its core.
+///
+/// Close a machine that was watched. Where it is dropped, its two copies of the core are never
+/// freed: a watcher may still look at one, and a drop waits for nobody.
 #[derive(Drop)]
 pub struct Machine<J: Naming> {
     watched: Watched<J>,
@@ -78,6 +81,7 @@ impl<J: Naming> Machine<J> {
         ensures memory { result ≡ Err StepFault.NoMemory
             → refused self.old (Op.Step share.old.hart) ≡ None }
         ensures there { result ≢ Err StepFault.NoSuchHart }
+        ensures of_a_step { result ≢ Err StepFault.BadRange }
         ensures applied { OnOk result (self.new ≡ applied self.old (Op.Step share.old.hart)) }
         ensures counted { OnOk result (share.new
             ≡ record { hart = share.old.hart; amount = share.old.amount + 1 }) }
@@ -122,10 +126,10 @@ impl<J: Naming> Machine<J> {
         Ok(newest(self.watched.core()))
     }
 
-    /// A watch of the machine, which has seen its trace of now. Fails with `NoMemory` where the
-    /// first watch finds none for its copies of the core, and with `NoPlace` where no place is
-    /// free: there are places for eight watches at once, and some may not be free yet while
-    /// watches come and go.
+    /// A watch of the machine, which has seen its trace of now. Fails with `NoMemory` only where
+    /// the first watch finds none for its copies of the core, and then nothing changes; and with
+    /// `NoPlace` where no place is free: there are places for eight watches at once, and some may
+    /// not be free yet while watches come and go.
     pub fn watch(&mut self) -> Result<Watch<J>, WatchFault>
         ensures watch { IfOk result (λ watch. watch ≡ watch_of self.old.image self.old.trace) }
         ensures same { self.new ≡ self.old }

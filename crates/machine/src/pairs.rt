@@ -1,6 +1,6 @@
 //! Two copies of a core: watchers read one, while the other takes in what came.
 
-ghost use Rattle.std.specs.Prelude.{◌≡◌, ◌<◌, [], None, IfOk, OnOk, OnErr};
+ghost use Rattle.std.specs.Prelude.{◌≡◌, ◌<◌, [], None, IfOk, IfErr, OnOk, OnErr};
 ghost use Rattle.cheri_model.specs.runs.Replay.{operations_of};
 ghost use Rattle.machine.specs.Cores.{core_after, refused};
 ghost use Rattle.machine.specs.Names.{order_named};
@@ -73,8 +73,9 @@ impl<J: Naming> Pair<J> {
     }
 
     /// Takes an operation that is not refused, adds it to the order, and shows it to watchers.
-    /// Fails only when out of memory, and then nothing changes. Waits for a watcher that still
-    /// looks at the other copy.
+    /// Fails only when out of memory, and then nothing changes: the order grows only once there is
+    /// room for the operation and for what is then told of the order. Waits for a watcher that
+    /// still looks at the other copy.
     pub fn take<R: Wait>(
         &mut self,
         rt: &R,
@@ -97,9 +98,11 @@ impl<J: Naming> Pair<J> {
         Ok(())
     }
 
-    /// A watch of the copies, which has seen what this receipt names.
+    /// A watch of the copies, which has seen what this receipt names. Fails where each of the eight
+    /// places is taken, and takes no memory.
     pub fn watch(&self, receipt: Receipt<J>) -> Result<Watch<J>, WatchFault>
-        ensures { IfOk result (λ watch. watch ≡ watch_of J.image receipt) }
+        ensures watch { IfOk result (λ watch. watch ≡ watch_of J.image receipt) }
+        ensures full { IfErr result (λ fault. fault ≡ WatchFault.NoPlace) }
     {
         match self.copies.factory().reader() {
             Ok(reader) => Ok(Watch::over(reader, receipt)),

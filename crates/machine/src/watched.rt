@@ -105,9 +105,7 @@ impl<J: Naming> Watched<J> {
         match &self.stage {
             Stage::Copied(pair) => pair.watch(receipt),
             Stage::Alone(core) => {
-                let Ok(pair) = Pair::of(self.alloc, core, &self.keeper.seen()) else {
-                    return Err(WatchFault::NoMemory);
-                };
+                let pair = Pair::of(self.alloc, core, &self.keeper.seen())?;
                 let watch = pair.watch(receipt);
                 self.stage = Stage::Copied(pair);
                 watch

@@ -1,6 +1,6 @@
 //! The report: the text that shows what a machine started from, its trace, and its state.
 
-ghost use Rattle.std.specs.Prelude.{◌≡◌, ◌+◌, ◌++◌, OnOk, IfOk, string_bytes};
+ghost use Rattle.std.specs.Prelude.{◌≡◌, ◌+◌, ◌++◌, ◌≤◌, OnOk, IfOk, length, string_bytes};
 ghost use Rattle.std.specs.Io.KnownBytes.{Appends};
 ghost use Rattle.cheri_model.specs.runs.ImageForm.{is_listed};
 ghost use Rattle.reports.specs.Report.{version_of, numbered, title_line, image_line};
@@ -169,8 +169,10 @@ const PIECE: usize = 65_536;
 /// More bytes than the lines of one hart have, which is the longest part that is written at once.
 const PART: usize = 4_096;
 
-/// Puts what is kept, where another part might not fit after it.
+/// Puts what is kept, where another part might not fit after it: then what is kept leaves room for
+/// one.
 fn make_room<S: Sink>(out: &mut String, sink: &mut S) -> Result<(), ReportFault>
+    ensures room { OnOk result (length (string_bytes out.new) + PART ≤ PIECE) }
     ensures whole { OnOk result (TakesAllBut (S.taken sink.old) (S.taken sink.new)
         (string_bytes out.new) (string_bytes out.old)) }
     ensures beginning { TakesBeginning (S.taken sink.old) (S.taken sink.new)

@@ -246,6 +246,64 @@ fn store_number(rt: &impl Abort, ram: &mut Ram, n: u64) {
     store_at(rt, ram, 0x8000_0000 + offset, width, number);
 }
 
+/// A plain list of granules: the bits and the tag of each.
+#[derive(Clone, Copy)]
+struct Plain([(u128, bool); 16]);
+
+impl Plain {
+    /// A data store of some low bytes of a number, at an offset that is a multiple of as many.
+    fn store(&mut self, offset: u64, bytes: u64, number: u64) {
+        let place = offset as usize / 16 % 16;
+        let shift = offset % 16 * 8;
+        let mask = u128::from(u64::MAX >> (64 - 8 * bytes.clamp(1, 8)));
+        let kept = self.0[place].0 & !(mask << shift);
+        self.0[place] = (kept | ((u128::from(number) & mask) << shift), false);
+    }
+}
+
+/// The capability that is stored with this number: an open one, one of more bytes, or a sealed one.
+fn stored_number(rt: &impl Abort, n: u64) -> Cap {
+    let wide = Cap::make(0x8000_0000, 256, 0x8000_0010 + n % 200, Perms::ALL);
+    let wide = wide.expect(rt, "these bounds can be made");
+    match n % 3 {
+        0 => readable(rt),
+        1 => wide,
+        _ => wide.seal_entry(),
+    }
+}
+
+/// After each of 1,000 stores, of data and through several capabilities, each granule is that of a
+/// plain list.
+#[test]
+fn each_store_is_that_of_a_plain_list(rt: HostRuntime) -> Result<(), Fail> {
+    let mut ram = Ram::new(rt.alloc(), 256)?;
+    let mut plain = Plain([(0, false); 16]);
+    for n in 0..1000u64 {
+        if n % 10 == 9 {
+            let place = n / 10 % 16;
+            let value = stored_number(&rt, n / 10);
+            store_cap_at(&rt, &mut ram, 0x8000_0000 + place * 16, value);
+            plain.0[place as usize] = (value.bits(), value.tag());
+        } else {
+            let width = WIDTHS[n as usize % 4];
+            let offset = n * 37 % 256 / width.bytes() * width.bytes();
+            let number = n.wrapping_mul(0x9E37_79B9_7F4A_7C15);
+            store_at(&rt, &mut ram, 0x8000_0000 + offset, width, number);
+            plain.store(offset, width.bytes(), number);
+        }
+        for (place, (bits, tag)) in plain.0.iter().enumerate() {
+            assert!(rt; place < ram.granule_count());
+            let value = ram.granule(place);
+            assert_eq!(rt;
+                (value.bits(), value.tag()),
+                (*bits, *tag),
+                "store {n}, {place}"
+            );
+        }
+    }
+    Ok(())
+}
+
 /// After a fixed pattern of stores each granule, of the memory and of its copy, is that of a plain
 /// list.
 #[test]

@@ -1,5 +1,7 @@
 //! Runs of the program over files in memory.
 
+ghost use Rattle.std.specs.Prelude.{◌≤◌, IfOk, length};
+
 use crate::files::{FileFault, Files};
 use crate::program::perform;
 use std::alloc::Global;
@@ -17,6 +19,7 @@ mod json;
 mod numbers;
 mod races;
 mod rebuilding;
+mod reserved;
 mod runs;
 
 /// Two harts with the same code: it narrows a capability, reads the length, and halts.
@@ -56,16 +59,25 @@ struct Folder<'a> {
     too_large: &'a str,
 }
 
+/// The first bytes of a text, up to `most`.
+fn beginning_of(alloc: Global, text: &str, most: u64) -> Result<Vec<u8>, FileFault>
+    ensures { IfOk result (λ bytes. length bytes.items ≤ most) }
+{
+    let size = text.len().min(most as usize);
+    match Vec::from_slice(alloc, &text.as_bytes()[..size]) {
+        Ok(bytes) => Ok(bytes),
+        Err(_) => Err(FileFault::NoMemory),
+    }
+}
+
 impl Files for Folder<'_> {
-    fn read(&mut self, name: &str, _most: u64) -> Result<Vec<u8>, FileFault> {
+    fn read(&mut self, name: &str, most: u64) -> Result<Vec<u8>, FileFault> {
         if name == self.too_large {
             return Err(FileFault::NoMemory);
         }
         for (known, text) in self.files {
             if *known == name {
-                return Vec::from_slice(self.alloc, text.as_bytes()).map_err(
-                    |_| FileFault::NoMemory,
-                );
+                return beginning_of(self.alloc, text, most);
             }
         }
         Err(FileFault::CannotRead)

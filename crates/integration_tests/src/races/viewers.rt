@@ -143,18 +143,54 @@ impl Viewer for Spotter<'_> {
     }
 }
 
-/// A viewer that keeps one look for a while, and compares what it shows before and after.
+/// A gate at which each hart waits before its first turn until a look is kept, and which says when
+/// a hart has stepped.
 #[derive(Drop)]
-pub(super) struct Keeper {
+pub(super) struct Kept {
+    pub(super) look_kept: Flag,
+    pub(super) stepped: Flag,
+    pub(super) gave_up: Flag,
+}
+
+impl Kept {
+    pub(super) fn new() -> Kept {
+        Kept {
+            look_kept: Flag::new(),
+            stepped: Flag::new(),
+            gave_up: Flag::new(),
+        }
+    }
+}
+
+impl Gate for Kept {
+    fn before(&self, _hart: u8, turn: u32) -> Turn {
+        if turn == 0 && !self.look_kept.comes() {
+            self.gave_up.set();
+            return Turn::End;
+        }
+        Turn::Go
+    }
+
+    fn after(&self, _hart: u8, _turn: u32) {
+        self.stepped.set();
+    }
+}
+
+/// A viewer that keeps one look while a hart is seen to step and for a while after, and compares
+/// what it shows before and after.
+#[derive(Drop)]
+pub(super) struct Keeper<'a> {
+    gate: &'a Kept,
     seen: Vec<Event>,
     pub(super) was_called: bool,
     pub(super) was_kept: bool,
     pub(super) has_changed: bool,
 }
 
-impl Keeper {
-    pub(super) fn new(alloc: Global) -> Keeper {
+impl<'a> Keeper<'a> {
+    pub(super) fn new(alloc: Global, gate: &'a Kept) -> Keeper<'a> {
         Keeper {
+            gate,
             seen: Vec::new(alloc),
             was_called: false,
             was_kept: false,
@@ -163,7 +199,7 @@ impl Keeper {
     }
 }
 
-impl Viewer for Keeper {
+impl Viewer for Keeper<'_> {
     fn view<J: Naming>(&mut self, watch: Watch<J>) -> Watch<J> {
         self.was_called = true;
         let look = match look_of(watch) {
@@ -171,7 +207,9 @@ impl Viewer for Keeper {
             Err(watch) => return watch,
         };
         let entries = look.core().view().entries;
-        self.was_kept = self.seen.extend_from_slice(entries).is_ok();
+        let is_copied = self.seen.extend_from_slice(entries).is_ok();
+        self.gate.look_kept.set();
+        self.was_kept = is_copied && self.gate.stepped.comes();
         for _ in 0..YIELDS {
             thread::yield_now();
         }

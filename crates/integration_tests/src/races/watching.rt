@@ -4,7 +4,7 @@
 ghost use Rattle.std.specs.Prelude.{◌≡◌};
 
 use super::gates::{EndsAt, Flag};
-use super::viewers::{Follower, Keeper, Spotter, Viewed, look_of};
+use super::viewers::{Follower, Keeper, Kept, Spotter, Viewed, look_of};
 use super::{SWAP, assert_replayed, eight_loops, image_of};
 use harts::{Gate, HartReport, Shared, Viewer, Why, run_watched};
 use machine::{Blanks, Core, Machine, Naming, Watch};
@@ -160,12 +160,12 @@ fn a_viewer_looks_beside_the_race(rt: HostRuntime) -> Result<(), Fail> {
 #[test]
 fn a_kept_look_stays_as_it_is(rt: HostRuntime) -> Result<(), Fail> {
     for _ in 0..TRIES {
-        let mut viewer = Keeper::new(rt.alloc());
-        let gate = EndsAt(&[]);
+        let gate = Kept::new();
+        let mut viewer = Keeper::new(rt.alloc(), &gate);
         let (core, reports) = view_race(&rt, rt.alloc(), SWAP, 2, &gate, &mut viewer);
-        assert_stopped(&rt, &core, reports.as_slice());
         if viewer.was_called {
-            assert!(rt; viewer.was_kept && !viewer.has_changed);
+            assert!(rt; viewer.was_kept && !viewer.has_changed && !gate.gave_up.is_set());
+            assert_stopped(&rt, &core, reports.as_slice());
             return Ok(());
         }
     }

@@ -124,6 +124,29 @@ fn jumps_through_registers_link(rt: HostRuntime) {
     }
 }
 
+/// A jump that would link to c0 links nowhere.
+#[test]
+fn jumps_through_registers_without_a_link(rt: HostRuntime) {
+    let (cd, c1) = (Reg::new(0), Reg::new(5));
+    for (through, imm, addr) in [(CODE, 5, NEXT), (CODE, 12, AT_3), (ENTRY, 0, 0x1000_0000)] {
+        let hart = hart_with(&rt, through, NULL);
+        let instr = Instr::CJalr { cd, c1, imm };
+        let left = after(&rt, rt.alloc(), instr, hart, Cap::null());
+        assert!(rt; matches!(&left.outcome, Outcome::Done), "{instr:?}");
+        let pcc = (true, 0x0002_0000_0405_8004, addr);
+        assert_eq!(rt; tagged_word(left.hart.pcc()), pcc, "{instr:?}");
+        assert_eq!(rt; left.hart.register(cd), Cap::null(), "{instr:?}");
+        let mut wanted = hart;
+        wanted.set_pcc(left.hart.pcc());
+        assert_eq!(rt; left.hart, wanted, "{instr:?}");
+    }
+    for imm in [6, 7] {
+        let hart = hart_with(&rt, CODE, NULL);
+        let instr = Instr::CJalr { cd, c1, imm };
+        traps(&rt, rt.alloc(), instr, hart, Cap::null(), (9, 5));
+    }
+}
+
 /// What c5 has, the offset, and the cause. Where two checks fail the one that is earlier in the
 /// table is answered.
 #[test]

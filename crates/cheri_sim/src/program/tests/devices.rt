@@ -1,7 +1,14 @@
 //! Files that cannot be read, and output that is not taken.
 
-use crate::program::perform;
+use crate::faults::Fault;
+use crate::files::{FileFault, fault_of};
 use crate::program::tests::{FIRST, Folder, Full, RUN, Unflushed, answer, compare, owned};
+use crate::program::{perform, report_fault};
+use grammar::fault::ListingFaultKind;
+use listings::ListingFault;
+use machine::StepFault;
+use orders::{OrderFault, OrderFaultKind};
+use std::io::ErrorKind;
 use std::str;
 use std::test::Fail;
 
@@ -105,6 +112,64 @@ fn full_answers(rt: HostRuntime) -> Result<(), Fail> {
         );
     }
     Ok(())
+}
+
+/// The longest lines of faults are printed whole: a capability that is none in the last line that
+/// a listing can have, and the greatest places of an order.
+#[test]
+fn long_lines_of_faults(rt: HostRuntime) -> Result<(), Fail> {
+    let listing = Fault::Listing(ListingFault {
+        line: 1_048_576,
+        kind: ListingFaultKind::Capability,
+    });
+    let order = Fault::Order(OrderFault {
+        offset: usize::MAX,
+        kind: OrderFaultKind::NoMemory,
+    });
+    for (fault, status, line) in [
+        (listing, 1, "listing line 1048576: 7 Capability\n"),
+        (order, 1, "order byte 18446744073709551615: 3 NoMemory\n"),
+        (
+            Fault::Step(usize::MAX, StepFault::HartStopped),
+            1,
+            "order step 18446744073709551615: 3 HartStopped\n",
+        ),
+    ] {
+        let mut err = Vec::new(rt.alloc());
+        assert_eq!(rt; report_fault(&mut err, fault), status);
+        assert_eq!(rt; str::from_utf8(err.as_slice())?, line);
+    }
+    Ok(())
+}
+
+/// A fault in the last line of the longest listing, as `check` tells it.
+#[test]
+fn the_last_line_of_the_longest_listing(rt: HostRuntime) -> Result<(), Fail> {
+    let capability = ".hart 1 8191 1 all";
+    let mut listing = String::new(rt.alloc());
+    for _ in 0..1_048_576 - capability.len() {
+        listing.push('\n')?;
+    }
+    listing.push_str(capability)?;
+    let files = [("listing", listing.as_str())];
+    let line = "listing line 1048559: 7 Capability\n";
+    compare(&rt, &["check", "listing"], &files, (1, "", line))
+}
+
+/// Only a device that finds no memory fails so; a file that may not be read, is a folder or is
+/// broken cannot be read.
+#[test]
+fn faults_of_devices(rt: HostRuntime) {
+    assert!(rt; fault_of(ErrorKind::OutOfMemory) == FileFault::NoMemory);
+    for kind in [
+        ErrorKind::NotFound,
+        ErrorKind::PermissionDenied,
+        ErrorKind::IsADirectory,
+        ErrorKind::Interrupted,
+        ErrorKind::Other,
+    ] {
+        assert!(rt; fault_of(kind) == FileFault::CannotRead);
+    }
 }
 
 /// A file larger than memory is `memory`.

@@ -1,8 +1,15 @@
 //! Races of a listing's harts.
 
+ghost use Rattle.std.specs.Prelude.{◌≡◌};
+
 use crate::faults::Fault;
 use crate::program::tests::{FIRST, Folder, Full, Unflushed, answer, compare, owned};
 use crate::program::{perform, report_fault};
+use crate::races::look_often;
+use listings::read_listing;
+use machine::{Blanks, Core, Machine, Naming};
+use std::alloc::Global;
+use std::marker::Brand;
 use std::process::Abort;
 use std::str;
 use std::sync::Wait;
@@ -113,13 +120,63 @@ fn at_most_a_hundred_looks_are_told(rt: HostRuntime) -> Result<(), Fail> {
     assert_eq!(rt; raced.status, 0);
     assert!(rt; printed.contains("\nentries 8\n"));
     assert!(rt; printed.ends_with("\nend\n"));
-    let line = str::from_utf8(raced.reported.as_slice())?;
-    let told = line
+    assert!(rt; looks_told(raced.reported.as_slice())? <= 100);
+    Ok(())
+}
+
+/// How many looks the line of a watched race tells of.
+fn looks_told(line: &[u8]) -> Result<u32, Fail> {
+    let told = str::from_utf8(line)?
         .strip_prefix("watch looks=")
         .ok_or("the looks are told")?;
     let digits = told.strip_suffix("\n").ok_or("the line ends")?;
-    assert!(rt; digits.parse::<u32>()? <= 100);
+    Ok(digits.parse::<u32>()?)
+}
+
+/// A race that runs for long is seen: one of eight tries tells of a look.
+#[test]
+fn long_races_are_seen(rt: HostRuntime) -> Result<(), Fail> {
+    let words = ["race", "listing", "--watch", "--turns", "50000"];
+    for _ in 0..8 {
+        let raced = answer(&rt, &words, &[("listing", TWO_LOOPS)], "")?;
+        let printed = str::from_utf8(raced.printed.as_slice())?;
+        assert_eq!(rt; raced.status, 0);
+        assert!(rt; printed.contains("\nentries 100000\n"));
+        if looks_told(raced.reported.as_slice())? > 0 {
+            return Ok(());
+        }
+    }
+    Err(Fail::from("one of eight races is looked at"))
+}
+
+/// A closed machine shows nothing, and so no look at it counts; each look at one that stays as it
+/// is does.
+fn count_looks<J: Naming, R: Wait + Abort>(
+    rt: &R,
+    alloc: Global,
+    core: Core,
+    blanks: Blanks,
+) -> Result<(), Fail>
+    requires names { blanks ≡ J.names }
+    requires image { core.image ≡ J.image }
+{
+    let Ok((mut machine, shares)) = Machine::<J>::open(alloc, core, blanks) else {
+        return Err(Fail::from("the machine opens"));
+    };
+    let watch = machine.watch().expect(rt, "there is a place");
+    let (watch, looks) = look_often(watch);
+    assert_eq!(rt; looks, 100);
+    let _core = machine.close(rt, shares);
+    let (_watch, looks) = look_often(watch);
+    assert_eq!(rt; looks, 0);
     Ok(())
+}
+
+#[test]
+fn looks_that_show_nothing_do_not_count(rt: HostRuntime) -> Result<(), Fail> {
+    let image = read_listing(rt.alloc(), LOOP.as_bytes()).expect(&rt, "the listing is good");
+    let core = Core::boot(rt.alloc(), image, 100).expect(&rt, "it boots");
+    count_looks::<Brand, _>(&rt, rt.alloc(), core, Blanks::new())
 }
 
 /// A listing that cannot be read or is faulty, and output that is not taken.

@@ -1,6 +1,7 @@
 //! Orders that are run, and listings that are refused.
 
-use crate::program::tests::{FIRST, OPENING_REPORT, RUN, compare};
+use crate::program::tests::{FIRST, OPENING_REPORT, RUN, answer, compare};
+use std::str;
 use std::test::Fail;
 
 /// The report of `FIRST` after one step of hart 0.
@@ -36,6 +37,21 @@ fn orders(rt: HostRuntime) -> Result<(), Fail> {
             &[("listing", FIRST), ("order", order)],
             (status, printed, reported),
         )?;
+    }
+    Ok(())
+}
+
+/// A step of a stopped hart is refused at its place, after the report of the steps before.
+#[test]
+fn refused_places(rt: HostRuntime) -> Result<(), Fail> {
+    let halted = answer(&rt, &RUN, &[("listing", FIRST), ("order", "0000")], "")?;
+    assert_eq!(rt; halted.status, 0);
+    let printed = str::from_utf8(halted.printed.as_slice())?;
+    assert!(rt; printed.contains("\n3 hart=0 pc=000000001000000c halt\nhart 0 halted\n"));
+    for order in ["00000", "000001111"] {
+        let files = [("listing", FIRST), ("order", order)];
+        let reported = "order step 4: 3 HartStopped\n";
+        compare(&rt, &RUN, &files, (1, printed, reported))?;
     }
     Ok(())
 }

@@ -11,6 +11,6 @@ pub returns-then-eq-clause-why : goal.returns-then-eq-clause-why
 returns-then-eq-clause-why g c =
     subst (λ (why : Why). IsReason c.args.turns c.report.result.steps why) (sym c.report.ensures.why) (omega arith)
 
-pub returns-then-ne-clause-why : goal.returns-then-ne-clause-why
-returns-then-ne-clause-why g c =
-    subst (λ (why : Why). IsReason c.args.turns c.report-then-ne.result.steps why) (sym c.report-then-ne.ensures.why) (omega arith)
+pub returns-then-not-goes_on-clause-why : goal.returns-then-not-goes_on-clause-why
+returns-then-not-goes_on-clause-why g c =
+    subst (λ (why : Why). IsReason c.args.turns c.report-then-not-goes_on.result.steps why) (sym c.report-then-not-goes_on.ensures.why) (omega arith)

@@ -6,7 +6,7 @@ use Rattle.cheri_model.specs.declared.operation.Op.TheVariants as operation
 use Rattle.cheri_model.specs.runs.Machine.{entry_of}
 use Rattle.machine.specs.Cores.{CoreParts, applied, core_after, refused}
 use Rattle.machine.proofs.CoreLemmas.{hart_is_there}
-use Rattle.machine.proofs.CopyLemmas.{applied_after, ends_with_step, refused_for_another, refused_step_answered, taken_step_answered}
+use Rattle.machine.proofs.CopyLemmas.{applied_after, ends_with_step, refused_for_another, refused_step_answered, step_refused_for_another, taken_step_answered}
 use Rattle.machine.proofs.ShareLemmas.{counted_after}
 use Rattle.machine.proofs.machines.Machine.step.Goals as goal
 
@@ -20,6 +20,10 @@ returns-in-Some-clause-there g c = λ missing.
     hart_is_there c.self.inside.watched c.core.result.now c.hart-hart.result _ c.in-Some.fault c.refusal.ensures.core c.core.ensures.core
     (ap (λ (image : ImageParts). length image.harts) c.self.invariant.1) c.hart-hart.ensures.below
     (c.in-Some.ensures.value ∙ ap (λ (k : CoreParts). refused k (operation.Step c.hart-hart.result)) c.core.ensures.core) (cc)
+
+pub returns-in-Some-clause-of_a_step : goal.returns-in-Some-clause-of_a_step
+returns-in-Some-clause-of_a_step g c = λ range.
+    step_refused_for_another c.core.result.now c.hart-hart.result c.in-Some.fault c.in-Some.ensures.value (cc)
 
 pub returns-in-Some-clause-memory : goal.returns-in-Some-clause-memory
 returns-in-Some-clause-memory g c = λ memory. absurd

@@ -1,0 +1,15 @@
+//! The numbers that code and definitions share, each by its numeral. Definitions take them from the
+//! code, so that a wrong one would be wrong on both sides; these laws hold them to what the documents
+//! say.
+
+ghost use Rattle.std.specs.Prelude.{◌≡◌};
+ghost use Rattle.machine.specs.declared.cores.TheConstants.{GREATEST_TRACE_LIMIT};
+ghost use Rattle.machine.specs.declared.pairs.TheConstants.{PLACES};
+ghost use Rattle.orders.specs.declared.reader.TheConstants.{ORDER_LIMIT};
+
+/// The greatest limit of a trace, the most operations of an order, and the places for watches.
+pub fn limits()
+    ensures trace { GREATEST_TRACE_LIMIT ≡ 100000 }
+    ensures order { ORDER_LIMIT ≡ 100000 }
+    ensures places { PLACES ≡ 8 }
+{}
