@@ -1,3 +1,4 @@
 -- The lemmas behind the laws, by topic.
 pub mod Granules
+pub mod NameLemmas
 pub mod Runs

@@ -13,8 +13,10 @@ mod image;
 mod instr;
 pub mod laws;
 mod memory;
+pub mod names;
 mod operands;
 mod operation;
+pub mod table;
 mod trace;
 mod width;
 
