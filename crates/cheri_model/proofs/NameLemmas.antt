@@ -1,5 +1,5 @@
 -- A name is looked up among those that begin with its letter.
-use Rattle.std.proofs.Common.{◌≡◌, ℕ, ◌==◌, ◌<◌, ◌||◌, ◌&&◌, Bool, true, false, List, [], ◌∷◌, None, map, filter, get_or, length, refl, sym, ap, ◌∙◌, arith}
+use Rattle.std.proofs.Common.{◌≡◌, ℕ, ◌==◌, ◌<◌, ◌||◌, ◌&&◌, Bool, true, false, List, [], ◌∷◌, Some, None, map, filter, get_or, length, refl, sym, ap, ◌∙◌, arith}
 use Rattle.std.specs.Prelude.{bytes_eq}
 use Rattle.std.specs.List.{list_all}
 use Rattle.std.proofs.lemmas.Bool.Decides.{nat_tests}
@@ -104,3 +104,30 @@ one_name (Branch _) = refl
 one_name Jump = refl
 one_name Invoke = refl
 one_name Alone = refl
+
+-- and that names it
+pub names_back : (mnemonic : Mnemonic) → mnemonic_of (name_of mnemonic) ≡ Some mnemonic
+unfolding mnemonic_of name_of found_at name_among mnemonic_table
+names_back (Three three_op.CSetAddr) = refl
+names_back (Three _) = refl
+names_back (Two two_op.CMove) = refl
+names_back (Two _) = refl
+names_back (Immediate immediate_op.CIncOffsetImm) = refl
+names_back (Immediate _) = refl
+names_back (Shift shift_op.Slli) = refl
+names_back (Shift _) = refl
+names_back (WordShift word_shift_op.Slliw) = refl
+names_back (WordShift _) = refl
+names_back SetBoundsImm = refl
+names_back (Upper upper_op.Lui) = refl
+names_back (Upper _) = refl
+names_back (Load load_op.Lb) = refl
+names_back (Load _) = refl
+names_back (Store store_op.Sb) = refl
+names_back (Store _) = refl
+names_back Swap = refl
+names_back (Branch branch_op.Beq) = refl
+names_back (Branch _) = refl
+names_back Jump = refl
+names_back Invoke = refl
+names_back Alone = refl

@@ -1,9 +1,15 @@
 //! The names of instructions, as listings spell them.
+#![tactic(auto, unfolding(crate::proofs::Open::names))]
 
 ghost use Rattle.std.specs.Prelude.{◌≡◌, option_map, map};
 ghost use Rattle.cheri_model.specs.instructions.Tables.{found_at, rows_of};
 ghost use Rattle.cheri_model.specs.instructions.Names.{
-  names_from, mnemonic_of, is_instruction, name_among, name_in, name_of,
+  names_from,
+  mnemonic_of,
+  is_instruction,
+  name_among,
+  name_in,
+  name_of,
 };
 
 use crate::form::{
@@ -56,10 +62,7 @@ const C_NAMES: &[(&str, Mnemonic)] = &[
     ("csetaddr", Mnemonic::Three(ThreeOp::CSetAddr)),
     ("cincoffset", Mnemonic::Three(ThreeOp::CIncOffset)),
     ("csetbounds", Mnemonic::Three(ThreeOp::CSetBounds)),
-    (
-        "csetboundsexact",
-        Mnemonic::Three(ThreeOp::CSetBoundsExact),
-    ),
+    ("csetboundsexact", Mnemonic::Three(ThreeOp::CSetBoundsExact)),
     ("candperm", Mnemonic::Three(ThreeOp::CAndPerm)),
     ("csetflags", Mnemonic::Three(ThreeOp::CSetFlags)),
     ("csethigh", Mnemonic::Three(ThreeOp::CSetHigh)),
@@ -149,7 +152,6 @@ const NAMES: &[&[(&str, Mnemonic)]] = &[
 ];
 
 /// The instructions whose names begin with this letter.
-#[tactic(auto, unfolding(crate::specs::instructions::Names::names_from, crate::specs::instructions::Names::mnemonic_table))]
 fn names_from(letter: u8) -> &'static [(&'static str, Mnemonic)]
     ensures { rows_of result.now ≡ names_from letter }
 {
@@ -177,7 +179,6 @@ pub fn mnemonic_of(token: &[u8]) -> Option<Mnemonic>
 }
 
 /// Whether a token names an instruction.
-#[tactic(auto, unfolding(crate::specs::instructions::Names::is_instruction))]
 pub fn is_instruction(token: &[u8]) -> bool
     ensures { result ≡ is_instruction token.now }
 {
@@ -185,7 +186,6 @@ pub fn is_instruction(token: &[u8]) -> bool
 }
 
 /// The name that these rows have for an instruction.
-#[tactic(auto, unfolding(crate::specs::instructions::Names::name_among))]
 fn name_among(rows: &'static [(&'static str, Mnemonic)], mnemonic: Mnemonic) -> Option<&'static str>
     ensures { option_map (λ name. name.now) result ≡ name_among (rows_of rows.now) mnemonic }
 {
@@ -198,7 +198,6 @@ fn name_among(rows: &'static [(&'static str, Mnemonic)], mnemonic: Mnemonic) -> 
 }
 
 /// The name that the first of these tables with one has for an instruction.
-#[tactic(auto, unfolding(crate::specs::instructions::Names::name_in))]
 fn name_in(
     tables: &'static [&'static [(&'static str, Mnemonic)]],
     mnemonic: Mnemonic,
