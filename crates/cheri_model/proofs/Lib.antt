@@ -1,3 +1,5 @@
 -- The lemmas behind the laws, by topic.
 pub mod Granules
+pub mod NameLemmas
+pub mod Open
 pub mod Runs

@@ -1,4 +1,5 @@
 //! The forms of operands: instructions sorted by the operands that they take.
+#![tactic(auto, unfolding(crate::proofs::Open::instr))]
 
 ghost use Rattle.std.specs.Prelude.{◌≡◌};
 ghost use Rattle.cheri_model.specs.instructions.Form.{
@@ -162,7 +163,6 @@ pub enum Form {
 
 impl ThreeOp {
     /// The instruction of this name with these operands.
-    #[tactic(auto, unfolding(crate::specs::instructions::Form::three_instr))]
     fn instr(self, cd: Reg, c1: Reg, c2: Reg) -> Instr
         ensures { result ≡ three_instr self cd c1 c2 }
     {
@@ -200,7 +200,6 @@ impl ThreeOp {
 
 impl TwoOp {
     /// The instruction of this name with these operands.
-    #[tactic(auto, unfolding(crate::specs::instructions::Form::two_instr))]
     fn instr(self, cd: Reg, c1: Reg) -> Instr
         ensures { result ≡ two_instr self cd c1 }
     {
@@ -226,7 +225,6 @@ impl TwoOp {
 
 impl ImmediateOp {
     /// The instruction of this name with these operands.
-    #[tactic(auto, unfolding(crate::specs::instructions::Form::immediate_instr))]
     fn instr(self, cd: Reg, c1: Reg, imm: i16) -> Instr
         ensures { result ≡ immediate_instr self cd c1 imm }
     {
@@ -245,7 +243,6 @@ impl ImmediateOp {
 
 impl ShiftOp {
     /// The instruction of this name with these operands.
-    #[tactic(auto, unfolding(crate::specs::instructions::Form::shift_instr))]
     fn instr(self, cd: Reg, c1: Reg, amount: u8) -> Instr
         ensures { result ≡ shift_instr self cd c1 amount }
     {
@@ -259,7 +256,6 @@ impl ShiftOp {
 
 impl WordShiftOp {
     /// The instruction of this name with these operands.
-    #[tactic(auto, unfolding(crate::specs::instructions::Form::word_shift_instr))]
     fn instr(self, cd: Reg, c1: Reg, amount: u8) -> Instr
         ensures { result ≡ word_shift_instr self cd c1 amount }
     {
@@ -273,7 +269,6 @@ impl WordShiftOp {
 
 impl UpperOp {
     /// The instruction of this name with these operands.
-    #[tactic(auto, unfolding(crate::specs::instructions::Form::upper_instr))]
     fn instr(self, cd: Reg, imm: u32) -> Instr
         ensures { result ≡ upper_instr self cd imm }
     {
@@ -286,7 +281,6 @@ impl UpperOp {
 
 impl LoadOp {
     /// The instruction of this name with these operands.
-    #[tactic(auto, unfolding(crate::specs::instructions::Form::load_instr))]
     fn instr(self, cd: Reg, c1: Reg, imm: i16) -> Instr
         ensures { result ≡ load_instr self cd c1 imm }
     {
@@ -306,7 +300,6 @@ impl LoadOp {
 
 impl StoreOp {
     /// The instruction of this name with these operands.
-    #[tactic(auto, unfolding(crate::specs::instructions::Form::store_instr))]
     fn instr(self, c2: Reg, c1: Reg, imm: i16) -> Instr
         ensures { result ≡ store_instr self c2 c1 imm }
     {
@@ -322,7 +315,6 @@ impl StoreOp {
 
 impl BranchOp {
     /// The instruction of this name with these operands.
-    #[tactic(auto, unfolding(crate::specs::instructions::Form::branch_instr))]
     fn instr(self, c1: Reg, c2: Reg, target: Target) -> Instr
         ensures { result ≡ branch_instr self c1 c2 target }
     {
@@ -339,7 +331,6 @@ impl BranchOp {
 
 impl Form {
     /// The instruction of this form.
-    #[tactic(auto, unfolding(crate::specs::instructions::Form::instr_of))]
     pub fn instr(self) -> Instr
         ensures { result ≡ instr_of self }
     {

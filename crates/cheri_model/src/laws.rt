@@ -4,6 +4,7 @@
 pub mod constants;
 pub mod forms;
 pub mod memory;
+pub mod names;
 pub mod replays;
 pub mod runs;
 pub mod sweeps;

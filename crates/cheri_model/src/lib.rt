@@ -13,8 +13,10 @@ mod image;
 mod instr;
 pub mod laws;
 mod memory;
+pub mod names;
 mod operands;
 mod operation;
+pub mod table;
 mod trace;
 mod width;
 
@@ -27,7 +29,10 @@ pub use code::{CODE_BASE, INSTRUCTION_BYTES};
 pub use image::{HartImage, Image, MAX_HARTS, MAX_INSTRUCTIONS, NoMemory};
 pub use instr::Instr;
 pub use memory::{GRANULE_BYTES, MAX_RAM_BYTES, RAM_BASE};
-pub use operands::{Reg, Target};
+pub use operands::{
+    MAX_IMMEDIATE, MAX_IMMEDIATE_LENGTH, MAX_SHIFT, MAX_UPPER_IMMEDIATE, MAX_WORD_SHIFT, Reg,
+    Target,
+};
 pub use operation::{Event, Op};
 pub use trace::{Entry, Outcome, Status, Trap};
 pub use width::Width;

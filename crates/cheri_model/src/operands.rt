@@ -4,6 +4,21 @@ ghost use Rattle.std.specs.Prelude.{◌≡◌, ℕ, ◌^◌, ◌<◌};
 
 use std::marker::Model;
 
+/// The greatest immediate of 12 bits. The least is one below its negative.
+pub const MAX_IMMEDIATE: u16 = 2047;
+
+/// The greatest amount by which all 64 bits are shifted.
+pub const MAX_SHIFT: u8 = 63;
+
+/// The greatest amount by which the low 32 bits are shifted.
+pub const MAX_WORD_SHIFT: u8 = 31;
+
+/// The greatest length that `csetboundsimm` writes, of 12 bits without a sign.
+pub const MAX_IMMEDIATE_LENGTH: u16 = 4095;
+
+/// The greatest immediate of `lui` and `auipcc`, of 20 bits without a sign.
+pub const MAX_UPPER_IMMEDIATE: u32 = 0xF_FFFF;
+
 /// The number of one of the registers c0 to c31.
 #[derive(Clone, Copy, Debug, PartialEq, Eq)]
 pub struct Reg {

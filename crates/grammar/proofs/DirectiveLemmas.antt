@@ -4,7 +4,8 @@ use Rattle.std.specs.Prelude.{bytes_eq}
 use Rattle.std.specs.List.{list_all}
 use Rattle.std.proofs.lemmas.Slice.Eq.{bytes_eq-Decides}
 use Rattle.grammar.specs.declared.directives.Directive.{Directive}
-use Rattle.grammar.specs.Directives.{found_at, has_point, directive_table, directive_of}
+use Rattle.cheri_model.specs.instructions.Tables.{found_at}
+use Rattle.grammar.specs.Directives.{has_point, directive_table, directive_of}
 
 named_where : (row : List ℕ × Directive) (rows : List (List ℕ × Directive)) (token : List ℕ) (same : Bool) → bytes_eq row.0 token ≡ same → has_point row.0 ≡ true
     → has_point token ≡ false → found_at rows token ≡ None → found_at (row ∷ rows) token ≡ None

@@ -7,8 +7,8 @@ use Rattle.std.proofs.lemmas.List.Sums.{count_by-le-length}
 use Rattle.std.proofs.lemmas.Slice.Eq.{bytes_eq-Decides}
 use Rattle.grammar.specs.declared.labels.Place.{Place}
 use Rattle.grammar.specs.Tokens.{tokens_of, token_at}
-use Rattle.grammar.specs.Directives.{found_at}
-use Rattle.grammar.specs.Mnemonics.{is_instruction}
+use Rattle.cheri_model.specs.instructions.Tables.{found_at}
+use Rattle.cheri_model.specs.instructions.Names.{is_instruction}
 use Rattle.grammar.specs.Lines.{lines_of}
 use Rattle.grammar.specs.declared.labels.Places.{Places}
 use Rattle.grammar.specs.Labels.{is_label_token, label_name, labels_from, label_of, count_of, instruction_lines, label_in, places_of}

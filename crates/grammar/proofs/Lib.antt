@@ -6,7 +6,6 @@ pub mod FirstToken
 pub mod LabelLemmas
 pub mod LawfulTypes
 pub mod LineLemmas
-pub mod NameLemmas
 pub mod Names
 pub mod NumeralLemmas
 pub mod Open

@@ -16,7 +16,8 @@ use Rattle.grammar.specs.Permissions.{permissions_of}
 use Rattle.grammar.specs.Operands.{type_operand_of, type_in_range}
 
 -- BASE, LEN, ADDR and PERMS, from the token at a place on, and TYPE by their shapes
-unfoldable pub cap_operands_of : List (List ℕ) → ℕ → TypeOperand → Result CapOperands ListingFaultKind
+unfoldable pub cap_operands_of : List (List ℕ) → ℕ → TypeOperand
+    → Result CapOperands ListingFaultKind
 cap_operands_of tokens place otype = do
   base ← number_of (token_at tokens place)
   len ← number_of (token_at tokens (place + 1))
@@ -51,7 +52,8 @@ abbrev pub unless_refused : Result CapValue MakeFault → Result CapValue Listin
 unless_refused (Ok value) = Ok value
 unless_refused (Err refusal) = Err Capability
 
--- The tagged capability of these parts. There is none where base and length exceed 2^64, where rounding would change
--- a bound, or where the address is not in the window.
+-- The tagged capability of these parts. There is none where base and length exceed 2^64, where
+-- rounding would change a bound, or where the address is not in the window.
 unfoldable pub capability_of : CapParts → Result CapValue ListingFaultKind
-capability_of parts = unless_refused (made parts.base parts.len parts.addr parts.perms.0 parts.otype)
+capability_of parts =
+    unless_refused (made parts.base parts.len parts.addr parts.perms.0 parts.otype)

@@ -1,7 +1,10 @@
 -- The kinds of faults of a listing's lines, and steps that may end at one.
 use Rattle.std.specs.Prelude.{ℕ, List, ◌++◌, Result, Ok, Err, codes, decimal}
 use Rattle.grammar.specs.declared.fault.ListingFaultKind.{ListingFaultKind}
-use Rattle.grammar.specs.declared.fault.ListingFaultKind.TheVariants.{NotAscii, Word, Operand, Range, Label, Twice, Capability, NoHart, Size, NoMemory}
+use Rattle.grammar.specs.declared.fault.ListingFaultKind.TheVariants.{NotAscii, Word, Operand}
+use Rattle.grammar.specs.declared.fault.ListingFaultKind.TheVariants.{Range, Label, Twice}
+use Rattle.grammar.specs.declared.fault.ListingFaultKind.TheVariants.{Capability, NoHart, Size}
+use Rattle.grammar.specs.declared.fault.ListingFaultKind.TheVariants.{NoMemory}
 
 -- the number and the name of a kind of fault, and both as reports of faults print them
 abbrev pub listing_fault_number : ListingFaultKind → ℕ
@@ -29,7 +32,8 @@ listing_fault_name Size = codes "Size"
 listing_fault_name NoMemory = codes "NoMemory"
 
 abbrev pub listing_fault_text : ListingFaultKind → List ℕ
-listing_fault_text kind = decimal (listing_fault_number kind) ++ (codes " " ++ listing_fault_name kind)
+listing_fault_text kind =
+    decimal (listing_fault_number kind) ++ (codes " " ++ listing_fault_name kind)
 
 -- a step that may end at a fault, and what follows it
 infixl 10 ◌>>=◌

@@ -1,5 +1,6 @@
--- The operands of instructions, by their form: first their count and shapes, then their ranges, then labels.
-use Rattle.std.specs.Prelude.{ℕ, ◌-◌, ◌^◌, ◌==◌, if◌then◌else◌, List, length, Result, Ok, Err}
+-- The operands of instructions, by their form: first their count and shapes, then their ranges,
+-- then labels.
+use Rattle.std.specs.Prelude.{ℕ, ◌==◌, if◌then◌else◌, List, length, Result, Ok, Err}
 use Rattle.cheri_model.specs.declared.form.Form.{Form}
 use Rattle.cheri_model.specs.declared.form.Form.TheVariants as form
 use Rattle.cheri_model.specs.declared.form.ThreeOp.{ThreeOp}
@@ -13,11 +14,15 @@ use Rattle.cheri_model.specs.declared.form.StoreOp.{StoreOp}
 use Rattle.cheri_model.specs.declared.form.BranchOp.{BranchOp}
 use Rattle.grammar.specs.declared.fault.ListingFaultKind.{ListingFaultKind}
 use Rattle.grammar.specs.declared.fault.ListingFaultKind.TheVariants.{Operand}
-use Rattle.grammar.specs.declared.mnemonics.Mnemonic.{Mnemonic}
-use Rattle.grammar.specs.declared.mnemonics.Mnemonic.TheVariants.{Three, Two, Immediate, Shift, WordShift, SetBoundsImm, Upper, Load, Store, Swap, Branch, Jump, Invoke, Alone}
+use Rattle.cheri_model.specs.declared.names.Mnemonic.{Mnemonic}
+use Rattle.cheri_model.specs.declared.names.Mnemonic.TheVariants as mnemonic
+use Rattle.cheri_model.specs.declared.operands.TheConstants.{MAX_SHIFT, MAX_WORD_SHIFT}
+use Rattle.cheri_model.specs.declared.operands.TheConstants.{MAX_IMMEDIATE_LENGTH}
+use Rattle.cheri_model.specs.declared.operands.TheConstants.{MAX_UPPER_IMMEDIATE}
 use Rattle.grammar.specs.Faults.{◌>>=◌}
 use Rattle.grammar.specs.Tokens.{token_at}
-use Rattle.grammar.specs.Operands.{register_of, immediate_of, immediate_of_12_bits, immediate_up_to, memory_operand_of}
+use Rattle.grammar.specs.Operands.{register_of, immediate_of, immediate_of_12_bits, immediate_up_to}
+use Rattle.grammar.specs.Operands.{memory_operand_of}
 use Rattle.grammar.specs.Labels.{PlaceParts, target_operand_of, target_of}
 
 -- a line of just this many tokens
@@ -51,43 +56,43 @@ immediate_form op tokens = do
   imm ← immediate_of_12_bits imm
   Ok (form.Immediate op cd c1 imm)
 
--- `cd, c1, n`, from 0 to 63
+-- `cd, c1, n`, from 0 to MAX_SHIFT
 unfoldable pub shift_form : ShiftOp → List (List ℕ) → Result Form ListingFaultKind
 shift_form op tokens = do
   count ← counted 4 tokens
   cd ← register_of (token_at tokens 1)
   c1 ← register_of (token_at tokens 2)
   imm ← immediate_of (token_at tokens 3)
-  amount ← immediate_up_to 63 imm
+  amount ← immediate_up_to MAX_SHIFT imm
   Ok (form.Shift op cd c1 amount)
 
--- `cd, c1, n`, from 0 to 31
+-- `cd, c1, n`, from 0 to MAX_WORD_SHIFT
 unfoldable pub word_shift_form : WordShiftOp → List (List ℕ) → Result Form ListingFaultKind
 word_shift_form op tokens = do
   count ← counted 4 tokens
   cd ← register_of (token_at tokens 1)
   c1 ← register_of (token_at tokens 2)
   imm ← immediate_of (token_at tokens 3)
-  amount ← immediate_up_to 31 imm
+  amount ← immediate_up_to MAX_WORD_SHIFT imm
   Ok (form.WordShift op cd c1 amount)
 
--- `cd, c1, i`, from 0 to 4,095
+-- `cd, c1, i`, from 0 to MAX_IMMEDIATE_LENGTH
 unfoldable pub set_bounds_form : List (List ℕ) → Result Form ListingFaultKind
 set_bounds_form tokens = do
   count ← counted 4 tokens
   cd ← register_of (token_at tokens 1)
   c1 ← register_of (token_at tokens 2)
   imm ← immediate_of (token_at tokens 3)
-  len ← immediate_up_to 4095 imm
+  len ← immediate_up_to MAX_IMMEDIATE_LENGTH imm
   Ok (form.SetBoundsImm cd c1 len)
 
--- `cd, i`, from 0 to 2^20 - 1
+-- `cd, i`, from 0 to MAX_UPPER_IMMEDIATE
 unfoldable pub upper_form : UpperOp → List (List ℕ) → Result Form ListingFaultKind
 upper_form op tokens = do
   count ← counted 3 tokens
   cd ← register_of (token_at tokens 1)
   imm ← immediate_of (token_at tokens 2)
-  imm ← immediate_up_to (2 ^ 20 - 1) imm
+  imm ← immediate_up_to MAX_UPPER_IMMEDIATE imm
   Ok (form.Upper op cd imm)
 
 -- `cd, i(c1)`
@@ -152,17 +157,17 @@ alone_form tokens = do
 
 -- the operands of an instruction's line
 unfoldable pub form_from : PlaceParts → Mnemonic → List (List ℕ) → Result Form ListingFaultKind
-form_from places (Three op) tokens = three_form op tokens
-form_from places (Two op) tokens = two_form op tokens
-form_from places (Immediate op) tokens = immediate_form op tokens
-form_from places (Shift op) tokens = shift_form op tokens
-form_from places (WordShift op) tokens = word_shift_form op tokens
-form_from places SetBoundsImm tokens = set_bounds_form tokens
-form_from places (Upper op) tokens = upper_form op tokens
-form_from places (Load op) tokens = load_form op tokens
-form_from places (Store op) tokens = store_form op tokens
-form_from places Swap tokens = swap_form tokens
-form_from places (Branch op) tokens = branch_form places op tokens
-form_from places Jump tokens = jump_form places tokens
-form_from places Invoke tokens = invoke_form tokens
-form_from places Alone tokens = alone_form tokens
+form_from places (mnemonic.Three op) tokens = three_form op tokens
+form_from places (mnemonic.Two op) tokens = two_form op tokens
+form_from places (mnemonic.Immediate op) tokens = immediate_form op tokens
+form_from places (mnemonic.Shift op) tokens = shift_form op tokens
+form_from places (mnemonic.WordShift op) tokens = word_shift_form op tokens
+form_from places mnemonic.SetBoundsImm tokens = set_bounds_form tokens
+form_from places (mnemonic.Upper op) tokens = upper_form op tokens
+form_from places (mnemonic.Load op) tokens = load_form op tokens
+form_from places (mnemonic.Store op) tokens = store_form op tokens
+form_from places mnemonic.Swap tokens = swap_form tokens
+form_from places (mnemonic.Branch op) tokens = branch_form places op tokens
+form_from places mnemonic.Jump tokens = jump_form places tokens
+form_from places mnemonic.Invoke tokens = invoke_form tokens
+form_from places mnemonic.Alone tokens = alone_form tokens

@@ -1,5 +1,7 @@
 -- The labels of a listing, and the targets of its jumps (this project's own format).
-use Rattle.std.specs.Prelude.{ℕ, ◌+◌, ◌-◌, ◌==◌, nat_lt, nat_le, Bool, false, not, ◌&&◌, ◌||◌, if◌then◌else◌, List, [], ◌∷◌, ◌++◌, length, take, drop, slice_index, Option, Some, None, option_map, Result, Ok, Err}
+use Rattle.std.specs.Prelude.{ℕ, ◌+◌, ◌-◌, ◌==◌, nat_lt, nat_le, Bool, false, not, ◌&&◌, ◌||◌}
+use Rattle.std.specs.Prelude.{if◌then◌else◌, List, [], ◌∷◌, ◌++◌, length, take, drop, slice_index}
+use Rattle.std.specs.Prelude.{Option, Some, None, option_map, Result, Ok, Err}
 use Rattle.std.specs.List.{list_all}
 use Rattle.grammar.specs.declared.fault.ListingFaultKind.{ListingFaultKind}
 use Rattle.grammar.specs.declared.fault.ListingFaultKind.TheVariants.{Operand, Label, Twice}
@@ -10,8 +12,8 @@ use Rattle.grammar.specs.Faults.{◌>>=◌}
 use Rattle.grammar.specs.Lines.{lines_of}
 use Rattle.grammar.specs.Tokens.{tokens_of, token_at}
 use Rattle.grammar.specs.Numerals.{number_of_digits, at_most}
-use Rattle.grammar.specs.Directives.{found_at}
-use Rattle.grammar.specs.Mnemonics.{is_instruction}
+use Rattle.cheri_model.specs.instructions.Tables.{found_at}
+use Rattle.cheri_model.specs.instructions.Names.{is_instruction}
 
 -- a letter, a digit or `_`
 abbrev pub is_decimal_digit : ℕ → Bool
@@ -19,7 +21,8 @@ is_decimal_digit b = nat_le 0x30 b && nat_le b 0x39
 
 abbrev pub is_name_byte : ℕ → Bool
 is_name_byte b =
-    is_decimal_digit b || (nat_le 0x41 b && nat_le b 0x5A) || (b == 0x5F) || (nat_le 0x61 b && nat_le b 0x7A)
+    is_decimal_digit b || (nat_le 0x41 b && nat_le b 0x5A) || (b == 0x5F)
+    || (nat_le 0x61 b && nat_le b 0x7A)
 
 -- a label's name: 1 to 32 letters, digits and `_`, of which the first is no digit
 unfoldable pub is_label_name : List ℕ → Bool
@@ -34,7 +37,8 @@ is_label_token token = nat_le 1 (length token) && (slice_index token (length tok
 abbrev pub label_name : List ℕ → List ℕ
 label_name token = take (length token - 1) token
 
--- what a line that begins with this token counts, and what it defines: a line defines its name even where it is faulty
+-- what a line that begins with this token counts, and what it defines: a line defines its name even
+-- where it is faulty
 unfoldable pub count_of : List ℕ → ℕ
 count_of token = if is_instruction token then 1 else 0
 
@@ -44,8 +48,8 @@ label_of token place =
     else if is_label_token token then (label_name token, place) ∷ []
     else []
 
--- The names that lines define, from a line and a count of instruction lines on: where each is, and how many
--- instruction lines are before it.
+-- The names that lines define, from a line and a count of instruction lines on: where each is, and
+-- how many instruction lines are before it.
 unfoldable pub labels_from : ℕ → ℕ → List (List ℕ) → List (List ℕ × Place)
 labels_from number instructions [] = []
 labels_from number instructions (line ∷ lines) =
@@ -58,7 +62,8 @@ unfoldable pub instruction_lines : List (List ℕ) → ℕ
 instruction_lines [] = 0
 instruction_lines (line ∷ lines) = count_of (token_at (tokens_of line) 0) + instruction_lines lines
 
--- what jumps may name: for each name the place of the first line that defines it, and how many instruction lines there are
+-- what jumps may name: for each name the place of the first line that defines it, and how many
+-- instruction lines there are
 pub record PlaceParts : Type 0 where
   pub label : List ℕ → Option Place
   pub instructions : ℕ
@@ -67,7 +72,8 @@ abbrev pub label_in : List ℕ → List ℕ → Option Place
 label_in text name = found_at (labels_from 1 0 (lines_of text)) name
 
 unfoldable pub places_of : List ℕ → PlaceParts
-places_of text = record { label = λ name. label_in text name; instructions = instruction_lines (lines_of text) }
+places_of text =
+    record { label = λ name. label_in text name; instructions = instruction_lines (lines_of text) }
 
 abbrev pub begins_at_sign : List ℕ → Bool
 begins_at_sign token = nat_le 1 (length token) && (slice_index token 0 == 0x40)
@@ -78,10 +84,12 @@ target_operand_of places token =
     if begins_at_sign token then (do
       number ← number_of_digits 10 (drop 1 token)
       Ok (Number number))
-    else if is_label_name token then Ok (Named (option_map (λ place. place.instructions) (places.label token)))
+    else if is_label_name token
+    then Ok (Named (option_map (λ place. place.instructions) (places.label token)))
     else Err Operand
 
--- The number of the instruction that a target names. The one after the last instruction line may be named.
+-- The number of the instruction that a target names. The one after the last instruction line may be
+-- named.
 unfoldable pub target_of : PlaceParts → TargetOperand → Result ℕ ListingFaultKind
 target_of places (Number number) = at_most places.instructions number
 target_of places (Named (Some number)) = Ok number

@@ -5,7 +5,6 @@ pub mod Numerals
 pub mod Permissions
 pub mod Operands
 pub mod Directives
-pub mod Mnemonics
 pub mod Labels
 pub mod Places
 pub mod Forms

@@ -1,5 +1,7 @@
 -- Operands of listings: registers, immediates, object types (this project's own format).
-use Rattle.std.specs.Prelude.{ℕ, ℤ, pos, neg_ℤ, ◌+◌, ◌-◌, ◌*◌, ◌==◌, nat_lt, nat_le, Bool, true, false, ◌&&◌, if◌then◌else◌, List, length, take, drop, slice_index, Result, Ok, Err, codes, bytes_eq}
+use Rattle.std.specs.Prelude.{ℕ, ℤ, pos, neg_ℤ, ◌+◌, ◌-◌, ◌*◌, ◌==◌, nat_lt, nat_le, Bool, true}
+use Rattle.std.specs.Prelude.{false, ◌&&◌, if◌then◌else◌, List, length, take, drop, slice_index}
+use Rattle.std.specs.Prelude.{Result, Ok, Err, codes, bytes_eq}
 use Rattle.std.specs.List.{before_first}
 use Rattle.grammar.specs.declared.fault.ListingFaultKind.{ListingFaultKind}
 use Rattle.grammar.specs.declared.fault.ListingFaultKind.TheVariants.{Operand}
@@ -7,6 +9,7 @@ use Rattle.grammar.specs.declared.operands.Immediate.{Immediate}
 use Rattle.grammar.specs.declared.operands.MemoryOperand.{MemoryOperand}
 use Rattle.grammar.specs.declared.operands.TypeOperand.{TypeOperand}
 use Rattle.grammar.specs.declared.operands.TypeOperand.TheVariants.{Unsealed, Sentry, Number}
+use Rattle.cheri_model.specs.declared.operands.TheConstants.{MAX_IMMEDIATE}
 use Rattle.cap_model.specs.values.Capability.{unsealed_type, sentry_type, last_sealable_type}
 use Rattle.grammar.specs.Faults.{◌>>=◌}
 use Rattle.grammar.specs.Numerals.{number_of, at_most}
@@ -16,7 +19,8 @@ is_decimal low b = nat_le low b && nat_le b 0x39
 
 -- `c` and one digit
 abbrev pub is_short_register : List ℕ → Bool
-is_short_register token = (length token == 2) && (slice_index token 0 == 0x63) && is_decimal 0x30 (slice_index token 1)
+is_short_register token =
+    (length token == 2) && (slice_index token 0 == 0x63) && is_decimal 0x30 (slice_index token 1)
 
 -- `c` and two digits, of which the first is not 0
 abbrev pub is_long_register : List ℕ → Bool
@@ -32,7 +36,8 @@ register_numbered number = if nat_lt number 32 then Ok number else Err Operand
 unfoldable pub register_of : List ℕ → Result ℕ ListingFaultKind
 register_of token =
     if is_short_register token then register_numbered (slice_index token 1 - 0x30)
-    else if is_long_register token then register_numbered (10 * (slice_index token 1 - 0x30) + (slice_index token 2 - 0x30))
+    else if is_long_register token
+    then register_numbered (10 * (slice_index token 1 - 0x30) + (slice_index token 2 - 0x30))
     else Err Operand
 
 abbrev pub begins_minus : List ℕ → Bool
@@ -52,10 +57,10 @@ immediate_of token =
 unfoldable pub immediate_of_12_bits : Immediate → Result ℤ ListingFaultKind
 immediate_of_12_bits imm =
     if imm.negative then (do
-      size ← at_most 2048 imm.size
+      size ← at_most (MAX_IMMEDIATE + 1) imm.size
       Ok (neg_ℤ (pos size)))
     else (do
-      size ← at_most 2047 imm.size
+      size ← at_most MAX_IMMEDIATE imm.size
       Ok (pos size))
 
 -- an immediate from 0 to a limit, for which `-0` is 0
@@ -71,7 +76,8 @@ from_bracket token = drop (length (before_bracket token)) token
 
 abbrev pub is_bracketed : List ℕ → Bool
 is_bracketed part =
-    nat_le 2 (length part) && (slice_index part 0 == 0x28) && (slice_index part (length part - 1) == 0x29)
+    nat_le 2 (length part) && (slice_index part 0 == 0x28)
+    && (slice_index part (length part - 1) == 0x29)
 
 -- what is between two brackets
 abbrev pub between_brackets : List ℕ → List ℕ

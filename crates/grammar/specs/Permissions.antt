@@ -1,5 +1,6 @@
 -- Permission sets of listings: `all`, `none`, or names joined by `+` (this project's own format).
-use Rattle.std.specs.Prelude.{ℕ, ◌==◌, if◌then◌else◌, List, Option, Some, None, option_map, ok_or, fold, Result, Ok, codes, bytes_eq, bit_or}
+use Rattle.std.specs.Prelude.{ℕ, ◌==◌, if◌then◌else◌, List, Option, Some, None, option_map, ok_or}
+use Rattle.std.specs.Prelude.{fold, Result, Ok, codes, bytes_eq, bit_or}
 use Rattle.std.specs.List.{slice_split}
 use Rattle.bitflags.specs.Sets.{find_name}
 use Rattle.cap_model.specs.declared.perms.Perms.{Perms}
@@ -16,7 +17,8 @@ set_of bits = record { 0 = bits }
 
 -- a set and one more permission, by its name; none where it is no permission's
 unfoldable pub with_named : Option Perms → List ℕ → Option Perms
-with_named (Some perms) name = option_map (λ named. set_of (bit_or perms.0 named)) (permission_named name)
+with_named (Some perms) name =
+    option_map (λ named. set_of (bit_or perms.0 named)) (permission_named name)
 with_named None name = None
 
 -- names joined by `+`, in any order

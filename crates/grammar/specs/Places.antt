@@ -9,7 +9,8 @@ use Rattle.grammar.specs.declared.labels.Places.{Places}
 use Rattle.grammar.specs.Labels.{PlaceParts}
 
 -- what a map has at a name
-abbrev pub named_in : HashMap (Bor (List ℕ)) Place (BuildHasherDefault FoldHasher) → List ℕ → Option Place
+abbrev pub named_in : HashMap (Bor (List ℕ)) Place (BuildHasherDefault FoldHasher) → List ℕ
+    → Option Place
 named_in labels name = get_by (λ key. bytes_eq name key.now) labels
 
 -- the first of two places, if there is one
@@ -18,4 +19,5 @@ first_place (Some place) later = Some place
 first_place None later = later
 
 unfoldable pub shown : Places → PlaceParts
-shown places = record { label = λ name. named_in places.labels name; instructions = places.instructions }
+shown places =
+    record { label = λ name. named_in places.labels name; instructions = places.instructions }

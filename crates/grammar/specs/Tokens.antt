@@ -1,5 +1,6 @@
 -- The tokens of a listing's line (this project's own format).
-use Rattle.std.specs.Prelude.{ℕ, ◌==◌, Bool, not, ◌||◌, List, [], length, drop, map, filter, slice_index_or}
+use Rattle.std.specs.Prelude.{ℕ, ◌==◌, Bool, not, ◌||◌, List, [], length, drop, map, filter}
+use Rattle.std.specs.Prelude.{slice_index_or}
 use Rattle.std.specs.List.{slice_split, before_first, position_or_len}
 use Rattle.std.specs.Borrow.{Bor}
 use Rattle.grammar.specs.Lines.{before_comment}
@@ -27,7 +28,8 @@ token_at tokens place = slice_index_or tokens place []
 unfoldable pub ends_token : ℕ → Bool
 ends_token b = is_blank b || (b == 0x23)
 
--- a line from its first byte on that is not blank, and a line up to the end of the token that it begins with
+-- a line from its first byte on that is not blank, and a line up to the end of the token that it
+-- begins with
 abbrev pub after_blanks : List ℕ → List ℕ
 after_blanks line = drop (position_or_len (λ b. not (is_blank b)) line) line
 

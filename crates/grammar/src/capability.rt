@@ -1,4 +1,5 @@
 //! The capabilities of a listing.
+#![tactic(auto, using(crate::proofs::Names::count), unfolding(crate::proofs::Open::capabilities))]
 
 ghost use Rattle.std.specs.Prelude.{◌≡◌, ◌<◌, ◌^◌};
 ghost use Rattle.grammar.specs.Tokens.{texts};
@@ -39,7 +40,6 @@ pub struct CapParts {
 }
 
 /// BASE, LEN, ADDR and PERMS, from the token at `place` on, by their shapes. Fails with `Operand`.
-#[tactic(auto, unfolding(crate::specs::Capability::cap_operands_of))]
 pub fn cap_operands_of(
     tokens: &[&[u8]],
     place: usize,
@@ -58,7 +58,6 @@ pub fn cap_operands_of(
 }
 
 /// TYPE, which may be the last token, at `place`, or left out.
-#[tactic(auto, using(crate::proofs::Names::count), unfolding(crate::proofs::Open::last_type))]
 fn optional_type(tokens: &[&[u8]], place: usize) -> Result<TypeOperand, ListingFaultKind>
     requires { place < 2 ^ 32 }
     ensures { result ≡ optional_type (texts tokens.now) place }
@@ -74,7 +73,6 @@ fn optional_type(tokens: &[&[u8]], place: usize) -> Result<TypeOperand, ListingF
 
 /// BASE, LEN, ADDR, PERMS and perhaps TYPE, from the token at `place` to the last one, by their
 /// shapes. Fails with `Operand`.
-#[tactic(auto, unfolding(crate::specs::Capability::cap_tokens))]
 pub fn cap_tokens(tokens: &[&[u8]], place: usize) -> Result<CapOperands, ListingFaultKind>
     requires { place < 2 ^ 16 }
     ensures { result ≡ cap_tokens (texts tokens.now) place }
@@ -84,7 +82,6 @@ pub fn cap_tokens(tokens: &[&[u8]], place: usize) -> Result<CapOperands, Listing
 }
 
 /// The operands of a capability in their ranges. Fails with `Range`.
-#[tactic(auto, unfolding(crate::specs::Capability::cap_parts_of))]
 pub fn cap_parts_of(operands: CapOperands) -> Result<CapParts, ListingFaultKind>
     ensures { result ≡ cap_parts_of operands }
 {
@@ -104,7 +101,6 @@ pub fn cap_parts_of(operands: CapOperands) -> Result<CapParts, ListingFaultKind>
 impl CapParts {
     /// The tagged capability of these parts. There is none where base and length exceed 2^64, where
     /// rounding would change a bound, or where the address is outside the representable region.
-    #[tactic(auto, unfolding(crate::specs::Capability::capability_of))]
     pub fn capability(self) -> Result<Cap, ListingFaultKind>
         ensures { result ≡ capability_of self }
     {

@@ -1,7 +1,9 @@
-//! The directives of a listing, and tables by name.
+//! The directives of a listing.
 
 ghost use Rattle.std.specs.Prelude.{◌≡◌};
-ghost use Rattle.grammar.specs.Directives.{found_at, rows_of, has_point, directive_of};
+ghost use Rattle.grammar.specs.Directives.{has_point, directive_of};
+
+use cheri_model::table::found_at;
 
 /// What a line that begins with `.` says.
 #[derive(Clone, Copy)]
@@ -18,26 +20,13 @@ pub enum Directive {
     Cap,
 }
 
-const DIRECTIVES: &[(&[u8], Directive)] = &[
-    (b".ram", Directive::Ram),
-    (b".hart", Directive::Hart),
-    (b".set", Directive::Set),
-    (b".bytes", Directive::Bytes),
-    (b".cap", Directive::Cap),
+const DIRECTIVES: &[(&str, Directive)] = &[
+    (".ram", Directive::Ram),
+    (".hart", Directive::Hart),
+    (".set", Directive::Set),
+    (".bytes", Directive::Bytes),
+    (".cap", Directive::Cap),
 ];
-
-/// The value of the first row with this name.
-#[tactic(auto, unfolding(crate::specs::Directives::found_at))]
-pub fn found_at<T: Copy + Drop>(table: &[(&[u8], T)], token: &[u8]) -> Option<T>
-    ensures { result ≡ found_at (rows_of table.now) token.now }
-{
-    for (name, value) in table {
-        if *name == token {
-            return Some(*value);
-        }
-    }
-    None
-}
 
 /// Whether a token begins as directives do.
 #[tactic(auto, unfolding(crate::specs::Directives::has_point))]

@@ -1,4 +1,5 @@
 //! The operands of instructions, by their form.
+#![tactic(auto, unfolding(crate::proofs::Open::forms))]
 
 ghost use Rattle.std.specs.Prelude.{◌≡◌};
 ghost use Rattle.grammar.specs.Tokens.{texts};
@@ -24,7 +25,6 @@ ghost use Rattle.grammar.specs.Forms.{
 
 use crate::fault::ListingFaultKind;
 use crate::labels::{Places, target_of, target_operand_of};
-use crate::mnemonics::Mnemonic;
 use crate::operands::{
     immediate_of, immediate_of_12_bits, immediate_up_to, memory_operand_of, register_of,
 };
@@ -32,6 +32,8 @@ use crate::tokens::token_at;
 use cheri_model::form::{
     BranchOp, Form, ImmediateOp, LoadOp, ShiftOp, StoreOp, ThreeOp, TwoOp, UpperOp, WordShiftOp,
 };
+use cheri_model::names::Mnemonic;
+use cheri_model::{MAX_IMMEDIATE_LENGTH, MAX_SHIFT, MAX_UPPER_IMMEDIATE, MAX_WORD_SHIFT};
 
 /// Refuses a line of more or fewer tokens with `Operand`.
 #[tactic(auto, using(crate::proofs::Names::count), unfolding(crate::specs::Forms::counted))]
@@ -46,7 +48,6 @@ pub fn counted(count: usize, tokens: &[&[u8]]) -> Result<(), ListingFaultKind>
 }
 
 /// `cd, c1, c2`
-#[tactic(auto, unfolding(crate::specs::Forms::three_form))]
 fn three_form(op: ThreeOp, tokens: &[&[u8]]) -> Result<Form, ListingFaultKind>
     ensures { result ≡ three_form op (texts tokens.now) }
 {
@@ -58,7 +59,6 @@ fn three_form(op: ThreeOp, tokens: &[&[u8]]) -> Result<Form, ListingFaultKind>
 }
 
 /// `cd, c1`
-#[tactic(auto, unfolding(crate::specs::Forms::two_form))]
 fn two_form(op: TwoOp, tokens: &[&[u8]]) -> Result<Form, ListingFaultKind>
     ensures { result ≡ two_form op (texts tokens.now) }
 {
@@ -69,7 +69,6 @@ fn two_form(op: TwoOp, tokens: &[&[u8]]) -> Result<Form, ListingFaultKind>
 }
 
 /// `cd, c1, i`, from -2,048 to 2,047
-#[tactic(auto, unfolding(crate::specs::Forms::immediate_form))]
 fn immediate_form(op: ImmediateOp, tokens: &[&[u8]]) -> Result<Form, ListingFaultKind>
     ensures { result ≡ immediate_form op (texts tokens.now) }
 {
@@ -81,8 +80,7 @@ fn immediate_form(op: ImmediateOp, tokens: &[&[u8]]) -> Result<Form, ListingFaul
     Ok(Form::Immediate(op, cd, c1, imm))
 }
 
-/// `cd, c1, n`, from 0 to 63
-#[tactic(auto, unfolding(crate::specs::Forms::shift_form))]
+/// `cd, c1, n`, from 0 to `MAX_SHIFT`
 fn shift_form(op: ShiftOp, tokens: &[&[u8]]) -> Result<Form, ListingFaultKind>
     ensures { result ≡ shift_form op (texts tokens.now) }
 {
@@ -90,12 +88,11 @@ fn shift_form(op: ShiftOp, tokens: &[&[u8]]) -> Result<Form, ListingFaultKind>
     let cd = register_of(token_at(tokens, 1))?;
     let c1 = register_of(token_at(tokens, 2))?;
     let imm = immediate_of(token_at(tokens, 3))?;
-    let amount = immediate_up_to(63, imm)? as u8;
+    let amount = immediate_up_to(u128::from(MAX_SHIFT), imm)? as u8;
     Ok(Form::Shift(op, cd, c1, amount))
 }
 
-/// `cd, c1, n`, from 0 to 31
-#[tactic(auto, unfolding(crate::specs::Forms::word_shift_form))]
+/// `cd, c1, n`, from 0 to `MAX_WORD_SHIFT`
 fn word_shift_form(op: WordShiftOp, tokens: &[&[u8]]) -> Result<Form, ListingFaultKind>
     ensures { result ≡ word_shift_form op (texts tokens.now) }
 {
@@ -103,12 +100,11 @@ fn word_shift_form(op: WordShiftOp, tokens: &[&[u8]]) -> Result<Form, ListingFau
     let cd = register_of(token_at(tokens, 1))?;
     let c1 = register_of(token_at(tokens, 2))?;
     let imm = immediate_of(token_at(tokens, 3))?;
-    let amount = immediate_up_to(31, imm)? as u8;
+    let amount = immediate_up_to(u128::from(MAX_WORD_SHIFT), imm)? as u8;
     Ok(Form::WordShift(op, cd, c1, amount))
 }
 
-/// `cd, c1, i`, from 0 to 4,095
-#[tactic(auto, unfolding(crate::specs::Forms::set_bounds_form))]
+/// `cd, c1, i`, from 0 to `MAX_IMMEDIATE_LENGTH`
 fn set_bounds_form(tokens: &[&[u8]]) -> Result<Form, ListingFaultKind>
     ensures { result ≡ set_bounds_form (texts tokens.now) }
 {
@@ -116,24 +112,22 @@ fn set_bounds_form(tokens: &[&[u8]]) -> Result<Form, ListingFaultKind>
     let cd = register_of(token_at(tokens, 1))?;
     let c1 = register_of(token_at(tokens, 2))?;
     let imm = immediate_of(token_at(tokens, 3))?;
-    let len = immediate_up_to(4095, imm)? as u16;
+    let len = immediate_up_to(u128::from(MAX_IMMEDIATE_LENGTH), imm)? as u16;
     Ok(Form::SetBoundsImm(cd, c1, len))
 }
 
-/// `cd, i`, from 0 to 2^20 - 1
-#[tactic(auto, unfolding(crate::specs::Forms::upper_form))]
+/// `cd, i`, from 0 to `MAX_UPPER_IMMEDIATE`
 fn upper_form(op: UpperOp, tokens: &[&[u8]]) -> Result<Form, ListingFaultKind>
     ensures { result ≡ upper_form op (texts tokens.now) }
 {
     counted(3, tokens)?;
     let cd = register_of(token_at(tokens, 1))?;
     let imm = immediate_of(token_at(tokens, 2))?;
-    let imm = immediate_up_to(0xF_FFFF, imm)? as u32;
+    let imm = immediate_up_to(u128::from(MAX_UPPER_IMMEDIATE), imm)? as u32;
     Ok(Form::Upper(op, cd, imm))
 }
 
 /// `cd, i(c1)`
-#[tactic(auto, unfolding(crate::specs::Forms::load_form))]
 fn load_form(op: LoadOp, tokens: &[&[u8]]) -> Result<Form, ListingFaultKind>
     ensures { result ≡ load_form op (texts tokens.now) }
 {
@@ -145,7 +139,6 @@ fn load_form(op: LoadOp, tokens: &[&[u8]]) -> Result<Form, ListingFaultKind>
 }
 
 /// `c2, i(c1)`
-#[tactic(auto, unfolding(crate::specs::Forms::store_form))]
 fn store_form(op: StoreOp, tokens: &[&[u8]]) -> Result<Form, ListingFaultKind>
     ensures { result ≡ store_form op (texts tokens.now) }
 {
@@ -157,7 +150,6 @@ fn store_form(op: StoreOp, tokens: &[&[u8]]) -> Result<Form, ListingFaultKind>
 }
 
 /// `cd, c2, c1`
-#[tactic(auto, unfolding(crate::specs::Forms::swap_form))]
 fn swap_form(tokens: &[&[u8]]) -> Result<Form, ListingFaultKind>
     ensures { result ≡ swap_form (texts tokens.now) }
 {
@@ -169,7 +161,6 @@ fn swap_form(tokens: &[&[u8]]) -> Result<Form, ListingFaultKind>
 }
 
 /// `c1, c2, target`
-#[tactic(auto, unfolding(crate::specs::Forms::branch_form))]
 fn branch_form(
     places: &Places<'_>,
     op: BranchOp,
@@ -186,7 +177,6 @@ fn branch_form(
 }
 
 /// `cd, target`
-#[tactic(auto, unfolding(crate::specs::Forms::jump_form))]
 fn jump_form(places: &Places<'_>, tokens: &[&[u8]]) -> Result<Form, ListingFaultKind>
     ensures { result ≡ jump_form (shown places.now) (texts tokens.now) }
 {
@@ -198,7 +188,6 @@ fn jump_form(places: &Places<'_>, tokens: &[&[u8]]) -> Result<Form, ListingFault
 }
 
 /// `c1, c2`
-#[tactic(auto, unfolding(crate::specs::Forms::invoke_form))]
 fn invoke_form(tokens: &[&[u8]]) -> Result<Form, ListingFaultKind>
     ensures { result ≡ invoke_form (texts tokens.now) }
 {
@@ -209,7 +198,6 @@ fn invoke_form(tokens: &[&[u8]]) -> Result<Form, ListingFaultKind>
 }
 
 /// No operands.
-#[tactic(auto, unfolding(crate::specs::Forms::alone_form))]
 fn alone_form(tokens: &[&[u8]]) -> Result<Form, ListingFaultKind>
     ensures { result ≡ alone_form (texts tokens.now) }
 {

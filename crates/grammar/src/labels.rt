@@ -1,4 +1,5 @@
 //! The labels of a listing, and the targets of its jumps.
+#![tactic(auto, unfolding(crate::proofs::Open::labels))]
 
 ghost use Rattle.std.specs.Prelude.{
   ◌≡◌,
@@ -27,12 +28,11 @@ ghost use Rattle.grammar.specs.Labels.{
   target_of,
   label_fault,
 };
-ghost use Rattle.grammar.specs.Directives.{found_at};
+ghost use Rattle.cheri_model.specs.instructions.Tables.{found_at};
 ghost use Rattle.grammar.specs.Tokens.{tokens_of, token_at};
 ghost use Rattle.grammar.specs.Places.{shown, named_in, first_place};
 
 use crate::fault::ListingFaultKind;
-use crate::mnemonics::is_instruction;
 use crate::numerals::{at_most, number_of_digits};
 use crate::tokens::first_token;
 use cheri_model::Target;
@@ -76,7 +76,6 @@ fn are_name_bytes(name: &[u8]) -> bool
 }
 
 /// Whether a name is 1 to 32 letters, digits and `_`, the first not a digit.
-#[tactic(auto, unfolding(crate::specs::Labels::is_label_name))]
 fn is_label_name(name: &[u8]) -> bool
     ensures { result ≡ is_label_name name.now }
 {
@@ -87,7 +86,6 @@ fn is_label_name(name: &[u8]) -> bool
 }
 
 /// Whether a line that begins with this token is a label's.
-#[tactic(auto, unfolding(crate::specs::Labels::is_label_token))]
 pub fn is_label_token(token: &[u8]) -> bool
     ensures { result ≡ is_label_token token.now }
 {
@@ -165,7 +163,6 @@ pub fn places_of<'a>(alloc: Global, text: &'a [u8]) -> Result<Places<'a>, AllocE
 
 impl Places<'_> {
     /// Where a name is first defined.
-    #[tactic(auto, unfolding(crate::specs::Places::shown))]
     fn label(&self, name: &[u8]) -> Option<Place>
         ensures { result ≡ (shown self.now).label name.now }
     {
@@ -173,7 +170,6 @@ impl Places<'_> {
     }
 
     /// How many instruction lines there are.
-    #[tactic(auto, unfolding(crate::specs::Places::shown))]
     fn instructions(&self) -> u32
         ensures { result ≡ (shown self.now).instructions }
     {
@@ -182,7 +178,6 @@ impl Places<'_> {
 }
 
 /// The target that a token writes: `@` and decimal digits, or a label's name. Fails with `Operand`.
-#[tactic(auto, unfolding(crate::specs::Labels::target_operand_of))]
 pub fn target_operand_of(
     places: &Places<'_>,
     token: &[u8],
@@ -201,7 +196,6 @@ pub fn target_operand_of(
 
 /// The instruction that a target names. The place after the last instruction line may be named.
 /// Fails with `Range` past it, and with `Label` where no line defines the name.
-#[tactic(auto, unfolding(crate::specs::Labels::target_of))]
 pub fn target_of(places: &Places<'_>, operand: TargetOperand) -> Result<Target, ListingFaultKind>
     ensures { result ≡ target_of (shown places.now) operand }
 {
@@ -217,7 +211,6 @@ pub fn target_of(places: &Places<'_>, operand: TargetOperand) -> Result<Target, 
 
 /// Refuses a name that is malformed with `Label`, and one that a line before this one defines with
 /// `Twice`.
-#[tactic(auto, unfolding(crate::specs::Labels::label_fault))]
 pub fn label_fault(places: &Places<'_>, number: usize, name: &[u8]) -> Result<(), ListingFaultKind>
     ensures { result ≡ label_fault (shown places.now) number name.now }
 {

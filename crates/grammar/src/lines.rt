@@ -1,4 +1,5 @@
 //! The lines of a listing.
+#![tactic(auto, using(crate::proofs::Names::plain))]
 
 ghost use Rattle.std.specs.Prelude.{◌≡◌, ◌==◌, ◌&&◌, ◌||◌, fold, true};
 ghost use Rattle.std.specs.List.{list_all};
@@ -20,7 +21,6 @@ fn each_plain(line: &[u8]) -> bool
 }
 
 /// Whether a line has only tabs and printing ASCII.
-#[tactic(auto, using(crate::proofs::Names::plain))]
 pub fn is_plain(line: &[u8]) -> bool
     ensures { result ≡ list_all is_plain line.now }
 {
@@ -43,7 +43,6 @@ fn each_plain_or_newline(text: &[u8]) -> bool
 }
 
 /// Whether each line of a text has only tabs and printing ASCII.
-#[tactic(auto, using(crate::proofs::Names::all_plain))]
 pub fn are_plain(text: &[u8]) -> bool
     ensures { result ≡ list_all (λ line. list_all is_plain line) (lines_of text.now) }
 {

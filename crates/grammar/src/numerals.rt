@@ -1,4 +1,5 @@
 //! The numbers of a listing.
+#![tactic(auto, using(crate::proofs::Names::digits), unfolding(crate::specs::Numerals::number_of))]
 
 ghost use Rattle.std.specs.Prelude.{◌≡◌, ◌<◌, ◌≤◌, ◌^◌, nat_lt, fold, true};
 ghost use Rattle.std.specs.List.{list_all};
@@ -80,7 +81,6 @@ fn with_digits(base: u8, token: &[u8]) -> Option<u128>
 }
 
 /// The number that digits of a base write; `None` at or above 2^128.
-#[tactic(auto, using(crate::proofs::NumeralLemmas::digits_folded))]
 fn digits_value(base: u8, token: &[u8]) -> Option<u128>
     requires { 1 ≤ base }
     ensures { result ≡ within_128_bits (digits_value base token.now) }
@@ -103,7 +103,6 @@ pub fn number_of_digits(base: u8, token: &[u8]) -> Result<Option<u128>, ListingF
 
 /// The number that a token writes, in decimal or after `0x` in hexadecimal; `None` at or above
 /// 2^128. Fails with `Operand` where the token is no number.
-#[tactic(auto, unfolding(crate::specs::Numerals::number_of))]
 pub fn number_of(token: &[u8]) -> Result<Option<u128>, ListingFaultKind>
     ensures { result ≡ number_of token.now }
 {

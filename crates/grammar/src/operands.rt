@@ -1,4 +1,5 @@
 //! The operands of a listing's lines.
+#![tactic(auto, using(crate::proofs::Names::lawful), unfolding(crate::proofs::Open::operands))]
 
 ghost use Rattle.std.specs.Prelude.{◌≡◌, ◌≢◌, ◌<◌, ◌≤◌, ◌^◌, ◌==◌, IfOk, position};
 ghost use Rattle.cap_model.specs.values.Capability.{IsLawfulType};
@@ -18,7 +19,7 @@ ghost use Rattle.grammar.specs.Operands.{
 
 use crate::fault::ListingFaultKind;
 use crate::numerals::{at_most, number_of};
-use cheri_model::{LAST_SEALABLE_TYPE, OType, Reg};
+use cheri_model::{LAST_SEALABLE_TYPE, MAX_IMMEDIATE, OType, Reg};
 use std::marker::Model;
 
 /// An immediate as a token writes it. Its size is `None` at or above 2^128.
@@ -91,7 +92,6 @@ fn register_numbered(number: u8) -> Result<Reg, ListingFaultKind>
 }
 
 /// The register that a token names, `c0` to `c31` without leading zeros. Fails with `Operand`.
-#[tactic(auto, unfolding(crate::specs::Operands::register_of))]
 pub fn register_of(token: &[u8]) -> Result<Reg, ListingFaultKind>
     ensures { result ≡ register_of token.now }
 {
@@ -105,7 +105,6 @@ pub fn register_of(token: &[u8]) -> Result<Reg, ListingFaultKind>
 }
 
 /// The immediate that a token writes. Fails with `Operand`.
-#[tactic(auto, unfolding(crate::specs::Operands::immediate_of))]
 pub fn immediate_of(token: &[u8]) -> Result<Immediate, ListingFaultKind>
     ensures { result ≡ immediate_of token.now }
 {
@@ -122,19 +121,17 @@ pub fn immediate_of(token: &[u8]) -> Result<Immediate, ListingFaultKind>
 }
 
 /// An immediate in the range of 12 bits, from -2,048 to 2,047. Fails with `Range`.
-#[tactic(auto, unfolding(crate::specs::Operands::immediate_of_12_bits))]
 pub fn immediate_of_12_bits(imm: Immediate) -> Result<i16, ListingFaultKind>
     ensures { result ≡ immediate_of_12_bits imm }
 {
     if imm.negative {
-        Ok(-(at_most(2048, imm.size)? as i16))
+        Ok(-(at_most(u128::from(MAX_IMMEDIATE) + 1, imm.size)? as i16))
     } else {
-        Ok(at_most(2047, imm.size)? as i16)
+        Ok(at_most(u128::from(MAX_IMMEDIATE), imm.size)? as i16)
     }
 }
 
 /// An immediate from 0 to a limit. Fails with `Range`.
-#[tactic(auto, unfolding(crate::specs::Operands::immediate_up_to))]
 pub fn immediate_up_to(limit: u128, imm: Immediate) -> Result<u128, ListingFaultKind>
     ensures value { result ≡ immediate_up_to limit imm }
     ensures bound { IfOk result (λ n. n ≤ limit) }
@@ -154,7 +151,6 @@ fn bracket(token: &[u8]) -> Option<usize>
 }
 
 /// A register in brackets, after an immediate.
-#[tactic(auto, unfolding(crate::specs::Operands::memory_operand_from))]
 fn memory_operand_from(imm: Immediate, part: &[u8]) -> Result<MemoryOperand, ListingFaultKind>
     ensures { result ≡ memory_operand_from imm part.now }
 {
@@ -182,7 +178,6 @@ pub fn memory_operand_of(token: &[u8]) -> Result<MemoryOperand, ListingFaultKind
 }
 
 /// The object type that a token writes: `sentry` or a number. Fails with `Operand`.
-#[tactic(auto, unfolding(crate::specs::Operands::type_operand_of))]
 pub fn type_operand_of(token: &[u8]) -> Result<TypeOperand, ListingFaultKind>
     ensures { result ≡ type_operand_of token.now }
 {
@@ -194,7 +189,6 @@ pub fn type_operand_of(token: &[u8]) -> Result<TypeOperand, ListingFaultKind>
 
 /// An object type in its range: below the reserved types, or a sentry, or unsealed. Fails with
 /// `Range`.
-#[tactic(auto, using(crate::proofs::Names::lawful), unfolding(crate::proofs::Open::in_range))]
 pub fn type_in_range(operand: TypeOperand) -> Result<LawfulType, ListingFaultKind>
     ensures { result ≡ type_in_range operand }
 {

@@ -1,4 +1,5 @@
 //! The tokens of a listing's line.
+#![tactic(auto, using(crate::proofs::Names::token))]
 
 ghost use Rattle.std.specs.Prelude.{◌≡◌, OnOk, not, position};
 ghost use Rattle.grammar.specs.Tokens.{
@@ -44,7 +45,6 @@ fn token_end(line: &[u8]) -> Option<usize>
 }
 
 /// A line from its first byte on that is not blank.
-#[tactic(auto, using(crate::proofs::Names::begun))]
 fn after_blanks(line: &[u8]) -> &[u8]
     ensures { result.now ≡ after_blanks line.now }
 {
@@ -55,7 +55,6 @@ fn after_blanks(line: &[u8]) -> &[u8]
 }
 
 /// A line up to the end of the token that it begins with.
-#[tactic(auto, using(crate::proofs::Names::ended))]
 fn before_end(line: &[u8]) -> &[u8]
     ensures { result.now ≡ before_end line.now }
 {

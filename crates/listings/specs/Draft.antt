@@ -1,10 +1,14 @@
 -- What the lines of a listing make, one after another.
-use Rattle.std.specs.Prelude.{ℕ, ◌+◌, ◌-◌, ◌==◌, nat_lt, Bool, true, false, if◌then◌else◌, List, [], ◌∷◌, ◌++◌, length, replicate, slice_index_or, slice_set, Option, Some, None, Result, Ok, Err}
+use Rattle.std.specs.Prelude.{ℕ, ◌+◌, ◌-◌, ◌==◌, nat_lt, Bool, true, false, if◌then◌else◌, List, []}
+use Rattle.std.specs.Prelude.{◌∷◌, ◌++◌, length, replicate, slice_index_or, slice_set, Option, Some}
+use Rattle.std.specs.Prelude.{None, Result, Ok, Err}
 use Rattle.cheri_model.specs.declared.instr.Instr.{Instr}
 use Rattle.cheri_model.specs.declared.image.HartImage.{HartImage}
 use Rattle.cheri_model.specs.declared.image.TheConstants.{MAX_HARTS, MAX_INSTRUCTIONS}
+use Rattle.cheri_model.specs.declared.memory.TheConstants.{GRANULE_BYTES}
 use Rattle.cap_model.specs.values.CapValue.{CapValue, raw}
-use Rattle.cheri_model.specs.steps.Memory.{cleared_memory, is_ram_size, is_in_ram, fits, store_data, store_capability}
+use Rattle.cheri_model.specs.steps.Memory.{cleared_memory, is_ram_size, is_in_ram, fits, store_data}
+use Rattle.cheri_model.specs.steps.Memory.{store_capability}
 use Rattle.grammar.specs.declared.fault.ListingFaultKind.{ListingFaultKind}
 use Rattle.grammar.specs.declared.fault.ListingFaultKind.TheVariants.{Range, Twice, NoHart, Size}
 use Rattle.grammar.specs.declared.capability.CapParts.{CapParts}
@@ -14,8 +18,8 @@ use Rattle.listings.specs.declared.draft.Setting.TheVariants.{Word, Capability}
 use Rattle.grammar.specs.Faults.{◌>>=◌}
 use Rattle.grammar.specs.Capability.{capability_of}
 
--- The instructions and the harts so far, which registers of the latest hart were set, RAM, and whether a line has
--- settled its size.
+-- The instructions and the harts so far, which registers of the latest hart were set, RAM, and
+-- whether a line has settled its size.
 pub record DraftParts : Type 0 where
   pub program : List Instr
   pub harts : List HartImage
@@ -28,7 +32,14 @@ no_registers = replicate 32 false
 
 -- before the first line
 abbrev pub empty_draft : DraftParts
-empty_draft = record { program = []; harts = []; set = no_registers; memory = cleared_memory RAM_SIZE; sized = false }
+empty_draft =
+    record {
+      program = [];
+      harts = [];
+      set = no_registers;
+      memory = cleared_memory RAM_SIZE;
+      sized = false;
+    }
 
 -- a legal size of RAM
 abbrev pub legal_size : Option ℕ → Result ℕ ListingFaultKind
@@ -58,10 +69,11 @@ latest harts = slice_index_or harts (length harts - 1) (hart_from (raw 0))
 abbrev pub with_latest : List HartImage → HartImage → List HartImage
 with_latest harts hart = slice_set harts (length harts - 1) hart
 
--- one more hart, of at most 8, with this PCC
+-- one more hart, of at most MAX_HARTS, with this PCC
 unfoldable pub add_hart : DraftParts → CapValue → Result DraftParts ListingFaultKind
 add_hart draft pcc =
-    if nat_lt (length draft.harts) MAX_HARTS then Ok (record draft { harts = draft.harts ++ hart_from pcc ∷ []; set = no_registers })
+    if nat_lt (length draft.harts) MAX_HARTS then
+    Ok (record draft { harts = draft.harts ++ hart_from pcc ∷ []; set = no_registers })
     else Err Size
 
 unfoldable pub with_hart : DraftParts → CapParts → Result DraftParts ListingFaultKind
@@ -95,9 +107,10 @@ with_set draft reg setting =
 -- bytes stored one after another
 unfoldable pub stored_bytes : List CapValue → ℕ → List ℕ → List CapValue
 stored_bytes memory addr [] = memory
-stored_bytes memory addr (byte ∷ bytes) = stored_bytes (store_data memory addr 1 byte) (addr + 1) bytes
+stored_bytes memory addr (byte ∷ bytes) =
+    stored_bytes (store_data memory addr 1 byte) (addr + 1) bytes
 
--- at most 4,096 bytes, wholly in RAM
+-- at most BYTES_LIMIT bytes, wholly in RAM
 unfoldable pub with_bytes : DraftParts → ℕ → List ℕ → Result DraftParts ListingFaultKind
 with_bytes draft addr bytes =
     if nat_lt BYTES_LIMIT (length bytes) then Err Range
@@ -108,13 +121,14 @@ with_bytes draft addr bytes =
 -- a capability in one granule of RAM
 unfoldable pub with_capability : DraftParts → ℕ → CapParts → Result DraftParts ListingFaultKind
 with_capability draft addr parts =
-    if fits draft.memory addr 16 then (do
+    if fits draft.memory addr GRANULE_BYTES then (do
       value ← capability_of parts
       Ok (record draft { memory = store_capability draft.memory addr value; sized = true }))
     else Err Range
 
--- one more instruction, of at most 16,384
+-- one more instruction, of at most MAX_INSTRUCTIONS
 unfoldable pub with_instruction : DraftParts → Instr → Result DraftParts ListingFaultKind
 with_instruction draft instr =
-    if nat_lt (length draft.program) MAX_INSTRUCTIONS then Ok (record draft { program = draft.program ++ instr ∷ [] })
+    if nat_lt (length draft.program) MAX_INSTRUCTIONS then
+    Ok (record draft { program = draft.program ++ instr ∷ [] })
     else Err Size

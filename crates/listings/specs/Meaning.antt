@@ -1,6 +1,8 @@
 -- The meaning of a listing: the image that its lines make one after another, or the first fault.
-use Rattle.std.specs.Prelude.{ℕ, ◌+◌, ◌*◌, ◌==◌, nat_lt, if◌then◌else◌, List, [], ◌∷◌, length, Result, Ok, Err}
+use Rattle.std.specs.Prelude.{ℕ, ◌+◌, ◌*◌, ◌==◌, nat_lt, if◌then◌else◌, List, [], ◌∷◌, length}
+use Rattle.std.specs.Prelude.{Result, Ok, Err}
 use Rattle.std.specs.List.{list_all}
+use Rattle.cheri_model.specs.declared.memory.TheConstants.{GRANULE_BYTES}
 use Rattle.cap_model.specs.values.CapValue.{CapValue}
 use Rattle.cheri_model.specs.steps.Memory.{ram_base}
 use Rattle.cheri_model.specs.runs.Image.{ImageParts}
@@ -20,11 +22,13 @@ use Rattle.listings.specs.Draft.{DraftParts, empty_draft}
 abbrev pub whole_fault : ListingFaultKind → ListingFault
 whole_fault kind = record { line = 0; kind = kind }
 
--- What a line of this number makes of what the lines before it made. Its comment says nothing, but may have no byte
--- outside ASCII either.
-unfoldable pub line_meaning : PlaceParts → ℕ → DraftParts → List ℕ → Result DraftParts ListingFaultKind
+-- What a line of this number makes of what the lines before it made. Its comment says nothing, but
+-- may have no byte outside ASCII either.
+unfoldable pub line_meaning : PlaceParts → ℕ → DraftParts → List ℕ
+    → Result DraftParts ListingFaultKind
 line_meaning places number draft line =
-    if list_all is_plain line then tokens_meaning places number draft (tokens_of line) else Err NotAscii
+    if list_all is_plain line then tokens_meaning places number draft (tokens_of line)
+    else Err NotAscii
 
 -- a line's result, or its kind of fault at its number
 abbrev pub at_line : {X : Type 0} → ℕ → Result X ListingFaultKind → Result X ListingFault
@@ -32,7 +36,8 @@ at_line number (Ok x) = Ok x
 at_line number (Err kind) = Err (record { line = number; kind = kind })
 
 -- what lines make one after another, the first of this number, up to the first fault
-unfoldable pub lines_meaning : PlaceParts → ℕ → DraftParts → List (List ℕ) → Result DraftParts ListingFault
+unfoldable pub lines_meaning : PlaceParts → ℕ → DraftParts → List (List ℕ)
+    → Result DraftParts ListingFault
 lines_meaning places number draft [] = Ok draft
 lines_meaning places number draft (line ∷ lines) = do
   next ← at_line number (line_meaning places number draft line)
@@ -41,7 +46,9 @@ lines_meaning places number draft (line ∷ lines) = do
 -- the granules that are tagged or not all 0, the first of them at this address
 unfoldable pub listed_from : ℕ → List CapValue → List (ℕ × CapValue)
 listed_from addr [] = []
-listed_from addr (v ∷ memory) = if is_listed v then (addr, v) ∷ listed_from (addr + 16) memory else listed_from (addr + 16) memory
+listed_from addr (v ∷ memory) =
+    if is_listed v then (addr, v) ∷ listed_from (addr + GRANULE_BYTES) memory
+    else listed_from (addr + GRANULE_BYTES) memory
 
 -- the image of all lines
 unfoldable pub finished : DraftParts → Result ImageParts ListingFault
@@ -51,7 +58,7 @@ finished draft =
     else
     Ok (record {
       program = draft.program;
-      ram = 16 * length draft.memory;
+      ram = GRANULE_BYTES * length draft.memory;
       granules = listed_from ram_base draft.memory;
       harts = draft.harts;
     })

@@ -1,6 +1,8 @@
--- What one line of a listing makes of what the lines before it made (this project's own format). First come the
--- shapes of all its operands, then their ranges, and so on in the order of the kinds of faults.
-use Rattle.std.specs.Prelude.{ℕ, ◌-◌, ◌^◌, ◌==◌, if◌then◌else◌, List, length, Option, Some, None, Result, Ok, Err, codes, bytes_eq}
+-- What one line of a listing makes of what the lines before it made (this project's own format).
+-- First come the shapes of all its operands, then their ranges, and so on in the order of the kinds
+-- of faults.
+use Rattle.std.specs.Prelude.{ℕ, ◌-◌, ◌^◌, ◌==◌, if◌then◌else◌, List, length, Option, Some, None}
+use Rattle.std.specs.Prelude.{Result, Ok, Err, codes, bytes_eq}
 use Rattle.hex.specs.Hex.{decode_of}
 use Rattle.hex.specs.declared.error.FromHexError.{FromHexError}
 use Rattle.cheri_model.specs.instructions.Form.{instr_of}
@@ -8,7 +10,7 @@ use Rattle.grammar.specs.declared.fault.ListingFaultKind.{ListingFaultKind}
 use Rattle.grammar.specs.declared.fault.ListingFaultKind.TheVariants.{Word, Operand}
 use Rattle.grammar.specs.declared.directives.Directive.{Directive}
 use Rattle.grammar.specs.declared.directives.Directive.TheVariants as directive
-use Rattle.grammar.specs.declared.mnemonics.Mnemonic.{Mnemonic}
+use Rattle.cheri_model.specs.declared.names.Mnemonic.{Mnemonic}
 use Rattle.grammar.specs.declared.operands.TypeOperand.TheVariants.{Unsealed}
 use Rattle.listings.specs.declared.draft.Setting.{Setting}
 use Rattle.listings.specs.declared.draft.Setting.TheVariants as setting
@@ -18,10 +20,11 @@ use Rattle.grammar.specs.Numerals.{number_of, at_most}
 use Rattle.grammar.specs.Operands.{register_of}
 use Rattle.grammar.specs.Capability.{cap_operands_of, cap_tokens, cap_parts_of}
 use Rattle.grammar.specs.Directives.{directive_of}
-use Rattle.grammar.specs.Mnemonics.{mnemonic_of}
+use Rattle.cheri_model.specs.instructions.Names.{mnemonic_of}
 use Rattle.grammar.specs.Forms.{counted, form_from}
 use Rattle.grammar.specs.Labels.{PlaceParts, is_label_token, label_name, label_fault}
-use Rattle.listings.specs.Draft.{DraftParts, with_ram, with_hart, with_set, with_bytes, with_capability, with_instruction}
+use Rattle.listings.specs.Draft.{DraftParts, with_ram, with_hart, with_set, with_bytes}
+use Rattle.listings.specs.Draft.{with_capability, with_instruction}
 
 -- `.ram N`
 unfoldable pub ram_line : DraftParts → List (List ℕ) → Result DraftParts ListingFaultKind
@@ -100,7 +103,8 @@ cap_line draft tokens = do
   parts ← cap_parts_of operands
   with_capability draft addr parts
 
-unfoldable pub directive_line : DraftParts → Directive → List (List ℕ) → Result DraftParts ListingFaultKind
+unfoldable pub directive_line : DraftParts → Directive → List (List ℕ)
+    → Result DraftParts ListingFaultKind
 directive_line draft directive.Ram tokens = ram_line draft tokens
 directive_line draft directive.Hart tokens = hart_line draft tokens
 directive_line draft directive.Set tokens = set_line draft tokens
@@ -108,29 +112,37 @@ directive_line draft directive.Bytes tokens = bytes_line draft tokens
 directive_line draft directive.Cap tokens = cap_line draft tokens
 
 -- an instruction and its operands
-unfoldable pub instruction_line : PlaceParts → DraftParts → Mnemonic → List (List ℕ) → Result DraftParts ListingFaultKind
+unfoldable pub instruction_line : PlaceParts → DraftParts → Mnemonic → List (List ℕ)
+    → Result DraftParts ListingFaultKind
 instruction_line places draft mnemonic tokens = do
   form ← form_from places mnemonic tokens
   with_instruction draft (instr_of form)
 
 -- `name:`, alone on its line, which has this number
-unfoldable pub label_line : PlaceParts → ℕ → DraftParts → List (List ℕ) → Result DraftParts ListingFaultKind
+unfoldable pub label_line : PlaceParts → ℕ → DraftParts → List (List ℕ)
+    → Result DraftParts ListingFaultKind
 label_line places number draft tokens = do
   count ← counted 1 tokens
   fault ← label_fault places number (label_name (token_at tokens 0))
   Ok draft
 
 -- a line that begins with no directive
-unfoldable pub other_line : PlaceParts → ℕ → DraftParts → Option Mnemonic → List (List ℕ) → Result DraftParts ListingFaultKind
-other_line places number draft (Some mnemonic) tokens = instruction_line places draft mnemonic tokens
+unfoldable pub other_line : PlaceParts → ℕ → DraftParts → Option Mnemonic → List (List ℕ)
+    → Result DraftParts ListingFaultKind
+other_line places number draft (Some mnemonic) tokens =
+    instruction_line places draft mnemonic tokens
 other_line places number draft None tokens =
     if is_label_token (token_at tokens 0) then label_line places number draft tokens else Err Word
 
-unfoldable pub line_from : PlaceParts → ℕ → DraftParts → Option Directive → List (List ℕ) → Result DraftParts ListingFaultKind
+unfoldable pub line_from : PlaceParts → ℕ → DraftParts → Option Directive → List (List ℕ)
+    → Result DraftParts ListingFaultKind
 line_from places number draft (Some directive) tokens = directive_line draft directive tokens
-line_from places number draft None tokens = other_line places number draft (mnemonic_of (token_at tokens 0)) tokens
+line_from places number draft None tokens =
+    other_line places number draft (mnemonic_of (token_at tokens 0)) tokens
 
 -- A line's tokens: a directive, an instruction or a label. A line without tokens changes nothing.
-unfoldable pub tokens_meaning : PlaceParts → ℕ → DraftParts → List (List ℕ) → Result DraftParts ListingFaultKind
+unfoldable pub tokens_meaning : PlaceParts → ℕ → DraftParts → List (List ℕ)
+    → Result DraftParts ListingFaultKind
 tokens_meaning places number draft tokens =
-    if length tokens == 0 then Ok draft else line_from places number draft (directive_of (token_at tokens 0)) tokens
+    if length tokens == 0 then Ok draft
+    else line_from places number draft (directive_of (token_at tokens 0)) tokens

@@ -1,4 +1,5 @@
 //! What the lines of a listing make, one after another.
+#![tactic(auto, unfolding(crate::proofs::Open::draft))]
 
 ghost use Rattle.std.specs.Prelude.{◌≡◌, IfOk};
 ghost use Rattle.listings.specs.Faults.{Gives, FillsLine};
@@ -20,7 +21,9 @@ ghost use Rattle.listings.specs.Meaning.{finished};
 use crate::fault::{LineFault, ListingFault};
 use crate::granules::{is_in_ram, listed_granules, store_bytes};
 use cap_ops::Cap;
-use cheri_model::{HartImage, Image, Instr, MAX_HARTS, MAX_INSTRUCTIONS, Reg, Value};
+use cheri_model::{
+    GRANULE_BYTES, HartImage, Image, Instr, MAX_HARTS, MAX_INSTRUCTIONS, Reg, Value,
+};
 use grammar::capability::CapParts;
 use grammar::fault::ListingFaultKind;
 use std::alloc::{AllocError, Global};
@@ -58,7 +61,6 @@ pub enum Setting {
 
 impl Setting {
     /// The register's value, if there is such a capability.
-    #[tactic(auto, unfolding(crate::specs::Draft::value_of))]
     fn value(self) -> Result<Cap, ListingFaultKind>
         ensures { result ≡ value_of self }
     {
@@ -128,7 +130,6 @@ impl Draft {
     }
 
     /// RAM of this size, before any line has settled it.
-    #[tactic(auto, unfolding(crate::specs::Draft::with_ram))]
     pub fn with_ram(&mut self, alloc: Global, size: Option<u128>) -> Result<(), LineFault>
         ensures { FillsLine result self.new (with_ram self.old size) }
     {
@@ -149,7 +150,6 @@ impl Draft {
     }
 
     /// One more hart, of at most 8, with this PCC.
-    #[tactic(auto, unfolding(crate::specs::Draft::add_hart))]
     fn add_hart(&mut self, pcc: Value) -> Result<(), LineFault>
         ensures { FillsLine result self.new (add_hart self.old pcc) }
     {
@@ -162,7 +162,6 @@ impl Draft {
     }
 
     /// One more hart, whose PCC has these parts.
-    #[tactic(auto, unfolding(crate::specs::Draft::with_hart))]
     pub fn with_hart(&mut self, parts: CapParts) -> Result<(), LineFault>
         ensures { FillsLine result self.new (with_hart self.old parts) }
     {
@@ -171,7 +170,6 @@ impl Draft {
     }
 
     /// The value of a register of the latest hart, not of `c0`, of which no hart keeps a value.
-    #[tactic(auto, unfolding(crate::specs::Draft::set_register))]
     fn set_register(&mut self, reg: Reg, value: Value) -> Result<(), LineFault>
         ensures { FillsLine result self.new (set_register self.old reg value) }
     {
@@ -188,7 +186,6 @@ impl Draft {
     }
 
     /// The same of a register that was not set before.
-    #[tactic(auto, unfolding(crate::specs::Draft::with_set))]
     pub fn with_set(&mut self, reg: Reg, setting: Setting) -> Result<(), LineFault>
         ensures { FillsLine result self.new (with_set self.old reg setting) }
     {
@@ -200,7 +197,6 @@ impl Draft {
     }
 
     /// At most 4,096 bytes, stored from an address on, wholly in RAM.
-    #[tactic(auto, unfolding(crate::specs::Draft::with_bytes))]
     pub fn with_bytes(&mut self, addr: u64, stored: Data) -> Result<(), LineFault>
         ensures { FillsLine result self.new (with_bytes self.old addr stored) }
     {
@@ -214,11 +210,10 @@ impl Draft {
     }
 
     /// A capability of these parts in the granule at an address.
-    #[tactic(auto, unfolding(crate::specs::Draft::with_capability))]
     pub fn with_capability(&mut self, addr: u64, parts: CapParts) -> Result<(), LineFault>
         ensures { FillsLine result self.new (with_capability self.old addr parts) }
     {
-        if !self.ram.fits(addr, 16) {
+        if !self.ram.fits(addr, u64::from(GRANULE_BYTES)) {
             return Err(LineFault::Kind(ListingFaultKind::Range));
         }
         let value = parts.capability()?;
@@ -227,8 +222,7 @@ impl Draft {
         Ok(())
     }
 
-    /// One more instruction, of at most 16,384.
-    #[tactic(auto, unfolding(crate::specs::Draft::with_instruction))]
+    /// One more instruction, of at most `MAX_INSTRUCTIONS`.
     pub fn with_instruction(&mut self, instr: Instr) -> Result<(), LineFault>
         ensures { FillsLine result self.new (with_instruction self.old instr) }
     {

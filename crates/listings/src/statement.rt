@@ -1,8 +1,9 @@
 //! What one line of a listing makes of what the lines before it made.
+#![tactic(auto, unfolding(crate::proofs::Open::lines))]
 
 ghost use Rattle.std.specs.Prelude.{◌≡◌};
 ghost use Rattle.grammar.specs.Tokens.{texts, token_at};
-ghost use Rattle.grammar.specs.Mnemonics.{mnemonic_of};
+ghost use Rattle.cheri_model.specs.instructions.Names.{mnemonic_of};
 ghost use Rattle.listings.specs.Faults.{FillsLine, GivesLine};
 ghost use Rattle.grammar.specs.Places.{shown};
 ghost use Rattle.listings.specs.Statement.{
@@ -27,12 +28,12 @@ ghost use Rattle.listings.specs.Statement.{
 use crate::draft::{Data, Draft, Setting};
 use crate::fault::LineFault;
 use cheri_model::Reg;
+use cheri_model::names::{Mnemonic, mnemonic_of};
 use grammar::capability::{cap_operands_of, cap_parts_of, cap_tokens};
 use grammar::directives::{Directive, directive_of};
 use grammar::fault::ListingFaultKind;
 use grammar::forms::{counted, form_from};
 use grammar::labels::{Places, is_label_token, label_fault, label_name};
-use grammar::mnemonics::{Mnemonic, mnemonic_of};
 use grammar::numerals::{at_most, number_of};
 use grammar::operands::{TypeOperand, register_of};
 use grammar::tokens::token_at;
@@ -40,7 +41,6 @@ use hex::FromHexError;
 use std::alloc::Global;
 
 /// `.ram N`
-#[tactic(auto, unfolding(crate::specs::Statement::ram_line))]
 fn ram_line(alloc: Global, draft: &mut Draft, tokens: &[&[u8]]) -> Result<(), LineFault>
     ensures { FillsLine result draft.new (ram_line draft.old (texts tokens.now)) }
 {
@@ -50,7 +50,6 @@ fn ram_line(alloc: Global, draft: &mut Draft, tokens: &[&[u8]]) -> Result<(), Li
 }
 
 /// `.hart BASE LEN ADDR PERMS`
-#[tactic(auto, unfolding(crate::specs::Statement::hart_line))]
 fn hart_line(draft: &mut Draft, tokens: &[&[u8]]) -> Result<(), LineFault>
     ensures { FillsLine result draft.new (hart_line draft.old (texts tokens.now)) }
 {
@@ -61,7 +60,6 @@ fn hart_line(draft: &mut Draft, tokens: &[&[u8]]) -> Result<(), LineFault>
 }
 
 /// A register other than `c0`.
-#[tactic(auto, unfolding(crate::specs::Statement::settable_register_of))]
 fn settable_register_of(token: &[u8]) -> Result<Reg, ListingFaultKind>
     ensures { result ≡ settable_register_of token.now }
 {
@@ -73,7 +71,6 @@ fn settable_register_of(token: &[u8]) -> Result<Reg, ListingFaultKind>
 }
 
 /// `V` of a line of 4 tokens, up to a limit.
-#[tactic(auto, unfolding(crate::specs::Statement::word_setting))]
 fn word_setting(limit: u128, tokens: &[&[u8]]) -> Result<Setting, ListingFaultKind>
     ensures { result ≡ word_setting limit (texts tokens.now) }
 {
@@ -83,7 +80,6 @@ fn word_setting(limit: u128, tokens: &[&[u8]]) -> Result<Setting, ListingFaultKi
 }
 
 /// `BASE LEN ADDR PERMS [TYPE]`
-#[tactic(auto, unfolding(crate::specs::Statement::capability_setting))]
 fn capability_setting(tokens: &[&[u8]]) -> Result<Setting, ListingFaultKind>
     ensures { result ≡ capability_setting (texts tokens.now) }
 {
@@ -92,7 +88,6 @@ fn capability_setting(tokens: &[&[u8]]) -> Result<Setting, ListingFaultKind>
 }
 
 /// `int V`, `word V` or `cap ..`
-#[tactic(auto, unfolding(crate::specs::Statement::setting_of))]
 fn setting_of(tokens: &[&[u8]]) -> Result<Setting, ListingFaultKind>
     ensures { result ≡ setting_of (texts tokens.now) }
 {
@@ -109,7 +104,6 @@ fn setting_of(tokens: &[&[u8]]) -> Result<Setting, ListingFaultKind>
 }
 
 /// `.set cN int V`, `.set cN word V`, `.set cN cap BASE LEN ADDR PERMS [TYPE]`
-#[tactic(auto, unfolding(crate::specs::Statement::set_line))]
 fn set_line(draft: &mut Draft, tokens: &[&[u8]]) -> Result<(), LineFault>
     ensures { FillsLine result draft.new (set_line draft.old (texts tokens.now)) }
 {
@@ -119,7 +113,6 @@ fn set_line(draft: &mut Draft, tokens: &[&[u8]]) -> Result<(), LineFault>
 }
 
 /// The bytes of an even count of hexadecimal digits, not empty.
-#[tactic(auto, unfolding(crate::specs::Statement::hex_bytes))]
 fn hex_bytes(alloc: Global, token: &[u8]) -> Result<Data, LineFault>
     ensures { GivesLine result (hex_bytes token.now) }
 {
@@ -134,7 +127,6 @@ fn hex_bytes(alloc: Global, token: &[u8]) -> Result<Data, LineFault>
 }
 
 /// `.bytes A HEX`
-#[tactic(auto, unfolding(crate::specs::Statement::bytes_line))]
 fn bytes_line(alloc: Global, draft: &mut Draft, tokens: &[&[u8]]) -> Result<(), LineFault>
     ensures { FillsLine result draft.new (bytes_line draft.old (texts tokens.now)) }
 {
@@ -146,7 +138,6 @@ fn bytes_line(alloc: Global, draft: &mut Draft, tokens: &[&[u8]]) -> Result<(), 
 }
 
 /// `.cap A BASE LEN ADDR PERMS [TYPE]`
-#[tactic(auto, unfolding(crate::specs::Statement::cap_line))]
 fn cap_line(draft: &mut Draft, tokens: &[&[u8]]) -> Result<(), LineFault>
     ensures { FillsLine result draft.new (cap_line draft.old (texts tokens.now)) }
 {
@@ -176,7 +167,6 @@ fn directive_line(
 }
 
 /// An instruction and its operands.
-#[tactic(auto, unfolding(crate::specs::Statement::instruction_line))]
 fn instruction_line(
     places: &Places<'_>,
     draft: &mut Draft,
@@ -191,7 +181,6 @@ fn instruction_line(
 }
 
 /// `name:`, alone on its line, which has this number.
-#[tactic(auto, unfolding(crate::specs::Statement::label_line))]
 fn label_line(
     places: &Places<'_>,
     number: usize,

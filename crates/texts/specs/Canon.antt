@@ -1,5 +1,6 @@
 -- The canonical listing of an image (this project's own format).
-use Rattle.std.specs.Prelude.{ℕ, ◌+◌, ◌-◌, ◌/◌, ◌%◌, ◌^◌, ◌==◌, Bool, true, false, if◌then◌else◌, List, [], ◌∷◌, codes, decimal, bit_and}
+use Rattle.std.specs.Prelude.{ℕ, ◌+◌, ◌-◌, ◌/◌, ◌%◌, ◌^◌, ◌==◌, Bool, true, false, if◌then◌else◌}
+use Rattle.std.specs.Prelude.{List, [], ◌∷◌, codes, decimal, bit_and}
 use Rattle.std.specs.Fmt.{digits}
 use Rattle.std.specs.Int.{to_le_bytes, to_be_bytes, w64}
 use Rattle.hex.specs.Hex.{encode_lower}
@@ -26,7 +27,8 @@ hex_number n = codes "0x" +++ digits 16 false n
 unfoldable pub joined_text : Bool → ℕ → List (List ℕ × ℕ) → List ℕ
 joined_text begun perms [] = []
 joined_text begun perms (row ∷ rows) =
-    if bit_and perms row.1 == row.1 then (if begun then codes "+" else []) +++ row.0 +++ joined_text true perms rows
+    if bit_and perms row.1 == row.1 then
+    (if begun then codes "+" else []) +++ row.0 +++ joined_text true perms rows
     else joined_text begun perms rows
 
 -- `all`, `none`, or the names in bit order
@@ -39,18 +41,23 @@ perms_text perms =
 -- nothing for an unsealed capability
 unfoldable pub type_text : ℕ → List ℕ
 type_text otype =
-    if otype == unsealed_type then [] else if otype == sentry_type then codes " sentry" else codes " " +++ decimal otype
+    if otype == unsealed_type then []
+    else if otype == sentry_type then codes " sentry"
+    else codes " " +++ decimal otype
 
 -- BASE LEN ADDR PERMS [TYPE]
 unfoldable pub cap_text : Capability → List ℕ
 cap_text c =
-    hex_number c.base +++ codes " " +++ decimal (c.top - c.base) +++ codes " " +++ hex_number c.addr +++ codes " "
+    hex_number c.base +++ codes " " +++ decimal (c.top - c.base) +++ codes " " +++ hex_number c.addr
+    +++ codes " "
     +++ perms_text c.perms +++ type_text c.otype
 
--- the address and the upper half of a word as a granule has them in memory, the least significant byte first
+-- the address and the upper half of a word as a granule has them in memory, the least significant
+-- byte first
 abbrev pub memory_text : ℕ → List ℕ
 memory_text bits =
-    encode_lower (to_le_bytes w64 (bits % 2 ^ 64)) +++ encode_lower (to_le_bytes w64 (bits / 2 ^ 64))
+    encode_lower (to_le_bytes w64 (bits % 2 ^ 64))
+    +++ encode_lower (to_le_bytes w64 (bits / 2 ^ 64))
 
 -- a word of which the upper half is not 0: that half without leading zeros, and 16 more digits
 abbrev pub word_text : ℕ → List ℕ
@@ -59,8 +66,10 @@ word_text bits = hex_number (bits / 2 ^ 64) +++ encode_lower (to_be_bytes w64 (b
 -- a granule's line
 unfoldable pub granule_line : ℕ × CapValue → List ℕ
 granule_line g =
-    if tag_of g.1 then codes ".cap " +++ hex_number g.0 +++ codes " " +++ cap_text (parts_of g.1) +++ codes "\n"
-    else codes ".bytes " +++ hex_number g.0 +++ codes " " +++ memory_text (bits_of g.1) +++ codes "\n"
+    if tag_of g.1 then
+    codes ".cap " +++ hex_number g.0 +++ codes " " +++ cap_text (parts_of g.1) +++ codes "\n"
+    else
+    codes ".bytes " +++ hex_number g.0 +++ codes " " +++ memory_text (bits_of g.1) +++ codes "\n"
 
 -- what a register is set to: `int` where the upper half is 0
 unfoldable pub setting_text : CapValue → List ℕ
@@ -72,14 +81,17 @@ setting_text v =
 -- a null register has no line
 unfoldable pub register_line : ℕ → CapValue → List ℕ
 register_line number v =
-    if is_listed v then codes ".set c" +++ decimal number +++ codes " " +++ setting_text v +++ codes "\n" else []
+    if is_listed v then
+    codes ".set c" +++ decimal number +++ codes " " +++ setting_text v +++ codes "\n"
+    else []
 
 unfoldable pub register_lines : ℕ → List CapValue → List ℕ
 register_lines number [] = []
 register_lines number (v ∷ values) = register_line number v +++ register_lines (number + 1) values
 
 unfoldable pub hart_lines : HartImage → List ℕ
-hart_lines hart = codes ".hart " +++ cap_text (parts_of hart.pcc) +++ codes "\n" +++ register_lines 1 hart.regs
+hart_lines hart =
+    codes ".hart " +++ cap_text (parts_of hart.pcc) +++ codes "\n" +++ register_lines 1 hart.regs
 
 -- an instruction's line
 unfoldable pub program_line : Instr → List ℕ

@@ -1,10 +1,14 @@
 -- The images that have a listing: what listings can write (this project's own format).
-use Rattle.std.specs.Prelude.{◌≡◌, ⊤, ℕ, ℤ, pos, negsuc, ◌*◌, ◌-◌, ◌^◌, ◌<◌, ◌≤◌, true, List, length, Ok}
+use Rattle.std.specs.Prelude.{◌≡◌, ⊤, ℕ, ℤ, pos, negsuc, ◌*◌, ◌^◌, ◌<◌, ◌≤◌, true, List, length, Ok}
 use Rattle.std.specs.List.{AllByRecursion}
 use Rattle.cheri_model.specs.declared.image.HartImage.{HartImage}
 use Rattle.cheri_model.specs.declared.image.TheConstants.{MAX_HARTS, MAX_INSTRUCTIONS}
 use Rattle.cheri_model.specs.declared.form.Form.{Form}
-use Rattle.cheri_model.specs.declared.form.Form.TheVariants.{Three, Two, Immediate, Shift, WordShift, SetBoundsImm, Upper, Load, Store, Swap, Branch, Jump, Invoke, Alone}
+use Rattle.cheri_model.specs.declared.form.Form.TheVariants as form
+use Rattle.cheri_model.specs.declared.memory.TheConstants.{GRANULE_BYTES}
+use Rattle.cheri_model.specs.declared.operands.TheConstants.{MAX_IMMEDIATE, MAX_SHIFT}
+use Rattle.cheri_model.specs.declared.operands.TheConstants.{MAX_WORD_SHIFT, MAX_IMMEDIATE_LENGTH}
+use Rattle.cheri_model.specs.declared.operands.TheConstants.{MAX_UPPER_IMMEDIATE}
 use Rattle.cheri_model.specs.instructions.Form.{form_of}
 use Rattle.cap_model.specs.values.Capability.{IsLawful, unsealed_type}
 use Rattle.cap_model.specs.values.CapValue.{CapValue, valid, raw}
@@ -27,34 +31,36 @@ pub record IsWritableHart (hart : HartImage) : Type 0 where
   pub count : length hart.regs ≡ 31
   pub values : AllByRecursion IsWritable hart.regs
 
--- an immediate from -2,048 to 2,047
+-- an immediate of 12 bits
 abbrev pub Is12Bits : ℤ → Type 0
-Is12Bits (pos n) = n ≤ 2047
-Is12Bits (negsuc n) = n ≤ 2047
+Is12Bits (pos n) = n ≤ MAX_IMMEDIATE
+Is12Bits (negsuc n) = n ≤ MAX_IMMEDIATE
 
 -- operands in their ranges, in a listing with this many instruction lines
 abbrev pub IsReadable : ℕ → Form → Type 0
-IsReadable count (Three op cd c1 c2) = (cd < 32) × (c1 < 32) × (c2 < 32)
-IsReadable count (Two op cd c1) = (cd < 32) × (c1 < 32)
-IsReadable count (Immediate op cd c1 imm) = (cd < 32) × (c1 < 32) × Is12Bits imm
-IsReadable count (Shift op cd c1 amount) = (cd < 32) × (c1 < 32) × (amount ≤ 63)
-IsReadable count (WordShift op cd c1 amount) = (cd < 32) × (c1 < 32) × (amount ≤ 31)
-IsReadable count (SetBoundsImm cd c1 len) = (cd < 32) × (c1 < 32) × (len ≤ 4095)
-IsReadable count (Upper op cd imm) = (cd < 32) × (imm ≤ 2 ^ 20 - 1)
-IsReadable count (Load op cd c1 imm) = (cd < 32) × (c1 < 32) × Is12Bits imm
-IsReadable count (Store op c2 c1 imm) = (c2 < 32) × (c1 < 32) × Is12Bits imm
-IsReadable count (Swap cd c2 c1) = (cd < 32) × (c2 < 32) × (c1 < 32)
-IsReadable count (Branch op c1 c2 target) = (c1 < 32) × (c2 < 32) × (target ≤ count)
-IsReadable count (Jump cd target) = (cd < 32) × (target ≤ count)
-IsReadable count (Invoke c1 c2) = (c1 < 32) × (c2 < 32)
-IsReadable count Alone = ⊤
+IsReadable count (form.Three op cd c1 c2) = (cd < 32) × (c1 < 32) × (c2 < 32)
+IsReadable count (form.Two op cd c1) = (cd < 32) × (c1 < 32)
+IsReadable count (form.Immediate op cd c1 imm) = (cd < 32) × (c1 < 32) × Is12Bits imm
+IsReadable count (form.Shift op cd c1 amount) = (cd < 32) × (c1 < 32) × (amount ≤ MAX_SHIFT)
+IsReadable count (form.WordShift op cd c1 amount) =
+    (cd < 32) × (c1 < 32) × (amount ≤ MAX_WORD_SHIFT)
+IsReadable count (form.SetBoundsImm cd c1 len) =
+    (cd < 32) × (c1 < 32) × (len ≤ MAX_IMMEDIATE_LENGTH)
+IsReadable count (form.Upper op cd imm) = (cd < 32) × (imm ≤ MAX_UPPER_IMMEDIATE)
+IsReadable count (form.Load op cd c1 imm) = (cd < 32) × (c1 < 32) × Is12Bits imm
+IsReadable count (form.Store op c2 c1 imm) = (c2 < 32) × (c1 < 32) × Is12Bits imm
+IsReadable count (form.Swap cd c2 c1) = (cd < 32) × (c2 < 32) × (c1 < 32)
+IsReadable count (form.Branch op c1 c2 target) = (c1 < 32) × (c2 < 32) × (target ≤ count)
+IsReadable count (form.Jump cd target) = (cd < 32) × (target ≤ count)
+IsReadable count (form.Invoke c1 c2) = (c1 < 32) × (c2 < 32)
+IsReadable count form.Alone = ⊤
 
--- Memory is of writable values, of which the image lists those worth it; so are the harts; the instructions are in
--- their ranges; and there are as many of each as an image may have.
+-- Memory is of writable values, of which the image lists those worth it; so are the harts; the
+-- instructions are in their ranges; and there are as many of each as an image may have.
 pub record IsListable (image : ImageParts) : Type 0 where
   pub memory : List CapValue
   pub size : is_ram_size image.ram ≡ true
-  pub whole : image.ram ≡ 16 * length memory
+  pub whole : image.ram ≡ GRANULE_BYTES * length memory
   pub listed : image.granules ≡ listed_from ram_base memory
   pub values : AllByRecursion IsWritable memory
   pub writable_harts : AllByRecursion IsWritableHart image.harts
@@ -67,4 +73,5 @@ pub record IsListable (image : ImageParts) : Type 0 where
 -- Where some listing means an image, a text that is no longer than a listing may be means it again.
 abbrev pub ReadsBack : ImageParts → List ℕ → Type 0
 ReadsBack image text =
-    (listing : List ℕ) → listing_meaning listing ≡ Ok image → length text ≤ listing_limit → listing_meaning text ≡ Ok image
+    (listing : List ℕ) → listing_meaning listing ≡ Ok image → length text ≤ listing_limit
+    → listing_meaning text ≡ Ok image

@@ -1,4 +1,5 @@
 //! Writing the canonical listing of an image.
+#![tactic(auto, unfolding(crate::proofs::Open::canon))]
 
 ghost use Rattle.std.specs.Prelude.{
   ◌≡◌,
@@ -84,7 +85,6 @@ fn write_names(out: &mut String, perms: Perms) -> Result<(), NoMemory>
 }
 
 /// Appends a permission set.
-#[tactic(auto, unfolding(crate::specs::Canon::perms_text))]
 fn write_perms(out: &mut String, perms: Perms) -> Result<(), NoMemory>
     ensures { OnOk result (string_bytes out.new ≡ string_bytes out.old ++ perms_text perms.0) }
 {
@@ -98,7 +98,6 @@ fn write_perms(out: &mut String, perms: Perms) -> Result<(), NoMemory>
 }
 
 /// Appends an object type, unless it is unsealed.
-#[tactic(auto, unfolding(crate::specs::Canon::type_text))]
 fn write_type(out: &mut String, otype: OType) -> Result<(), NoMemory>
     ensures { OnOk result (string_bytes out.new ≡ string_bytes out.old ++ type_text otype) }
 {
@@ -111,7 +110,6 @@ fn write_type(out: &mut String, otype: OType) -> Result<(), NoMemory>
 }
 
 /// Appends what `make_sealed` would make the capability of.
-#[tactic(auto, unfolding(crate::specs::Canon::cap_text))]
 fn write_cap(out: &mut String, cap: Cap) -> Result<(), NoMemory>
     ensures { OnOk result (string_bytes out.new ≡ string_bytes out.old ++ cap_text (parts_of cap)) }
 {
@@ -132,7 +130,6 @@ fn write_bytes(alloc: Global, out: &mut String, bytes: &[u8]) -> Result<(), NoMe
 }
 
 /// Appends the line of a granule.
-#[tactic(auto, unfolding(crate::specs::Canon::granule_line))]
 fn write_granule(alloc: Global, out: &mut String, addr: u64, value: Value) -> Result<(), NoMemory>
     ensures { OnOk result (string_bytes out.new
         ≡ string_bytes out.old ++ granule_line (addr, value)) }
@@ -150,7 +147,6 @@ fn write_granule(alloc: Global, out: &mut String, addr: u64, value: Value) -> Re
 }
 
 /// Appends what a register is set to.
-#[tactic(auto, unfolding(crate::specs::Canon::setting_text))]
 fn write_setting(alloc: Global, out: &mut String, value: Value) -> Result<(), NoMemory>
     ensures { OnOk result (string_bytes out.new ≡ string_bytes out.old ++ setting_text value) }
 {
@@ -167,7 +163,6 @@ fn write_setting(alloc: Global, out: &mut String, value: Value) -> Result<(), No
 }
 
 /// Appends the line of a register, if it is not null.
-#[tactic(auto, unfolding(crate::specs::Canon::register_line))]
 fn write_register(
     alloc: Global,
     out: &mut String,
@@ -198,7 +193,6 @@ fn write_registers(alloc: Global, out: &mut String, values: &[Value]) -> Result<
 }
 
 /// Appends the lines of a hart.
-#[tactic(auto, unfolding(crate::specs::Canon::hart_lines))]
 fn write_hart(alloc: Global, out: &mut String, hart: &HartImage) -> Result<(), NoMemory>
     ensures { OnOk result (string_bytes out.new ≡ string_bytes out.old ++ hart_lines hart.now) }
 {
@@ -235,7 +229,6 @@ fn write_harts(alloc: Global, out: &mut String, harts: &[HartImage]) -> Result<(
 }
 
 /// Appends the line of an instruction.
-#[tactic(auto, unfolding(crate::specs::Canon::program_line))]
 fn write_instruction(out: &mut String, instr: Instr) -> Result<(), NoMemory>
     ensures { OnOk result (string_bytes out.new ≡ string_bytes out.old ++ program_line instr) }
 {
@@ -255,7 +248,6 @@ fn write_instructions(out: &mut String, program: &[Instr]) -> Result<(), NoMemor
 }
 
 /// Appends the lines of an image.
-#[tactic(auto, unfolding(crate::specs::Canon::canon))]
 fn write_image(alloc: Global, out: &mut String, image: &Image) -> Result<(), NoMemory>
     ensures { OnOk result (string_bytes out.new ≡ string_bytes out.old ++ canon image.now) }
 {

@@ -1,9 +1,13 @@
--- Instructions by the form of their operands: each has one form, and each form gives its instruction back.
+-- Instructions by the form of their operands: each has one form, and each form gives its
+-- instruction back.
 use Rattle.std.specs.Prelude.{ℕ, ℤ}
 use Rattle.cheri_model.specs.declared.instr.Instr.{Instr}
 use Rattle.cheri_model.specs.declared.instr.Instr.TheVariants as instr
 use Rattle.cheri_model.specs.declared.form.Form.{Form}
-use Rattle.cheri_model.specs.declared.form.Form.TheVariants.{Three, Two, Immediate, Shift, WordShift, SetBoundsImm, Upper, Load, Store, Swap, Branch, Jump, Invoke, Alone}
+use Rattle.cheri_model.specs.declared.form.Form.TheVariants.{Three, Two, Immediate, Shift}
+use Rattle.cheri_model.specs.declared.form.Form.TheVariants.{WordShift, SetBoundsImm, Upper, Load}
+use Rattle.cheri_model.specs.declared.form.Form.TheVariants.{Store, Swap, Branch, Jump, Invoke}
+use Rattle.cheri_model.specs.declared.form.Form.TheVariants.{Alone}
 use Rattle.cheri_model.specs.declared.form.ThreeOp.{ThreeOp}
 use Rattle.cheri_model.specs.declared.form.ThreeOp.TheVariants as three_op
 use Rattle.cheri_model.specs.declared.form.TwoOp.{TwoOp}

@@ -1,5 +1,5 @@
--- The integer operations (RISC-V unprivileged ISA, "RV64I"), on numbers below 2^64. A number is read as signed, and
--- a signed one is written back, in two's complement.
+-- The integer operations (RISC-V unprivileged ISA, "RV64I"), on numbers below 2^64. A number is
+-- read as signed, and a signed one is written back, in two's complement.
 use Rattle.std.specs.Prelude.{ℕ, ℤ, ◌+◌, ◌-◌, ◌*◌, ◌/◌, ◌%◌, ◌^◌, Bool}
 use Rattle.std.specs.Int.{cast_signed, cast_unsigned, w8, w16, w32, w64, int_shr}
 use Rattle.std.specs.Int.RustNames.{int_lt}
@@ -30,7 +30,8 @@ shifted_right a amount = a / 2 ^ (amount % 64)
 unfoldable pub shifted_arithmetic : ℕ → ℕ → ℕ
 shifted_arithmetic a amount = cast_unsigned w64 (int_shr (cast_signed w64 a) (amount % 64))
 
--- the word forms: on the low 32 bits, with the result of 32 bits sign-extended, and shifts modulo 32
+-- the word forms: on the low 32 bits, with the result of 32 bits sign-extended, and shifts modulo
+-- 32
 unfoldable pub extended_word : ℕ → ℕ
 extended_word n = cast_unsigned w64 (cast_signed w32 (n % 2 ^ 32))
 
@@ -47,7 +48,8 @@ unfoldable pub word_shifted_right : ℕ → ℕ → ℕ
 word_shifted_right a amount = extended_word (a % 2 ^ 32 / 2 ^ (amount % 32))
 
 unfoldable pub word_shifted_arithmetic : ℕ → ℕ → ℕ
-word_shifted_arithmetic a amount = cast_unsigned w64 (int_shr (cast_signed w32 (a % 2 ^ 32)) (amount % 32))
+word_shifted_arithmetic a amount =
+    cast_unsigned w64 (int_shr (cast_signed w32 (a % 2 ^ 32)) (amount % 32))
 
 -- what LUI writes and AUIPC adds: the immediate times 2^12, of 32 bits, sign-extended
 unfoldable pub upper_immediate : ℕ → ℕ

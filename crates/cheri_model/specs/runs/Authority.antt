@@ -1,6 +1,7 @@
--- Authority: what a tagged capability can reach, and that every one of a run lies within one that was there before
--- (CHERI ISA v9, "capability monotonicity").
-use Rattle.std.specs.Prelude.{◌≡◌, ℕ, ◌/◌, ◌%◌, ◌^◌, ◌<◌, ◌≤◌, ◌⊎◌, List, [], ◌∷◌, ◌++◌, map, All, Contains, ⊤}
+-- Authority: what a tagged capability can reach, and that every one of a run lies within one that
+-- was there before (CHERI ISA v9, "capability monotonicity").
+use Rattle.std.specs.Prelude.{◌≡◌, ℕ, ◌/◌, ◌%◌, ◌^◌, ◌<◌, ◌≤◌, ◌⊎◌, List, [], ◌∷◌, ◌++◌, map, All}
+use Rattle.std.specs.Prelude.{Contains, ⊤}
 use Rattle.std.specs.List.{flat_map}
 use Rattle.cheri_model.specs.declared.image.HartImage.{HartImage}
 use Rattle.cheri_model.specs.declared.operation.Event.{Event}
@@ -12,20 +13,22 @@ use Rattle.cheri_model.specs.runs.Image.{ImageParts}
 use Rattle.cheri_model.specs.runs.Machine.{MachineState}
 use Rattle.cheri_model.specs.runs.Replay.{operations_of, replayed_state}
 
--- a capability may seal with an object type: the type is in its bounds, and it has Seal, which is permission 7
+-- a capability may seal with an object type: the type is in its bounds, and it has Seal, which is
+-- permission 7
 pub record CanSealWith (d : Capability) (otype : ℕ) : Type 0 where
   pub base : d.base ≤ otype
   pub top : otype < d.top
   pub seal : d.perms / 2 ^ 7 % 2 ≡ 1
 
--- an object type comes from a tagged capability among these values, which has it or may seal with it
+-- an object type comes from a tagged capability among these values, which has it or may seal with
+-- it
 pub record IsGrantedType (sources : List CapValue) (otype : ℕ) : Type 0 where
   pub source : Capability
   pub held : Contains sources (valid source)
   pub by : (otype ≡ source.otype) ⊎ CanSealWith source otype
 
--- A capability lies within some tagged one among these values, and its object type, if it is one that can be sealed
--- with, comes from some tagged one among them.
+-- A capability lies within some tagged one among these values, and its object type, if it is one
+-- that can be sealed with, comes from some tagged one among them.
 pub record IsGranted (sources : List CapValue) (c : Capability) : Type 0 where
   pub source : Capability
   pub held : Contains sources (valid source)
@@ -77,7 +80,9 @@ IsConfinedTo before state = EachOfState (IsGrantedValue (values_of_state before)
 abbrev pub alone : HartState → List CapValue → MachineState
 alone hart memory = record { harts = hart ∷ []; memory = memory }
 
--- for every beginning of a trace, every tagged value of a state is granted by the values that its replay left
+-- for every beginning of a trace, every tagged value of a state is granted by the values that its
+-- replay left
 abbrev pub IsMonotone : ImageParts → List Event → MachineState → Type 0
 IsMonotone image trace state =
-    (before later : List Event) → trace ≡ before ++ later → IsConfinedTo (replayed_state image (operations_of before)) state
+    (before later : List Event) → trace ≡ before ++ later
+    → IsConfinedTo (replayed_state image (operations_of before)) state

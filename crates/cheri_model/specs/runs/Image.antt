@@ -7,7 +7,8 @@ use Rattle.cap_model.specs.values.CapValue.{CapValue}
 use Rattle.cheri_model.specs.steps.Memory.{cleared_memory, store_capability}
 use Rattle.cheri_model.specs.steps.Hart.{HartState, null}
 
--- the parts of an image: RAM's size in bytes; the granules that are tagged or not all 0, each with its address
+-- the parts of an image: RAM's size in bytes; the granules that are tagged or not all 0, each with
+-- its address
 pub record ImageParts : Type 0 where
   pub program : List Instr
   pub ram : ℕ

@@ -1,5 +1,6 @@
 -- The abstract machine: the state of all harts and the memory, and its operations.
-use Rattle.std.specs.Prelude.{ℕ, ◌+◌, Bool, true, false, ◌&&◌, nat_lt, List, [], length, map, sum_by, slice_index_or, slice_set}
+use Rattle.std.specs.Prelude.{ℕ, ◌+◌, Bool, true, false, ◌&&◌, nat_lt, List, [], length, map}
+use Rattle.std.specs.Prelude.{sum_by, slice_index_or, slice_set}
 use Rattle.cheri_model.specs.declared.operation.Op.{Op}
 use Rattle.cheri_model.specs.declared.operation.Op.TheVariants as operation
 use Rattle.cheri_model.specs.declared.operation.Event.{Event}
@@ -12,7 +13,8 @@ use Rattle.cap_model.specs.results.Addresses.{address_of}
 use Rattle.cheri_model.specs.steps.Hart.{HartState, null}
 use Rattle.cheri_model.specs.steps.HartStep.{Stepped, hart_step}
 use Rattle.cheri_model.specs.runs.Image.{ImageParts, opening_hart, opening_memory}
-use Rattle.cheri_model.specs.runs.Sweeps.{is_range, swept_hart, swept_memory, cleared_in_hart, cleared_in_memory}
+use Rattle.cheri_model.specs.runs.Sweeps.{is_range, swept_hart, swept_memory, cleared_in_hart}
+use Rattle.cheri_model.specs.runs.Sweeps.{cleared_in_memory}
 
 pub record MachineState : Type 0 where
   pub harts : List HartState
@@ -20,7 +22,10 @@ pub record MachineState : Type 0 where
 
 unfoldable pub opening_state : ImageParts → MachineState
 opening_state image =
-    record { harts = map opening_hart image.harts; memory = opening_memory image.ram image.granules }
+    record {
+      harts = map opening_hart image.harts;
+      memory = opening_memory image.ram image.granules;
+    }
 
 abbrev pub is_running : Status → Bool
 is_running Running = true
@@ -65,7 +70,8 @@ swept_state lo hi state =
 
 -- how many tags it clears: in registers, in PCCs and in granules
 unfoldable pub cleared : ℕ → ℕ → MachineState → ℕ
-cleared lo hi state = sum_by (cleared_in_hart lo hi) state.harts + cleared_in_memory lo hi state.memory
+cleared lo hi state =
+    sum_by (cleared_in_hart lo hi) state.harts + cleared_in_memory lo hi state.memory
 
 -- the state after an operation
 unfoldable pub state_after_one : ImageParts → MachineState → Op → MachineState

@@ -1,13 +1,15 @@
--- Replay: an order of operations run from an image, one after another. These equations are what the machine is
--- compared with at every moment.
-use Rattle.std.specs.Prelude.{◌≡◌, ℕ, ◌==◌, Bool, true, false, ◌&&◌, List, [], ◌∷◌, ◌++◌, map, fold, count_by, IsTrue}
+-- Replay: an order of operations run from an image, one after another. These equations are what the
+-- machine is compared with at every moment.
+use Rattle.std.specs.Prelude.{◌≡◌, ℕ, ◌==◌, Bool, true, false, ◌&&◌, List, [], ◌∷◌, ◌++◌, map, fold}
+use Rattle.std.specs.Prelude.{count_by, IsTrue}
 use Rattle.cheri_model.specs.declared.operation.Op.{Op}
 use Rattle.cheri_model.specs.declared.operation.Op.TheVariants as operation
 use Rattle.cheri_model.specs.declared.operation.Event.{Event}
 use Rattle.cheri_model.specs.declared.operation.Event.TheVariants as event
 use Rattle.cheri_model.specs.declared.trace.Entry.{Entry}
 use Rattle.cheri_model.specs.runs.Image.{ImageParts}
-use Rattle.cheri_model.specs.runs.Machine.{MachineState, opening_state, may_take, state_after_step, entry_of, state_after_one, event_of}
+use Rattle.cheri_model.specs.runs.Machine.{MachineState, opening_state, may_take, state_after_step}
+use Rattle.cheri_model.specs.runs.Machine.{entry_of, state_after_one, event_of}
 
 -- the state after an order, run from this one
 unfoldable pub state_after : ImageParts → MachineState → List Op → MachineState
@@ -23,7 +25,8 @@ events_of image state (op ∷ order) =
 -- an order is legal where each operation may be taken in its turn
 unfoldable pub is_legal : ImageParts → MachineState → List Op → Bool
 is_legal image state [] = true
-is_legal image state (op ∷ order) = may_take state op && is_legal image (state_after_one image state op) order
+is_legal image state (op ∷ order) =
+    may_take state op && is_legal image (state_after_one image state op) order
 
 -- the replay of an order from the image's opening state: the state it leaves, and its events
 unfoldable pub replayed_state : ImageParts → List Op → MachineState
@@ -39,7 +42,8 @@ state_after_steps image state numbers = fold (state_after_step image) state numb
 unfoldable pub entries_of_steps : ImageParts → MachineState → List ℕ → List Entry
 entries_of_steps image state [] = []
 entries_of_steps image state (number ∷ numbers) =
-    entry_of image state number ∷ entries_of_steps image (state_after_step image state number) numbers
+    entry_of image state number
+    ∷ entries_of_steps image (state_after_step image state number) numbers
 
 -- the operation that an event records: a step of its hart, or a sweep of its range
 abbrev pub operation_of : Event → Op
@@ -64,6 +68,7 @@ pub record IsReplay (image : ImageParts) (trace : List Event) (now : MachineStat
   pub events : trace ≡ replayed_events image (operations_of trace)
   pub legal : IsTrue (is_legal image (opening_state image) (operations_of trace))
 
--- one list of events, or of operations, is a beginning of another: the other is this one followed by some list
+-- one list of events, or of operations, is a beginning of another: the other is this one followed
+-- by some list
 abbrev pub IsBeginning : {A : Type 0} → List A → List A → Type 0
 IsBeginning {A} before after = (later : List A) × (after ≡ before ++ later)

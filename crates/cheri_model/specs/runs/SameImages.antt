@@ -16,4 +16,5 @@ abbrev pub same_images : ImageParts → ImageParts → Bool
 same_images =
     eq_of_both (on (λ i. i.program) (pointwise (instr.ghosts).eq))
     (eq_of_both (on (λ i. i.ram) nat_eq)
-    (eq_of_both (on (λ i. i.granules) (pointwise same_granules)) (on (λ i. i.harts) (pointwise (hart.ghosts).eq))))
+    (eq_of_both (on (λ i. i.granules) (pointwise same_granules))
+    (on (λ i. i.harts) (pointwise (hart.ghosts).eq))))

@@ -1,5 +1,6 @@
--- Sweeps: clearing the tag of every capability whose base lies in a range of addresses, so that what was freed can be
--- given out again (revocation, as in CheriBSD and Cornucopia; that a sweep is one event is this project's own).
+-- Sweeps: clearing the tag of every capability whose base lies in a range of addresses, so that
+-- what was freed can be given out again (revocation, as in CheriBSD and Cornucopia; that a sweep is
+-- one event is this project's own).
 use Rattle.std.specs.Prelude.{ℕ, nat_le, Bool, ◌&&◌, List, ◌∷◌, map, count_by}
 use Rattle.cap_model.specs.declared.encoding.TheConstants.{ADDRESS_SPACE}
 use Rattle.cap_model.specs.values.CapValue.{CapValue, tag_of}
@@ -13,7 +14,8 @@ is_range lo hi = nat_le lo hi && nat_le hi ADDRESS_SPACE
 
 -- a hart after it: its registers and PCC; it may have stopped
 unfoldable pub swept_hart : ℕ → ℕ → HartState → HartState
-swept_hart lo hi hart = record hart { regs = map (swept lo hi) hart.regs; pcc = swept lo hi hart.pcc }
+swept_hart lo hi hart =
+    record hart { regs = map (swept lo hi) hart.regs; pcc = swept lo hi hart.pcc }
 
 -- a memory after it
 unfoldable pub swept_memory : ℕ → ℕ → List CapValue → List CapValue

@@ -1,6 +1,7 @@
--- The table of instructions: what each asks of the machine, its sources read before anything is written
--- (CHERI ISA v9, "CHERI-RISC-V instructions"; RISC-V unprivileged ISA, "RV64I").
-use Rattle.std.specs.Prelude.{ℕ, ℤ, ◌+◌, ◌*◌, ◌/◌, ◌%◌, ◌^◌, ◌==◌, nat_lt, Bool, true, false, not, bit_and, bit_or, bit_xor}
+-- The table of instructions: what each asks of the machine, its sources read before anything is
+-- written (CHERI ISA v9, "CHERI-RISC-V instructions"; RISC-V unprivileged ISA, "RV64I").
+use Rattle.std.specs.Prelude.{ℕ, ℤ, ◌+◌, ◌*◌, ◌/◌, ◌%◌, ◌^◌, ◌==◌, nat_lt, Bool, true, false, not}
+use Rattle.std.specs.Prelude.{bit_and, bit_or, bit_xor}
 use Rattle.cheri_model.specs.declared.instr.Instr.{Instr}
 use Rattle.cheri_model.specs.declared.instr.Instr.TheVariants as instr
 use Rattle.cheri_model.specs.declared.width.Width.{Width}
@@ -8,14 +9,20 @@ use Rattle.cheri_model.specs.declared.width.Width.TheVariants.{Byte, Half, Word,
 use Rattle.cap_model.specs.bounds.Alignment.{representable_length, alignment_mask}
 use Rattle.cap_model.specs.values.CapValue.{CapValue, tag_of}
 use Rattle.cap_model.specs.results.Addresses.{address_of, length_of}
-use Rattle.cap_model.specs.results.Readings.{number_of, permissions_of, type_number_of, base_of, high_of, flags_of, offset_of, is_sealed, is_subset, is_equal_exact}
-use Rattle.cap_model.specs.results.CapInstructions.{CapInstruction, CMove, CClearTag, CSetAddr, CIncOffset, CSetBounds, CSetBoundsExact, CAndPerm, CSetFlags, CSetHigh, CSeal, CUnseal, CSealEntry, CBuildCap, capability_result}
-use Rattle.cheri_model.specs.instructions.Integers.{immediate, sum, difference, is_less_signed, shifted_left, shifted_right, shifted_arithmetic, word_sum, word_difference, word_shifted_left, word_shifted_right, word_shifted_arithmetic, upper_immediate}
+use Rattle.cap_model.specs.results.Readings.{number_of, permissions_of, type_number_of, base_of}
+use Rattle.cap_model.specs.results.Readings.{high_of, flags_of, offset_of, is_sealed, is_subset}
+use Rattle.cap_model.specs.results.Readings.{is_equal_exact}
+use Rattle.cap_model.specs.results.CapInstructions as cap
+use Rattle.cheri_model.specs.instructions.Integers.{immediate, sum, difference, is_less_signed}
+use Rattle.cheri_model.specs.instructions.Integers.{shifted_left, shifted_right, shifted_arithmetic}
+use Rattle.cheri_model.specs.instructions.Integers.{word_sum, word_difference, word_shifted_left}
+use Rattle.cheri_model.specs.instructions.Integers.{word_shifted_right, word_shifted_arithmetic}
+use Rattle.cheri_model.specs.instructions.Integers.{upper_immediate}
 use Rattle.cheri_model.specs.steps.Checks.{code_base}
 use Rattle.cheri_model.specs.steps.Hart.{HartState, register, integer, word_of_integer}
 
--- Registers are numbers, of which c1 is the one that an access or a jump goes through; addresses and targets are
--- modulo 2^64.
+-- Registers are numbers, of which c1 is the one that an access or a jump goes through; addresses
+-- and targets are modulo 2^64.
 pub data Action : Type 0 where
   -- write this value to cd
   Put : (cd : ℕ) (value : CapValue) → Action
@@ -33,18 +40,19 @@ pub data Action : Type 0 where
   Branch : (taken : Bool) (target : ℕ) → Action
   -- go to the target, and leave a link in cd
   Jump : (cd target : ℕ) → Action
-  -- go to the target through a capability, and leave a link in cd; with no offset a sentry is one too
+  -- go to the target through a capability, and leave a link in cd; with no offset a sentry is one
+  -- too
   JumpThrough : (cd c1 : ℕ) (is_entry : Bool) (target : ℕ) → Action
   -- go to the target through a sealed pair of code and data
   Invoke : (c1 c2 target : ℕ) → Action
   Halt : Action
 
 -- a capability instruction on two registers, and on a register and an integer
-abbrev pub derive : CapInstruction → ℕ → ℕ → ℕ → HartState → Action
-derive i cd c1 c2 hart = Put cd (capability_result i (register hart c1) (register hart c2))
+abbrev pub derive : cap.CapInstruction → ℕ → ℕ → ℕ → HartState → Action
+derive i cd c1 c2 hart = Put cd (cap.capability_result i (register hart c1) (register hart c2))
 
-abbrev pub derive_by : CapInstruction → ℕ → CapValue → ℕ → Action
-derive_by i cd v number = Put cd (capability_result i v (word_of_integer number))
+abbrev pub derive_by : cap.CapInstruction → ℕ → CapValue → ℕ → Action
+derive_by i cd v number = Put cd (cap.capability_result i v (word_of_integer number))
 
 -- an integer of one value, of two registers, and of a register and a number
 abbrev pub read : (CapValue → ℕ) → ℕ → ℕ → HartState → Action
@@ -69,7 +77,8 @@ unfoldable pub address_of_target : ℕ → ℕ
 address_of_target number = (code_base + 4 * number) % 2 ^ 64
 
 abbrev pub branch : (ℕ → ℕ → Bool) → ℕ → ℕ → ℕ → HartState → Action
-branch test c1 c2 target hart = Branch (test (integer hart c1) (integer hart c2)) (address_of_target target)
+branch test c1 c2 target hart =
+    Branch (test (integer hart c1) (integer hart c2)) (address_of_target target)
 
 -- comparisons as numbers
 abbrev pub less_signed : ℕ → ℕ → ℕ
@@ -80,22 +89,23 @@ less a b = number_of (nat_lt a b)
 
 unfoldable pub action : Instr → HartState → Action
 -- capability values
-action (instr.CMove cd c1) hart = derive CMove cd c1 c1 hart
-action (instr.CClearTag cd c1) hart = derive CClearTag cd c1 c1 hart
-action (instr.CSetAddr cd c1 c2) hart = derive CSetAddr cd c1 c2 hart
-action (instr.CIncOffset cd c1 c2) hart = derive CIncOffset cd c1 c2 hart
-action (instr.CIncOffsetImm cd c1 imm) hart = derive_by CIncOffset cd (register hart c1) (immediate imm)
-action (instr.CSetBounds cd c1 c2) hart = derive CSetBounds cd c1 c2 hart
-action (instr.CSetBoundsImm cd c1 len) hart = derive_by CSetBounds cd (register hart c1) len
-action (instr.CSetBoundsExact cd c1 c2) hart = derive CSetBoundsExact cd c1 c2 hart
-action (instr.CAndPerm cd c1 c2) hart = derive CAndPerm cd c1 c2 hart
-action (instr.CSetFlags cd c1 c2) hart = derive CSetFlags cd c1 c2 hart
-action (instr.CSetHigh cd c1 c2) hart = derive CSetHigh cd c1 c2 hart
-action (instr.CSeal cd c1 c2) hart = derive CSeal cd c1 c2 hart
-action (instr.CUnseal cd c1 c2) hart = derive CUnseal cd c1 c2 hart
-action (instr.CBuildCap cd c1 c2) hart = derive CBuildCap cd c1 c2 hart
-action (instr.CSealEntry cd c1) hart = derive CSealEntry cd c1 c1 hart
-action (instr.AuiPcc cd imm) hart = derive_by CIncOffset cd hart.pcc (upper_immediate imm)
+action (instr.CMove cd c1) hart = derive cap.CMove cd c1 c1 hart
+action (instr.CClearTag cd c1) hart = derive cap.CClearTag cd c1 c1 hart
+action (instr.CSetAddr cd c1 c2) hart = derive cap.CSetAddr cd c1 c2 hart
+action (instr.CIncOffset cd c1 c2) hart = derive cap.CIncOffset cd c1 c2 hart
+action (instr.CIncOffsetImm cd c1 imm) hart =
+    derive_by cap.CIncOffset cd (register hart c1) (immediate imm)
+action (instr.CSetBounds cd c1 c2) hart = derive cap.CSetBounds cd c1 c2 hart
+action (instr.CSetBoundsImm cd c1 len) hart = derive_by cap.CSetBounds cd (register hart c1) len
+action (instr.CSetBoundsExact cd c1 c2) hart = derive cap.CSetBoundsExact cd c1 c2 hart
+action (instr.CAndPerm cd c1 c2) hart = derive cap.CAndPerm cd c1 c2 hart
+action (instr.CSetFlags cd c1 c2) hart = derive cap.CSetFlags cd c1 c2 hart
+action (instr.CSetHigh cd c1 c2) hart = derive cap.CSetHigh cd c1 c2 hart
+action (instr.CSeal cd c1 c2) hart = derive cap.CSeal cd c1 c2 hart
+action (instr.CUnseal cd c1 c2) hart = derive cap.CUnseal cd c1 c2 hart
+action (instr.CBuildCap cd c1 c2) hart = derive cap.CBuildCap cd c1 c2 hart
+action (instr.CSealEntry cd c1) hart = derive cap.CSealEntry cd c1 c1 hart
+action (instr.AuiPcc cd imm) hart = derive_by cap.CIncOffset cd hart.pcc (upper_immediate imm)
 -- capability reads
 action (instr.CGetPerm cd c1) hart = read permissions_of cd c1 hart
 action (instr.CGetType cd c1) hart = read type_number_of cd c1 hart
@@ -109,8 +119,10 @@ action (instr.CGetAddr cd c1) hart = read address_of cd c1 hart
 action (instr.CGetHigh cd c1) hart = read high_of cd c1 hart
 action (instr.Crrl cd c1) hart = read (λ v. representable_length (address_of v)) cd c1 hart
 action (instr.Cram cd c1) hart = read (λ v. alignment_mask (address_of v)) cd c1 hart
-action (instr.CTestSubset cd c1 c2) hart = read (λ v. number_of (is_subset v (register hart c2))) cd c1 hart
-action (instr.CSetEqualExact cd c1 c2) hart = read (λ v. number_of (is_equal_exact v (register hart c2))) cd c1 hart
+action (instr.CTestSubset cd c1 c2) hart =
+    read (λ v. number_of (is_subset v (register hart c2))) cd c1 hart
+action (instr.CSetEqualExact cd c1 c2) hart =
+    read (λ v. number_of (is_equal_exact v (register hart c2))) cd c1 hart
 -- integers
 action (instr.Add cd c1 c2) hart = compute sum cd c1 c2 hart
 action (instr.Sub cd c1 c2) hart = compute difference cd c1 c2 hart

@@ -1,9 +1,11 @@
--- Checks before an instruction acts. A table of checks is a list of lines in order; the first that fails is the trap.
--- The causes' numbers and the order of the checks are this project's own (CHERI ISA v9, "capability exceptions",
--- leaves the order to the implementation).
-use Rattle.std.specs.Prelude.{ℕ, ◌-◌, ◌/◌, ◌%◌, ◌==◌, nat_le, nat_lt, Bool, true, false, not, ◌&&◌, ◌||◌, List, [], ◌∷◌, Option, Some, None, Result, Ok, Err, find}
+-- Checks before an instruction acts. A table of checks is a list of lines in order; the first that
+-- fails is the trap. The causes' numbers and the order of the checks are this project's own (CHERI
+-- ISA v9, "capability exceptions", leaves the order to the implementation).
+use Rattle.std.specs.Prelude.{ℕ, ◌-◌, ◌/◌, ◌%◌, ◌==◌, nat_le, nat_lt, Bool, true, false, not, ◌&&◌}
+use Rattle.std.specs.Prelude.{◌||◌, List, [], ◌∷◌, Option, Some, None, Result, Ok, Err, find}
 use Rattle.cheri_model.specs.declared.access.Access.{Access}
-use Rattle.cheri_model.specs.declared.access.Access.TheVariants.{Load, Store, LoadCap, StoreCap, Swap}
+use Rattle.cheri_model.specs.declared.access.Access.TheVariants.{Load, Store, LoadCap, StoreCap}
+use Rattle.cheri_model.specs.declared.access.Access.TheVariants.{Swap}
 use Rattle.cheri_model.specs.declared.code.TheConstants.{CODE_BASE}
 use Rattle.cap_model.specs.declared.permission.TheConstants as permission
 use Rattle.cheri_model.specs.declared.trace.Trap.{Trap}
@@ -96,14 +98,19 @@ is_global None = false
 is_global (Some v) = has_permission v permission.GLOBAL
 
 -- the checks of an access through the register with this number, which holds `auth`
-unfoldable pub access_table : CapValue → ℕ → ℕ → Access → Option CapValue → List CapValue → List CheckLine
+unfoldable pub access_table : CapValue → ℕ → ℕ → Access → Option CapValue → List CapValue
+    → List CheckLine
 access_table auth reg ea kind stored granules =
     check_line (not (tag_of auth)) cause.TAG reg
     ∷ check_line (not (has_type auth unsealed_type)) cause.SEAL reg
     ∷ check_line (is_load kind && not (has_permission auth permission.LOAD)) cause.LOAD reg
     ∷ check_line (is_store kind && not (has_permission auth permission.STORE)) cause.STORE reg
-    ∷ check_line (stores_capability kind && is_tagged stored && not (has_permission auth permission.STORE_CAP)) cause.STORE_CAP reg
-    ∷ check_line (stores_capability kind && is_tagged stored && not (is_global stored) && not (has_permission auth permission.STORE_LOCAL))
+    ∷ check_line
+    (stores_capability kind && is_tagged stored && not (has_permission auth permission.STORE_CAP))
+    cause.STORE_CAP reg
+    ∷ check_line
+    (stores_capability kind && is_tagged stored && not (is_global stored)
+    && not (has_permission auth permission.STORE_LOCAL))
     cause.STORE_LOCAL reg
     ∷ check_line (not (in_bounds auth ea (size_of kind))) cause.LENGTH reg
     ∷ check_line (not (ea % size_of kind == 0)) cause.ALIGNMENT reg
@@ -120,7 +127,9 @@ target_table pcc target = check_line (not (in_bounds pcc target 4)) cause.LENGTH
 unfoldable pub jump_table : CapValue → ℕ → Bool → ℕ → List CheckLine
 jump_table through reg is_entry target =
     check_line (not (tag_of through)) cause.TAG reg
-    ∷ check_line (not (has_type through unsealed_type || (has_type through sentry_type && is_entry))) cause.SEAL reg
+    ∷ check_line
+    (not (has_type through unsealed_type || (has_type through sentry_type && is_entry)))
+    cause.SEAL reg
     ∷ check_line (not (has_permission through permission.EXECUTE)) cause.EXECUTE reg
     ∷ check_line (not (in_bounds through target 4)) cause.LENGTH reg
     ∷ check_line (not (target % 4 == 0)) cause.ALIGNMENT reg

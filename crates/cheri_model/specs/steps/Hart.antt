@@ -1,5 +1,6 @@
 -- The state of one hart: its registers, PCC and whether it runs.
-use Rattle.std.specs.Prelude.{ℕ, ◌+◌, ◌%◌, ◌^◌, ◌==◌, if◌then◌else◌, List, slice_index_or, slice_set}
+use Rattle.std.specs.Prelude.{ℕ, ◌+◌, ◌%◌, ◌^◌, ◌==◌, if◌then◌else◌, List, slice_index_or}
+use Rattle.std.specs.Prelude.{slice_set}
 use Rattle.cheri_model.specs.declared.trace.Status.{Status}
 use Rattle.cap_model.specs.values.CapValue.{CapValue, raw}
 use Rattle.cap_model.specs.results.Addresses.{address_of, with_address}

@@ -1,7 +1,8 @@
--- Tagged memory: a map from granules of 16 bytes to values (CHERI ISA v9, "tags"). RAM begins at 0x8000_0000
--- (this project's own), and granule k has the 16 bytes from there + 16 * k on. The map of n granules is the
--- list of their values.
-use Rattle.std.specs.Prelude.{◌≡◌, ℕ, ◌+◌, ◌-◌, ◌*◌, ◌/◌, ◌%◌, ◌^◌, ◌==◌, nat_lt, nat_le, Bool, true, ◌&&◌, List, length, replicate, slice_index_or, slice_set}
+-- Tagged memory: a map from granules of 16 bytes to values (CHERI ISA v9, "tags"). RAM begins at
+-- 0x8000_0000 (this project's own), and granule k has the 16 bytes from there + 16 * k on. The map
+-- of n granules is the list of their values.
+use Rattle.std.specs.Prelude.{◌≡◌, ℕ, ◌+◌, ◌-◌, ◌*◌, ◌/◌, ◌%◌, ◌^◌, ◌==◌, nat_lt, nat_le, Bool}
+use Rattle.std.specs.Prelude.{true, ◌&&◌, List, length, replicate, slice_index_or, slice_set}
 use Rattle.cheri_model.specs.declared.memory.TheConstants.{RAM_BASE, GRANULE_BYTES, MAX_RAM_BYTES}
 use Rattle.cheri_model.specs.declared.width.Width.{Width}
 use Rattle.cheri_model.specs.declared.width.Width.TheVariants.{Byte, Half, Word, Double}
@@ -36,7 +37,8 @@ cleared_memory bytes = replicate (bytes / GRANULE_BYTES) (raw 0)
 
 -- whether the bytes from an address on, this many, lie wholly in RAM
 abbrev pub is_in_ram : List CapValue → ℕ → ℕ → Bool
-is_in_ram granules addr bytes = nat_le ram_base addr && nat_le (addr + bytes) (ram_base + GRANULE_BYTES * length granules)
+is_in_ram granules addr bytes =
+    nat_le ram_base addr && nat_le (addr + bytes) (ram_base + GRANULE_BYTES * length granules)
 
 -- whether an access of this many bytes, at least one, is aligned to them and lies wholly in RAM
 abbrev pub fits : List CapValue → ℕ → ℕ → Bool
@@ -46,7 +48,8 @@ fits granules addr bytes = nat_lt 0 bytes && (addr % bytes == 0) && is_in_ram gr
 abbrev pub granule_offset : ℕ → ℕ
 granule_offset addr = (addr - ram_base) % GRANULE_BYTES
 
--- the number that this many bytes of a word are, from the byte `offset` on, the least significant first
+-- the number that this many bytes of a word are, from the byte `offset` on, the least significant
+-- first
 unfoldable pub bytes_at : ℕ → ℕ → ℕ → ℕ
 bytes_at word offset bytes = word / 2 ^ (8 * offset) % 2 ^ (8 * bytes)
 
@@ -66,7 +69,8 @@ load_data granules addr bytes =
 unfoldable pub store_data : List CapValue → ℕ → ℕ → ℕ → List CapValue
 store_data granules addr bytes number =
     let k = granule_number addr in
-    slice_set granules k (raw (with_bytes (bits_of (granule_at granules k)) (granule_offset addr) bytes number))
+    let word = bits_of (granule_at granules k) in
+    slice_set granules k (raw (with_bytes word (granule_offset addr) bytes number))
 
 -- a capability load: the granule's value with its tag
 unfoldable pub load_capability : List CapValue → ℕ → CapValue

@@ -10,6 +10,13 @@ ghost use Rattle.cheri_model.specs.declared.memory.TheConstants.{
   MAX_RAM_BYTES,
   RAM_BASE,
 };
+ghost use Rattle.cheri_model.specs.declared.operands.TheConstants.{
+  MAX_IMMEDIATE,
+  MAX_IMMEDIATE_LENGTH,
+  MAX_SHIFT,
+  MAX_UPPER_IMMEDIATE,
+  MAX_WORD_SHIFT,
+};
 
 use crate::trace::Trap;
 
@@ -22,6 +29,15 @@ pub fn machine_numbers()
     ensures ram_base { RAM_BASE ≡ 0x80000000 }
     ensures granule_bytes { GRANULE_BYTES ≡ 16 }
     ensures max_ram_bytes { MAX_RAM_BYTES ≡ 1048576 }
+{}
+
+/// The greatest immediates and shift amounts that an instruction's operands may be.
+pub fn operand_ranges()
+    ensures immediate { MAX_IMMEDIATE ≡ 2047 }
+    ensures shift { MAX_SHIFT ≡ 63 }
+    ensures word_shift { MAX_WORD_SHIFT ≡ 31 }
+    ensures length { MAX_IMMEDIATE_LENGTH ≡ 4095 }
+    ensures upper { MAX_UPPER_IMMEDIATE ≡ 1048575 }
 {}
 
 /// The causes' numbers, in their order, and the register number that means PCC.

@@ -1,5 +1,5 @@
 -- The operands of an instruction that reads without a fault are in their ranges.
-use Rattle.std.proofs.Common.{◌≡◌, ℕ, ◌-◌, ◌^◌, ◌≤◌, List, Result, Ok, Err, subst, arith}
+use Rattle.std.proofs.Common.{◌≡◌, ℕ, ◌≤◌, List, Result, Ok, Err, subst, arith}
 use Rattle.cheri_model.specs.declared.form.Form.{Form}
 use Rattle.cheri_model.specs.declared.form.Form.TheVariants as form
 use Rattle.cheri_model.specs.declared.form.ThreeOp.{ThreeOp}
@@ -11,9 +11,10 @@ use Rattle.cheri_model.specs.declared.form.UpperOp.{UpperOp}
 use Rattle.cheri_model.specs.declared.form.LoadOp.{LoadOp}
 use Rattle.cheri_model.specs.declared.form.StoreOp.{StoreOp}
 use Rattle.cheri_model.specs.declared.form.BranchOp.{BranchOp}
+use Rattle.cheri_model.specs.declared.operands.TheConstants.{MAX_SHIFT, MAX_WORD_SHIFT, MAX_IMMEDIATE_LENGTH, MAX_UPPER_IMMEDIATE}
 use Rattle.grammar.specs.declared.fault.ListingFaultKind.{ListingFaultKind}
-use Rattle.grammar.specs.declared.mnemonics.Mnemonic.{Mnemonic}
-use Rattle.grammar.specs.declared.mnemonics.Mnemonic.TheVariants.{Three, Two, Immediate, Shift, WordShift, SetBoundsImm, Upper, Load, Store, Swap, Branch, Jump, Invoke, Alone}
+use Rattle.cheri_model.specs.declared.names.Mnemonic.{Mnemonic}
+use Rattle.cheri_model.specs.declared.names.Mnemonic.TheVariants.{Three, Two, Immediate, Shift, WordShift, SetBoundsImm, Upper, Load, Store, Swap, Branch, Jump, Invoke, Alone}
 use Rattle.grammar.specs.Faults.{◌>>=◌}
 use Rattle.grammar.specs.Tokens.{token_at}
 use Rattle.grammar.specs.Operands.{register_of, immediate_of, immediate_of_12_bits, immediate_up_to, memory_operand_of}
@@ -57,41 +58,41 @@ immediate_ok count op tokens whole e =
 shift_ok : (count : ℕ) (op : ShiftOp) (tokens : List (List ℕ)) (whole : Form) → shift_form op tokens ≡ Ok whole → IsReadable count whole
 unfolding shift_form
 shift_ok count op tokens whole e =
-    let s0 = then_ok (counted 4 tokens) (λ c. register_of (token_at tokens 1) >>= (λ cd. register_of (token_at tokens 2) >>= (λ c1. immediate_of (token_at tokens 3) >>= (λ size. immediate_up_to 63 size >>= (λ amount. Ok (form.Shift op cd c1 amount)))))) whole e in
-    let s1 = then_ok (register_of (token_at tokens 1)) (λ cd. register_of (token_at tokens 2) >>= (λ c1. immediate_of (token_at tokens 3) >>= (λ size. immediate_up_to 63 size >>= (λ amount. Ok (form.Shift op cd c1 amount))))) whole s0.2 in
-    let s2 = then_ok (register_of (token_at tokens 2)) (λ c1. immediate_of (token_at tokens 3) >>= (λ size. immediate_up_to 63 size >>= (λ amount. Ok (form.Shift op s1.0 c1 amount)))) whole s1.2 in
-    let s3 = then_ok (immediate_of (token_at tokens 3)) (λ size. immediate_up_to 63 size >>= (λ amount. Ok (form.Shift op s1.0 s2.0 amount))) whole s2.2 in
-    let s4 = then_ok (immediate_up_to 63 s3.0) (λ amount. Ok (form.Shift op s1.0 s2.0 amount)) whole s3.2 in
-    subst (OnRead count) s4.2 (register_ok (token_at tokens 1) s1.0 s1.1, register_ok (token_at tokens 2) s2.0 s2.1, up_to_ok 63 s3.0 s4.0 s4.1)
+    let s0 = then_ok (counted 4 tokens) (λ c. register_of (token_at tokens 1) >>= (λ cd. register_of (token_at tokens 2) >>= (λ c1. immediate_of (token_at tokens 3) >>= (λ size. immediate_up_to MAX_SHIFT size >>= (λ amount. Ok (form.Shift op cd c1 amount)))))) whole e in
+    let s1 = then_ok (register_of (token_at tokens 1)) (λ cd. register_of (token_at tokens 2) >>= (λ c1. immediate_of (token_at tokens 3) >>= (λ size. immediate_up_to MAX_SHIFT size >>= (λ amount. Ok (form.Shift op cd c1 amount))))) whole s0.2 in
+    let s2 = then_ok (register_of (token_at tokens 2)) (λ c1. immediate_of (token_at tokens 3) >>= (λ size. immediate_up_to MAX_SHIFT size >>= (λ amount. Ok (form.Shift op s1.0 c1 amount)))) whole s1.2 in
+    let s3 = then_ok (immediate_of (token_at tokens 3)) (λ size. immediate_up_to MAX_SHIFT size >>= (λ amount. Ok (form.Shift op s1.0 s2.0 amount))) whole s2.2 in
+    let s4 = then_ok (immediate_up_to MAX_SHIFT s3.0) (λ amount. Ok (form.Shift op s1.0 s2.0 amount)) whole s3.2 in
+    subst (OnRead count) s4.2 (register_ok (token_at tokens 1) s1.0 s1.1, register_ok (token_at tokens 2) s2.0 s2.1, up_to_ok MAX_SHIFT s3.0 s4.0 s4.1)
 
 word_shift_ok : (count : ℕ) (op : WordShiftOp) (tokens : List (List ℕ)) (whole : Form) → word_shift_form op tokens ≡ Ok whole → IsReadable count whole
 unfolding word_shift_form
 word_shift_ok count op tokens whole e =
-    let s0 = then_ok (counted 4 tokens) (λ c. register_of (token_at tokens 1) >>= (λ cd. register_of (token_at tokens 2) >>= (λ c1. immediate_of (token_at tokens 3) >>= (λ size. immediate_up_to 31 size >>= (λ amount. Ok (form.WordShift op cd c1 amount)))))) whole e in
-    let s1 = then_ok (register_of (token_at tokens 1)) (λ cd. register_of (token_at tokens 2) >>= (λ c1. immediate_of (token_at tokens 3) >>= (λ size. immediate_up_to 31 size >>= (λ amount. Ok (form.WordShift op cd c1 amount))))) whole s0.2 in
-    let s2 = then_ok (register_of (token_at tokens 2)) (λ c1. immediate_of (token_at tokens 3) >>= (λ size. immediate_up_to 31 size >>= (λ amount. Ok (form.WordShift op s1.0 c1 amount)))) whole s1.2 in
-    let s3 = then_ok (immediate_of (token_at tokens 3)) (λ size. immediate_up_to 31 size >>= (λ amount. Ok (form.WordShift op s1.0 s2.0 amount))) whole s2.2 in
-    let s4 = then_ok (immediate_up_to 31 s3.0) (λ amount. Ok (form.WordShift op s1.0 s2.0 amount)) whole s3.2 in
-    subst (OnRead count) s4.2 (register_ok (token_at tokens 1) s1.0 s1.1, register_ok (token_at tokens 2) s2.0 s2.1, up_to_ok 31 s3.0 s4.0 s4.1)
+    let s0 = then_ok (counted 4 tokens) (λ c. register_of (token_at tokens 1) >>= (λ cd. register_of (token_at tokens 2) >>= (λ c1. immediate_of (token_at tokens 3) >>= (λ size. immediate_up_to MAX_WORD_SHIFT size >>= (λ amount. Ok (form.WordShift op cd c1 amount)))))) whole e in
+    let s1 = then_ok (register_of (token_at tokens 1)) (λ cd. register_of (token_at tokens 2) >>= (λ c1. immediate_of (token_at tokens 3) >>= (λ size. immediate_up_to MAX_WORD_SHIFT size >>= (λ amount. Ok (form.WordShift op cd c1 amount))))) whole s0.2 in
+    let s2 = then_ok (register_of (token_at tokens 2)) (λ c1. immediate_of (token_at tokens 3) >>= (λ size. immediate_up_to MAX_WORD_SHIFT size >>= (λ amount. Ok (form.WordShift op s1.0 c1 amount)))) whole s1.2 in
+    let s3 = then_ok (immediate_of (token_at tokens 3)) (λ size. immediate_up_to MAX_WORD_SHIFT size >>= (λ amount. Ok (form.WordShift op s1.0 s2.0 amount))) whole s2.2 in
+    let s4 = then_ok (immediate_up_to MAX_WORD_SHIFT s3.0) (λ amount. Ok (form.WordShift op s1.0 s2.0 amount)) whole s3.2 in
+    subst (OnRead count) s4.2 (register_ok (token_at tokens 1) s1.0 s1.1, register_ok (token_at tokens 2) s2.0 s2.1, up_to_ok MAX_WORD_SHIFT s3.0 s4.0 s4.1)
 
 set_bounds_ok : (count : ℕ) (tokens : List (List ℕ)) (whole : Form) → set_bounds_form tokens ≡ Ok whole → IsReadable count whole
 unfolding set_bounds_form
 set_bounds_ok count tokens whole e =
-    let s0 = then_ok (counted 4 tokens) (λ c. register_of (token_at tokens 1) >>= (λ cd. register_of (token_at tokens 2) >>= (λ c1. immediate_of (token_at tokens 3) >>= (λ size. immediate_up_to 4095 size >>= (λ amount. Ok (form.SetBoundsImm cd c1 amount)))))) whole e in
-    let s1 = then_ok (register_of (token_at tokens 1)) (λ cd. register_of (token_at tokens 2) >>= (λ c1. immediate_of (token_at tokens 3) >>= (λ size. immediate_up_to 4095 size >>= (λ amount. Ok (form.SetBoundsImm cd c1 amount))))) whole s0.2 in
-    let s2 = then_ok (register_of (token_at tokens 2)) (λ c1. immediate_of (token_at tokens 3) >>= (λ size. immediate_up_to 4095 size >>= (λ amount. Ok (form.SetBoundsImm s1.0 c1 amount)))) whole s1.2 in
-    let s3 = then_ok (immediate_of (token_at tokens 3)) (λ size. immediate_up_to 4095 size >>= (λ amount. Ok (form.SetBoundsImm s1.0 s2.0 amount))) whole s2.2 in
-    let s4 = then_ok (immediate_up_to 4095 s3.0) (λ amount. Ok (form.SetBoundsImm s1.0 s2.0 amount)) whole s3.2 in
-    subst (OnRead count) s4.2 (register_ok (token_at tokens 1) s1.0 s1.1, register_ok (token_at tokens 2) s2.0 s2.1, up_to_ok 4095 s3.0 s4.0 s4.1)
+    let s0 = then_ok (counted 4 tokens) (λ c. register_of (token_at tokens 1) >>= (λ cd. register_of (token_at tokens 2) >>= (λ c1. immediate_of (token_at tokens 3) >>= (λ size. immediate_up_to MAX_IMMEDIATE_LENGTH size >>= (λ amount. Ok (form.SetBoundsImm cd c1 amount)))))) whole e in
+    let s1 = then_ok (register_of (token_at tokens 1)) (λ cd. register_of (token_at tokens 2) >>= (λ c1. immediate_of (token_at tokens 3) >>= (λ size. immediate_up_to MAX_IMMEDIATE_LENGTH size >>= (λ amount. Ok (form.SetBoundsImm cd c1 amount))))) whole s0.2 in
+    let s2 = then_ok (register_of (token_at tokens 2)) (λ c1. immediate_of (token_at tokens 3) >>= (λ size. immediate_up_to MAX_IMMEDIATE_LENGTH size >>= (λ amount. Ok (form.SetBoundsImm s1.0 c1 amount)))) whole s1.2 in
+    let s3 = then_ok (immediate_of (token_at tokens 3)) (λ size. immediate_up_to MAX_IMMEDIATE_LENGTH size >>= (λ amount. Ok (form.SetBoundsImm s1.0 s2.0 amount))) whole s2.2 in
+    let s4 = then_ok (immediate_up_to MAX_IMMEDIATE_LENGTH s3.0) (λ amount. Ok (form.SetBoundsImm s1.0 s2.0 amount)) whole s3.2 in
+    subst (OnRead count) s4.2 (register_ok (token_at tokens 1) s1.0 s1.1, register_ok (token_at tokens 2) s2.0 s2.1, up_to_ok MAX_IMMEDIATE_LENGTH s3.0 s4.0 s4.1)
 
 upper_ok : (count : ℕ) (op : UpperOp) (tokens : List (List ℕ)) (whole : Form) → upper_form op tokens ≡ Ok whole → IsReadable count whole
 unfolding upper_form
 upper_ok count op tokens whole e =
-    let s0 = then_ok (counted 3 tokens) (λ c. register_of (token_at tokens 1) >>= (λ cd. immediate_of (token_at tokens 2) >>= (λ size. immediate_up_to (2 ^ 20 - 1) size >>= (λ amount. Ok (form.Upper op cd amount))))) whole e in
-    let s1 = then_ok (register_of (token_at tokens 1)) (λ cd. immediate_of (token_at tokens 2) >>= (λ size. immediate_up_to (2 ^ 20 - 1) size >>= (λ amount. Ok (form.Upper op cd amount)))) whole s0.2 in
-    let s2 = then_ok (immediate_of (token_at tokens 2)) (λ size. immediate_up_to (2 ^ 20 - 1) size >>= (λ amount. Ok (form.Upper op s1.0 amount))) whole s1.2 in
-    let s3 = then_ok (immediate_up_to (2 ^ 20 - 1) s2.0) (λ amount. Ok (form.Upper op s1.0 amount)) whole s2.2 in
-    subst (OnRead count) s3.2 (register_ok (token_at tokens 1) s1.0 s1.1, up_to_ok (2 ^ 20 - 1) s2.0 s3.0 s3.1)
+    let s0 = then_ok (counted 3 tokens) (λ c. register_of (token_at tokens 1) >>= (λ cd. immediate_of (token_at tokens 2) >>= (λ size. immediate_up_to MAX_UPPER_IMMEDIATE size >>= (λ amount. Ok (form.Upper op cd amount))))) whole e in
+    let s1 = then_ok (register_of (token_at tokens 1)) (λ cd. immediate_of (token_at tokens 2) >>= (λ size. immediate_up_to MAX_UPPER_IMMEDIATE size >>= (λ amount. Ok (form.Upper op cd amount)))) whole s0.2 in
+    let s2 = then_ok (immediate_of (token_at tokens 2)) (λ size. immediate_up_to MAX_UPPER_IMMEDIATE size >>= (λ amount. Ok (form.Upper op s1.0 amount))) whole s1.2 in
+    let s3 = then_ok (immediate_up_to MAX_UPPER_IMMEDIATE s2.0) (λ amount. Ok (form.Upper op s1.0 amount)) whole s2.2 in
+    subst (OnRead count) s3.2 (register_ok (token_at tokens 1) s1.0 s1.1, up_to_ok MAX_UPPER_IMMEDIATE s2.0 s3.0 s3.1)
 
 load_ok : (count : ℕ) (op : LoadOp) (tokens : List (List ℕ)) (whole : Form) → load_form op tokens ≡ Ok whole → IsReadable count whole
 unfolding load_form

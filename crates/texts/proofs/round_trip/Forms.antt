@@ -1,5 +1,5 @@
 -- An instruction's text reads back to its form, one lemma for each form of operands.
-use Rattle.std.proofs.Common.{◌≡◌, ℕ, ◌-◌, ◌^◌, ◌<◌, ◌≤◌, List, [], ◌∷◌, Ok, refl, arith}
+use Rattle.std.proofs.Common.{◌≡◌, ℕ, ◌^◌, ◌<◌, ◌≤◌, List, [], ◌∷◌, Ok, refl, arith}
 use Rattle.std.specs.Prelude.{codes, decimal, ℤ}
 use Rattle.std.specs.Fmt.{signed_decimal}
 use Rattle.cheri_model.specs.declared.form.Form.{Form}
@@ -13,17 +13,19 @@ use Rattle.cheri_model.specs.declared.form.UpperOp.{UpperOp}
 use Rattle.cheri_model.specs.declared.form.LoadOp.{LoadOp}
 use Rattle.cheri_model.specs.declared.form.StoreOp.{StoreOp}
 use Rattle.cheri_model.specs.declared.form.BranchOp.{BranchOp}
-use Rattle.grammar.specs.declared.mnemonics.Mnemonic.{Mnemonic}
-use Rattle.grammar.specs.declared.mnemonics.Mnemonic.TheVariants as mnemonic
+use Rattle.cheri_model.specs.declared.names.Mnemonic.{Mnemonic}
+use Rattle.cheri_model.specs.declared.names.Mnemonic.TheVariants as mnemonic
 use Rattle.texts.specs.Listable.{Is12Bits, IsReadable}
+use Rattle.cheri_model.specs.declared.operands.TheConstants.{MAX_SHIFT, MAX_WORD_SHIFT, MAX_IMMEDIATE_LENGTH, MAX_UPPER_IMMEDIATE}
 use Rattle.grammar.specs.Tokens.{token_at}
 use Rattle.grammar.specs.Labels.{PlaceParts}
 use Rattle.grammar.specs.Forms.{counted, three_form, two_form, immediate_form, shift_form, word_shift_form, set_bounds_form, upper_form, load_form, store_form, swap_form, branch_form, jump_form, invoke_form, alone_form, form_from}
-use Rattle.texts.specs.Instructions.{form_text, three_name, two_name, immediate_name, shift_name, word_shift_name, upper_name, load_name, store_name, branch_name}
+use Rattle.cheri_model.specs.instructions.Names.{name_of}
+use Rattle.texts.specs.Instructions.{form_text}
 use Rattle.texts.proofs.round_trip.Lines.{IsLine, last_word, then_space, then_comma}
 use Rattle.texts.proofs.round_trip.Numbers.{decimal_word}
 use Rattle.texts.proofs.round_trip.Operands.{reg_text, register_reads, register_word, signed_reads, signed_in_range, signed_word, plain_reads, up_to_reads, memory_text, memory_reads, memory_word, target_text, target_reads, target_in_range, target_word}
-use Rattle.texts.proofs.round_trip.Names.{IsName, three_named, two_named, immediate_named, shift_named, word_shift_named, upper_named, load_named, store_named, branch_named, set_bounds_named, swap_named, jump_named, invoke_named, alone_named}
+use Rattle.texts.proofs.round_trip.Names.{IsName, named}
 
 -- a text is a line of an instruction's name and operands, which read as a form where there are enough instruction lines
 pub record ReadsAs (count : ℕ) (text : List ℕ) (whole : Form) : Type 0 where
@@ -48,21 +50,21 @@ module _ (name : List ℕ) where
   unfolding immediate_form counted token_at
   immediate_back op cd c1 imm p q r = rw (register_reads cd p, register_reads c1 q, signed_reads imm r, signed_in_range imm r) refl
 
-  shift_back : (op : ShiftOp) (cd c1 amount : ℕ) → cd < 32 → c1 < 32 → amount ≤ 63 → shift_form op (name ∷ reg_text cd ∷ reg_text c1 ∷ decimal amount ∷ []) ≡ Ok (Shift op cd c1 amount)
+  shift_back : (op : ShiftOp) (cd c1 amount : ℕ) → cd < 32 → c1 < 32 → amount ≤ MAX_SHIFT → shift_form op (name ∷ reg_text cd ∷ reg_text c1 ∷ decimal amount ∷ []) ≡ Ok (Shift op cd c1 amount)
   unfolding shift_form counted token_at
-  shift_back op cd c1 amount p q r = rw (register_reads cd p, register_reads c1 q, plain_reads amount (omega arith), up_to_reads amount 63 r) refl
+  shift_back op cd c1 amount p q r = rw (register_reads cd p, register_reads c1 q, plain_reads amount (omega arith), up_to_reads amount MAX_SHIFT r) refl
 
-  word_shift_back : (op : WordShiftOp) (cd c1 amount : ℕ) → cd < 32 → c1 < 32 → amount ≤ 31 → word_shift_form op (name ∷ reg_text cd ∷ reg_text c1 ∷ decimal amount ∷ []) ≡ Ok (WordShift op cd c1 amount)
+  word_shift_back : (op : WordShiftOp) (cd c1 amount : ℕ) → cd < 32 → c1 < 32 → amount ≤ MAX_WORD_SHIFT → word_shift_form op (name ∷ reg_text cd ∷ reg_text c1 ∷ decimal amount ∷ []) ≡ Ok (WordShift op cd c1 amount)
   unfolding word_shift_form counted token_at
-  word_shift_back op cd c1 amount p q r = rw (register_reads cd p, register_reads c1 q, plain_reads amount (omega arith), up_to_reads amount 31 r) refl
+  word_shift_back op cd c1 amount p q r = rw (register_reads cd p, register_reads c1 q, plain_reads amount (omega arith), up_to_reads amount MAX_WORD_SHIFT r) refl
 
-  set_bounds_back : (cd c1 len : ℕ) → cd < 32 → c1 < 32 → len ≤ 4095 → set_bounds_form (name ∷ reg_text cd ∷ reg_text c1 ∷ decimal len ∷ []) ≡ Ok (SetBoundsImm cd c1 len)
+  set_bounds_back : (cd c1 len : ℕ) → cd < 32 → c1 < 32 → len ≤ MAX_IMMEDIATE_LENGTH → set_bounds_form (name ∷ reg_text cd ∷ reg_text c1 ∷ decimal len ∷ []) ≡ Ok (SetBoundsImm cd c1 len)
   unfolding set_bounds_form counted token_at
-  set_bounds_back cd c1 len p q r = rw (register_reads cd p, register_reads c1 q, plain_reads len (omega arith), up_to_reads len 4095 r) refl
+  set_bounds_back cd c1 len p q r = rw (register_reads cd p, register_reads c1 q, plain_reads len (omega arith), up_to_reads len MAX_IMMEDIATE_LENGTH r) refl
 
-  upper_back : (op : UpperOp) (cd imm : ℕ) → cd < 32 → imm ≤ 2 ^ 20 - 1 → upper_form op (name ∷ reg_text cd ∷ decimal imm ∷ []) ≡ Ok (Upper op cd imm)
+  upper_back : (op : UpperOp) (cd imm : ℕ) → cd < 32 → imm ≤ MAX_UPPER_IMMEDIATE → upper_form op (name ∷ reg_text cd ∷ decimal imm ∷ []) ≡ Ok (Upper op cd imm)
   unfolding upper_form counted token_at
-  upper_back op cd imm p q = rw (register_reads cd p, plain_reads imm (omega arith), up_to_reads imm (2 ^ 20 - 1) q) refl
+  upper_back op cd imm p q = rw (register_reads cd p, plain_reads imm (omega arith), up_to_reads imm MAX_UPPER_IMMEDIATE q) refl
 
   load_back : (op : LoadOp) (cd c1 : ℕ) (imm : ℤ) → cd < 32 → c1 < 32 → Is12Bits imm → load_form op (name ∷ reg_text cd ∷ memory_text imm c1 ∷ []) ≡ Ok (Load op cd c1 imm)
   unfolding load_form counted token_at
@@ -98,120 +100,120 @@ pub form_reads : (count : ℕ) (whole : Form) → count < 2 ^ 128 → IsReadable
 unfolding form_text form_from
 form_reads count (Three op cd c1 c2) few h =
     record {
-      name = three_name op;
+      name = name_of (mnemonic.Three op);
       mnemonic = mnemonic.Three op;
       operands = reg_text cd ∷ reg_text c1 ∷ reg_text c2 ∷ [];
-      named = three_named op;
-      line = then_space (three_name op) _ _ (three_named op).word (then_comma (reg_text cd) _ _ (register_word cd h.0) (then_comma (reg_text c1) _ _ (register_word c1 h.1) (last_word (reg_text c2) (register_word c2 h.2))));
-      read = λ places enough. three_back (three_name op) op cd c1 c2 h.0 h.1 h.2;
+      named = named (mnemonic.Three op);
+      line = then_space (name_of (mnemonic.Three op)) _ _ (named (mnemonic.Three op)).word (then_comma (reg_text cd) _ _ (register_word cd h.0) (then_comma (reg_text c1) _ _ (register_word c1 h.1) (last_word (reg_text c2) (register_word c2 h.2))));
+      read = λ places enough. three_back (name_of (mnemonic.Three op)) op cd c1 c2 h.0 h.1 h.2;
     }
 form_reads count (Two op cd c1) few h =
     record {
-      name = two_name op;
+      name = name_of (mnemonic.Two op);
       mnemonic = mnemonic.Two op;
       operands = reg_text cd ∷ reg_text c1 ∷ [];
-      named = two_named op;
-      line = then_space (two_name op) _ _ (two_named op).word (then_comma (reg_text cd) _ _ (register_word cd h.0) (last_word (reg_text c1) (register_word c1 h.1)));
-      read = λ places enough. two_back (two_name op) op cd c1 h.0 h.1;
+      named = named (mnemonic.Two op);
+      line = then_space (name_of (mnemonic.Two op)) _ _ (named (mnemonic.Two op)).word (then_comma (reg_text cd) _ _ (register_word cd h.0) (last_word (reg_text c1) (register_word c1 h.1)));
+      read = λ places enough. two_back (name_of (mnemonic.Two op)) op cd c1 h.0 h.1;
     }
 form_reads count (Immediate op cd c1 imm) few h =
     record {
-      name = immediate_name op;
+      name = name_of (mnemonic.Immediate op);
       mnemonic = mnemonic.Immediate op;
       operands = reg_text cd ∷ reg_text c1 ∷ signed_decimal imm ∷ [];
-      named = immediate_named op;
-      line = then_space (immediate_name op) _ _ (immediate_named op).word (then_comma (reg_text cd) _ _ (register_word cd h.0) (then_comma (reg_text c1) _ _ (register_word c1 h.1) (last_word (signed_decimal imm) (signed_word imm h.2))));
-      read = λ places enough. immediate_back (immediate_name op) op cd c1 imm h.0 h.1 h.2;
+      named = named (mnemonic.Immediate op);
+      line = then_space (name_of (mnemonic.Immediate op)) _ _ (named (mnemonic.Immediate op)).word (then_comma (reg_text cd) _ _ (register_word cd h.0) (then_comma (reg_text c1) _ _ (register_word c1 h.1) (last_word (signed_decimal imm) (signed_word imm h.2))));
+      read = λ places enough. immediate_back (name_of (mnemonic.Immediate op)) op cd c1 imm h.0 h.1 h.2;
     }
 form_reads count (Shift op cd c1 amount) few h =
     record {
-      name = shift_name op;
+      name = name_of (mnemonic.Shift op);
       mnemonic = mnemonic.Shift op;
       operands = reg_text cd ∷ reg_text c1 ∷ decimal amount ∷ [];
-      named = shift_named op;
-      line = then_space (shift_name op) _ _ (shift_named op).word (then_comma (reg_text cd) _ _ (register_word cd h.0) (then_comma (reg_text c1) _ _ (register_word c1 h.1) (last_word (decimal amount) (decimal_word amount (omega (arith, h.2))))));
-      read = λ places enough. shift_back (shift_name op) op cd c1 amount h.0 h.1 h.2;
+      named = named (mnemonic.Shift op);
+      line = then_space (name_of (mnemonic.Shift op)) _ _ (named (mnemonic.Shift op)).word (then_comma (reg_text cd) _ _ (register_word cd h.0) (then_comma (reg_text c1) _ _ (register_word c1 h.1) (last_word (decimal amount) (decimal_word amount (omega (arith, h.2))))));
+      read = λ places enough. shift_back (name_of (mnemonic.Shift op)) op cd c1 amount h.0 h.1 h.2;
     }
 form_reads count (WordShift op cd c1 amount) few h =
     record {
-      name = word_shift_name op;
+      name = name_of (mnemonic.WordShift op);
       mnemonic = mnemonic.WordShift op;
       operands = reg_text cd ∷ reg_text c1 ∷ decimal amount ∷ [];
-      named = word_shift_named op;
-      line = then_space (word_shift_name op) _ _ (word_shift_named op).word (then_comma (reg_text cd) _ _ (register_word cd h.0) (then_comma (reg_text c1) _ _ (register_word c1 h.1) (last_word (decimal amount) (decimal_word amount (omega (arith, h.2))))));
-      read = λ places enough. word_shift_back (word_shift_name op) op cd c1 amount h.0 h.1 h.2;
+      named = named (mnemonic.WordShift op);
+      line = then_space (name_of (mnemonic.WordShift op)) _ _ (named (mnemonic.WordShift op)).word (then_comma (reg_text cd) _ _ (register_word cd h.0) (then_comma (reg_text c1) _ _ (register_word c1 h.1) (last_word (decimal amount) (decimal_word amount (omega (arith, h.2))))));
+      read = λ places enough. word_shift_back (name_of (mnemonic.WordShift op)) op cd c1 amount h.0 h.1 h.2;
     }
 form_reads count (SetBoundsImm cd c1 len) few h =
     record {
-      name = codes "csetboundsimm";
+      name = name_of mnemonic.SetBoundsImm;
       mnemonic = mnemonic.SetBoundsImm;
       operands = reg_text cd ∷ reg_text c1 ∷ decimal len ∷ [];
-      named = set_bounds_named;
-      line = then_space (codes "csetboundsimm") _ _ set_bounds_named.word (then_comma (reg_text cd) _ _ (register_word cd h.0) (then_comma (reg_text c1) _ _ (register_word c1 h.1) (last_word (decimal len) (decimal_word len (omega (arith, h.2))))));
-      read = λ places enough. set_bounds_back (codes "csetboundsimm") cd c1 len h.0 h.1 h.2;
+      named = named mnemonic.SetBoundsImm;
+      line = then_space (name_of mnemonic.SetBoundsImm) _ _ (named mnemonic.SetBoundsImm).word (then_comma (reg_text cd) _ _ (register_word cd h.0) (then_comma (reg_text c1) _ _ (register_word c1 h.1) (last_word (decimal len) (decimal_word len (omega (arith, h.2))))));
+      read = λ places enough. set_bounds_back (name_of mnemonic.SetBoundsImm) cd c1 len h.0 h.1 h.2;
     }
 form_reads count (Upper op cd imm) few h =
     record {
-      name = upper_name op;
+      name = name_of (mnemonic.Upper op);
       mnemonic = mnemonic.Upper op;
       operands = reg_text cd ∷ decimal imm ∷ [];
-      named = upper_named op;
-      line = then_space (upper_name op) _ _ (upper_named op).word (then_comma (reg_text cd) _ _ (register_word cd h.0) (last_word (decimal imm) (decimal_word imm (omega (arith, h.1)))));
-      read = λ places enough. upper_back (upper_name op) op cd imm h.0 h.1;
+      named = named (mnemonic.Upper op);
+      line = then_space (name_of (mnemonic.Upper op)) _ _ (named (mnemonic.Upper op)).word (then_comma (reg_text cd) _ _ (register_word cd h.0) (last_word (decimal imm) (decimal_word imm (omega (arith, h.1)))));
+      read = λ places enough. upper_back (name_of (mnemonic.Upper op)) op cd imm h.0 h.1;
     }
 form_reads count (Load op cd c1 imm) few h =
     record {
-      name = load_name op;
+      name = name_of (mnemonic.Load op);
       mnemonic = mnemonic.Load op;
       operands = reg_text cd ∷ memory_text imm c1 ∷ [];
-      named = load_named op;
-      line = then_space (load_name op) _ _ (load_named op).word (then_comma (reg_text cd) _ _ (register_word cd h.0) (last_word (memory_text imm c1) (memory_word imm c1 h.2 h.1)));
-      read = λ places enough. load_back (load_name op) op cd c1 imm h.0 h.1 h.2;
+      named = named (mnemonic.Load op);
+      line = then_space (name_of (mnemonic.Load op)) _ _ (named (mnemonic.Load op)).word (then_comma (reg_text cd) _ _ (register_word cd h.0) (last_word (memory_text imm c1) (memory_word imm c1 h.2 h.1)));
+      read = λ places enough. load_back (name_of (mnemonic.Load op)) op cd c1 imm h.0 h.1 h.2;
     }
 form_reads count (Store op c2 c1 imm) few h =
     record {
-      name = store_name op;
+      name = name_of (mnemonic.Store op);
       mnemonic = mnemonic.Store op;
       operands = reg_text c2 ∷ memory_text imm c1 ∷ [];
-      named = store_named op;
-      line = then_space (store_name op) _ _ (store_named op).word (then_comma (reg_text c2) _ _ (register_word c2 h.0) (last_word (memory_text imm c1) (memory_word imm c1 h.2 h.1)));
-      read = λ places enough. store_back (store_name op) op c2 c1 imm h.0 h.1 h.2;
+      named = named (mnemonic.Store op);
+      line = then_space (name_of (mnemonic.Store op)) _ _ (named (mnemonic.Store op)).word (then_comma (reg_text c2) _ _ (register_word c2 h.0) (last_word (memory_text imm c1) (memory_word imm c1 h.2 h.1)));
+      read = λ places enough. store_back (name_of (mnemonic.Store op)) op c2 c1 imm h.0 h.1 h.2;
     }
 form_reads count (Swap cd c2 c1) few h =
     record {
-      name = codes "amoswap.c";
+      name = name_of mnemonic.Swap;
       mnemonic = mnemonic.Swap;
       operands = reg_text cd ∷ reg_text c2 ∷ reg_text c1 ∷ [];
-      named = swap_named;
-      line = then_space (codes "amoswap.c") _ _ swap_named.word (then_comma (reg_text cd) _ _ (register_word cd h.0) (then_comma (reg_text c2) _ _ (register_word c2 h.1) (last_word (reg_text c1) (register_word c1 h.2))));
-      read = λ places enough. swap_back (codes "amoswap.c") cd c2 c1 h.0 h.1 h.2;
+      named = named mnemonic.Swap;
+      line = then_space (name_of mnemonic.Swap) _ _ (named mnemonic.Swap).word (then_comma (reg_text cd) _ _ (register_word cd h.0) (then_comma (reg_text c2) _ _ (register_word c2 h.1) (last_word (reg_text c1) (register_word c1 h.2))));
+      read = λ places enough. swap_back (name_of mnemonic.Swap) cd c2 c1 h.0 h.1 h.2;
     }
 form_reads count (Branch op c1 c2 target) few h =
     record {
-      name = branch_name op;
+      name = name_of (mnemonic.Branch op);
       mnemonic = mnemonic.Branch op;
       operands = reg_text c1 ∷ reg_text c2 ∷ target_text target ∷ [];
-      named = branch_named op;
-      line = then_space (branch_name op) _ _ (branch_named op).word (then_comma (reg_text c1) _ _ (register_word c1 h.0) (then_comma (reg_text c2) _ _ (register_word c2 h.1) (last_word (target_text target) (target_word target (omega (arith, h.2))))));
-      read = λ places enough. branch_back (branch_name op) places op c1 c2 target h.0 h.1 (omega (arith, h.2)) (omega (arith, h.2));
+      named = named (mnemonic.Branch op);
+      line = then_space (name_of (mnemonic.Branch op)) _ _ (named (mnemonic.Branch op)).word (then_comma (reg_text c1) _ _ (register_word c1 h.0) (then_comma (reg_text c2) _ _ (register_word c2 h.1) (last_word (target_text target) (target_word target (omega (arith, h.2))))));
+      read = λ places enough. branch_back (name_of (mnemonic.Branch op)) places op c1 c2 target h.0 h.1 (omega (arith, h.2)) (omega (arith, h.2));
     }
 form_reads count (Jump cd target) few h =
     record {
-      name = codes "cjal";
+      name = name_of mnemonic.Jump;
       mnemonic = mnemonic.Jump;
       operands = reg_text cd ∷ target_text target ∷ [];
-      named = jump_named;
-      line = then_space (codes "cjal") _ _ jump_named.word (then_comma (reg_text cd) _ _ (register_word cd h.0) (last_word (target_text target) (target_word target (omega (arith, h.1)))));
-      read = λ places enough. jump_back (codes "cjal") places cd target h.0 (omega (arith, h.1)) (omega (arith, h.1));
+      named = named mnemonic.Jump;
+      line = then_space (name_of mnemonic.Jump) _ _ (named mnemonic.Jump).word (then_comma (reg_text cd) _ _ (register_word cd h.0) (last_word (target_text target) (target_word target (omega (arith, h.1)))));
+      read = λ places enough. jump_back (name_of mnemonic.Jump) places cd target h.0 (omega (arith, h.1)) (omega (arith, h.1));
     }
 form_reads count (Invoke c1 c2) few h =
     record {
-      name = codes "cinvoke";
+      name = name_of mnemonic.Invoke;
       mnemonic = mnemonic.Invoke;
       operands = reg_text c1 ∷ reg_text c2 ∷ [];
-      named = invoke_named;
-      line = then_space (codes "cinvoke") _ _ invoke_named.word (then_comma (reg_text c1) _ _ (register_word c1 h.0) (last_word (reg_text c2) (register_word c2 h.1)));
-      read = λ places enough. invoke_back (codes "cinvoke") c1 c2 h.0 h.1;
+      named = named mnemonic.Invoke;
+      line = then_space (name_of mnemonic.Invoke) _ _ (named mnemonic.Invoke).word (then_comma (reg_text c1) _ _ (register_word c1 h.0) (last_word (reg_text c2) (register_word c2 h.1)));
+      read = λ places enough. invoke_back (name_of mnemonic.Invoke) c1 c2 h.0 h.1;
     }
 form_reads count Alone few h =
-    record { name = codes "ecall"; mnemonic = mnemonic.Alone; operands = []; named = alone_named; line = last_word (codes "ecall") alone_named.word; read = λ places enough. alone_back (codes "ecall") }
+    record { name = name_of mnemonic.Alone; mnemonic = mnemonic.Alone; operands = []; named = named mnemonic.Alone; line = last_word (name_of mnemonic.Alone) (named mnemonic.Alone).word; read = λ places enough. alone_back (name_of mnemonic.Alone) }

@@ -25,7 +25,7 @@ use Rattle.grammar.specs.declared.fault.ListingFaultKind.{ListingFaultKind}
 use Rattle.grammar.specs.declared.fault.ListingFaultKind.TheVariants as kind
 use Rattle.grammar.specs.declared.directives.Directive.{Directive}
 use Rattle.grammar.specs.declared.directives.Directive.TheVariants as directive
-use Rattle.grammar.specs.declared.mnemonics.Mnemonic.{Mnemonic}
+use Rattle.cheri_model.specs.declared.names.Mnemonic.{Mnemonic}
 use Rattle.grammar.specs.declared.labels.Place.{Place}
 use Rattle.grammar.specs.declared.operands.TypeOperand.TheVariants.{Unsealed}
 use Rattle.grammar.specs.declared.operands.TypeOperand.{TypeOperand}
@@ -38,8 +38,9 @@ use Rattle.grammar.specs.Tokens.{tokens_of, token_at}
 use Rattle.grammar.specs.Numerals.{number_of, at_most}
 use Rattle.grammar.specs.Permissions.{permissions_of}
 use Rattle.grammar.specs.Capability.{cap_operands_of, cap_tokens, cap_parts_of}
-use Rattle.grammar.specs.Directives.{found_at, directive_of, directive_table}
-use Rattle.grammar.specs.Mnemonics.{mnemonic_of, mnemonic_table, is_instruction}
+use Rattle.cheri_model.specs.instructions.Tables.{found_at}
+use Rattle.grammar.specs.Directives.{directive_of, directive_table}
+use Rattle.cheri_model.specs.instructions.Names.{mnemonic_of, mnemonic_table, is_instruction}
 use Rattle.grammar.specs.Forms.{counted, form_from}
 use Rattle.grammar.specs.Labels.{PlaceParts, is_label_token, label_name, label_of, label_fault, count_of, labels_from, instruction_lines, places_of}
 use Rattle.grammar.specs.Places.{first_place}

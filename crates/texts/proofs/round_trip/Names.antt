@@ -1,30 +1,21 @@
 -- The names of instructions read back: each is one word that names its instruction and no directive.
 use Rattle.std.proofs.Common.{◌≡◌, List, ℕ, Some, None, refl}
-use Rattle.std.specs.Prelude.{codes}
-use Rattle.cheri_model.specs.declared.form.ThreeOp.{ThreeOp}
 use Rattle.cheri_model.specs.declared.form.ThreeOp.TheVariants as three_op
-use Rattle.cheri_model.specs.declared.form.TwoOp.{TwoOp}
 use Rattle.cheri_model.specs.declared.form.TwoOp.TheVariants as two_op
-use Rattle.cheri_model.specs.declared.form.ImmediateOp.{ImmediateOp}
 use Rattle.cheri_model.specs.declared.form.ImmediateOp.TheVariants as immediate_op
-use Rattle.cheri_model.specs.declared.form.ShiftOp.{ShiftOp}
 use Rattle.cheri_model.specs.declared.form.ShiftOp.TheVariants as shift_op
-use Rattle.cheri_model.specs.declared.form.WordShiftOp.{WordShiftOp}
 use Rattle.cheri_model.specs.declared.form.WordShiftOp.TheVariants as word_shift_op
-use Rattle.cheri_model.specs.declared.form.UpperOp.{UpperOp}
 use Rattle.cheri_model.specs.declared.form.UpperOp.TheVariants as upper_op
-use Rattle.cheri_model.specs.declared.form.LoadOp.{LoadOp}
 use Rattle.cheri_model.specs.declared.form.LoadOp.TheVariants as load_op
-use Rattle.cheri_model.specs.declared.form.StoreOp.{StoreOp}
 use Rattle.cheri_model.specs.declared.form.StoreOp.TheVariants as store_op
-use Rattle.cheri_model.specs.declared.form.BranchOp.{BranchOp}
 use Rattle.cheri_model.specs.declared.form.BranchOp.TheVariants as branch_op
-use Rattle.grammar.specs.declared.mnemonics.Mnemonic.{Mnemonic}
-use Rattle.grammar.specs.declared.mnemonics.Mnemonic.TheVariants.{Three, Two, Immediate, Shift, WordShift, SetBoundsImm, Upper, Load, Store, Swap, Branch, Jump, Invoke, Alone}
+use Rattle.cheri_model.specs.declared.names.Mnemonic.{Mnemonic}
+use Rattle.cheri_model.specs.declared.names.Mnemonic.TheVariants.{Three, Two, Immediate, Shift, WordShift, SetBoundsImm, Upper, Load, Store, Swap, Branch, Jump, Invoke, Alone}
+use Rattle.cheri_model.specs.instructions.Tables.{found_at}
+use Rattle.cheri_model.specs.instructions.Names.{mnemonic_of, mnemonic_table, name_among, name_of}
+use Rattle.cheri_model.proofs.NameLemmas.{names_back}
 use Rattle.grammar.specs.Tokens.{is_blank}
-use Rattle.grammar.specs.Directives.{found_at, directive_of}
-use Rattle.grammar.specs.Mnemonics.{mnemonic_of, mnemonic_table}
-use Rattle.texts.specs.Instructions.{three_name, two_name, immediate_name, shift_name, word_shift_name, upper_name, load_name, store_name, branch_name}
+use Rattle.grammar.specs.Directives.{directive_of}
 use Rattle.texts.proofs.round_trip.Words.{is_open, is_word_byte, IsWord}
 
 pub record IsName (name : List ℕ) (mnemonic : Mnemonic) : Type 0 where
@@ -32,67 +23,59 @@ pub record IsName (name : List ℕ) (mnemonic : Mnemonic) : Type 0 where
   pub found : mnemonic_of name ≡ Some mnemonic
   pub undirected : directive_of name ≡ None
 
-pub three_named : (op : ThreeOp) → IsName (three_name op) (Three op)
-unfolding three_name mnemonic_of mnemonic_table found_at directive_of is_word_byte is_open is_blank
-three_named three_op.CSetAddr = record { word = record { filled = refl; bytes = refl }; found = refl; undirected = refl }
-three_named _ = record { word = record { filled = refl; bytes = refl }; found = refl; undirected = refl }
+-- each name is a word
+name_word : (mnemonic : Mnemonic) → IsWord (name_of mnemonic)
+unfolding name_of name_among mnemonic_table is_word_byte is_open is_blank
+name_word (Three three_op.CSetAddr) = record { filled = refl; bytes = refl }
+name_word (Three _) = record { filled = refl; bytes = refl }
+name_word (Two two_op.CMove) = record { filled = refl; bytes = refl }
+name_word (Two _) = record { filled = refl; bytes = refl }
+name_word (Immediate immediate_op.CIncOffsetImm) = record { filled = refl; bytes = refl }
+name_word (Immediate _) = record { filled = refl; bytes = refl }
+name_word (Shift shift_op.Slli) = record { filled = refl; bytes = refl }
+name_word (Shift _) = record { filled = refl; bytes = refl }
+name_word (WordShift word_shift_op.Slliw) = record { filled = refl; bytes = refl }
+name_word (WordShift _) = record { filled = refl; bytes = refl }
+name_word SetBoundsImm = record { filled = refl; bytes = refl }
+name_word (Upper upper_op.Lui) = record { filled = refl; bytes = refl }
+name_word (Upper _) = record { filled = refl; bytes = refl }
+name_word (Load load_op.Lb) = record { filled = refl; bytes = refl }
+name_word (Load _) = record { filled = refl; bytes = refl }
+name_word (Store store_op.Sb) = record { filled = refl; bytes = refl }
+name_word (Store _) = record { filled = refl; bytes = refl }
+name_word Swap = record { filled = refl; bytes = refl }
+name_word (Branch branch_op.Beq) = record { filled = refl; bytes = refl }
+name_word (Branch _) = record { filled = refl; bytes = refl }
+name_word Jump = record { filled = refl; bytes = refl }
+name_word Invoke = record { filled = refl; bytes = refl }
+name_word Alone = record { filled = refl; bytes = refl }
 
-pub two_named : (op : TwoOp) → IsName (two_name op) (Two op)
-unfolding two_name mnemonic_of mnemonic_table found_at directive_of is_word_byte is_open is_blank
-two_named two_op.CMove = record { word = record { filled = refl; bytes = refl }; found = refl; undirected = refl }
-two_named _ = record { word = record { filled = refl; bytes = refl }; found = refl; undirected = refl }
+-- and no directive's
+no_directive : (mnemonic : Mnemonic) → directive_of (name_of mnemonic) ≡ None
+unfolding name_of name_among mnemonic_table directive_of found_at
+no_directive (Three three_op.CSetAddr) = refl
+no_directive (Three _) = refl
+no_directive (Two two_op.CMove) = refl
+no_directive (Two _) = refl
+no_directive (Immediate immediate_op.CIncOffsetImm) = refl
+no_directive (Immediate _) = refl
+no_directive (Shift shift_op.Slli) = refl
+no_directive (Shift _) = refl
+no_directive (WordShift word_shift_op.Slliw) = refl
+no_directive (WordShift _) = refl
+no_directive SetBoundsImm = refl
+no_directive (Upper upper_op.Lui) = refl
+no_directive (Upper _) = refl
+no_directive (Load load_op.Lb) = refl
+no_directive (Load _) = refl
+no_directive (Store store_op.Sb) = refl
+no_directive (Store _) = refl
+no_directive Swap = refl
+no_directive (Branch branch_op.Beq) = refl
+no_directive (Branch _) = refl
+no_directive Jump = refl
+no_directive Invoke = refl
+no_directive Alone = refl
 
-pub immediate_named : (op : ImmediateOp) → IsName (immediate_name op) (Immediate op)
-unfolding immediate_name mnemonic_of mnemonic_table found_at directive_of is_word_byte is_open is_blank
-immediate_named immediate_op.CIncOffsetImm = record { word = record { filled = refl; bytes = refl }; found = refl; undirected = refl }
-immediate_named _ = record { word = record { filled = refl; bytes = refl }; found = refl; undirected = refl }
-
-pub shift_named : (op : ShiftOp) → IsName (shift_name op) (Shift op)
-unfolding shift_name mnemonic_of mnemonic_table found_at directive_of is_word_byte is_open is_blank
-shift_named shift_op.Slli = record { word = record { filled = refl; bytes = refl }; found = refl; undirected = refl }
-shift_named _ = record { word = record { filled = refl; bytes = refl }; found = refl; undirected = refl }
-
-pub word_shift_named : (op : WordShiftOp) → IsName (word_shift_name op) (WordShift op)
-unfolding word_shift_name mnemonic_of mnemonic_table found_at directive_of is_word_byte is_open is_blank
-word_shift_named word_shift_op.Slliw = record { word = record { filled = refl; bytes = refl }; found = refl; undirected = refl }
-word_shift_named _ = record { word = record { filled = refl; bytes = refl }; found = refl; undirected = refl }
-
-pub upper_named : (op : UpperOp) → IsName (upper_name op) (Upper op)
-unfolding upper_name mnemonic_of mnemonic_table found_at directive_of is_word_byte is_open is_blank
-upper_named upper_op.Lui = record { word = record { filled = refl; bytes = refl }; found = refl; undirected = refl }
-upper_named _ = record { word = record { filled = refl; bytes = refl }; found = refl; undirected = refl }
-
-pub load_named : (op : LoadOp) → IsName (load_name op) (Load op)
-unfolding load_name mnemonic_of mnemonic_table found_at directive_of is_word_byte is_open is_blank
-load_named load_op.Lb = record { word = record { filled = refl; bytes = refl }; found = refl; undirected = refl }
-load_named _ = record { word = record { filled = refl; bytes = refl }; found = refl; undirected = refl }
-
-pub store_named : (op : StoreOp) → IsName (store_name op) (Store op)
-unfolding store_name mnemonic_of mnemonic_table found_at directive_of is_word_byte is_open is_blank
-store_named store_op.Sb = record { word = record { filled = refl; bytes = refl }; found = refl; undirected = refl }
-store_named _ = record { word = record { filled = refl; bytes = refl }; found = refl; undirected = refl }
-
-pub branch_named : (op : BranchOp) → IsName (branch_name op) (Branch op)
-unfolding branch_name mnemonic_of mnemonic_table found_at directive_of is_word_byte is_open is_blank
-branch_named branch_op.Beq = record { word = record { filled = refl; bytes = refl }; found = refl; undirected = refl }
-branch_named _ = record { word = record { filled = refl; bytes = refl }; found = refl; undirected = refl }
-
-pub set_bounds_named : IsName (codes "csetboundsimm") SetBoundsImm
-unfolding mnemonic_of mnemonic_table found_at directive_of is_word_byte is_open is_blank
-set_bounds_named = record { word = record { filled = refl; bytes = refl }; found = refl; undirected = refl }
-
-pub swap_named : IsName (codes "amoswap.c") Swap
-unfolding mnemonic_of mnemonic_table found_at directive_of is_word_byte is_open is_blank
-swap_named = record { word = record { filled = refl; bytes = refl }; found = refl; undirected = refl }
-
-pub jump_named : IsName (codes "cjal") Jump
-unfolding mnemonic_of mnemonic_table found_at directive_of is_word_byte is_open is_blank
-jump_named = record { word = record { filled = refl; bytes = refl }; found = refl; undirected = refl }
-
-pub invoke_named : IsName (codes "cinvoke") Invoke
-unfolding mnemonic_of mnemonic_table found_at directive_of is_word_byte is_open is_blank
-invoke_named = record { word = record { filled = refl; bytes = refl }; found = refl; undirected = refl }
-
-pub alone_named : IsName (codes "ecall") Alone
-unfolding mnemonic_of mnemonic_table found_at directive_of is_word_byte is_open is_blank
-alone_named = record { word = record { filled = refl; bytes = refl }; found = refl; undirected = refl }
+pub named : (mnemonic : Mnemonic) → IsName (name_of mnemonic) mnemonic
+named mnemonic = record { word = name_word mnemonic; found = names_back mnemonic; undirected = no_directive mnemonic }

@@ -1,5 +1,5 @@
 -- Registers, immediates, memory operands and targets read back, and are one word each.
-use Rattle.std.proofs.Common.{◌≡◌, ℕ, zero, suc, subst, inl, inr, ◌^◌, ◌<◌, ◌≤◌, ◌==◌, ◌&&◌, nat_le, Bool, true, false, not, cond, List, [], ◌∷◌, ◌++◌, length, drop, Option, Some, Result, Ok, Err, refl, ap, arith}
+use Rattle.std.proofs.Common.{◌≡◌, ℕ, zero, suc, subst, inl, inr, ◌+◌, ◌^◌, ◌<◌, ◌≤◌, ◌==◌, ◌&&◌, nat_le, Bool, true, false, not, cond, List, [], ◌∷◌, ◌++◌, length, drop, Option, Some, Result, Ok, Err, refl, ap, arith}
 use Rattle.std.specs.Prelude.{ℤ, pos, negsuc, decimal}
 use Rattle.std.specs.Char.{digit_value}
 use Rattle.std.specs.Fmt.{digits, signed_decimal}
@@ -8,6 +8,7 @@ use Rattle.std.specs.Str.Parse.{AllDigits}
 use Rattle.std.proofs.lemmas.Bool.Decides.{nat_tests}
 use Rattle.std.proofs.lemmas.Bool.{cases_lt}
 use Rattle.std.proofs.lemmas.Fmt.{decimal_is_IsNumeral_wide}
+use Rattle.cheri_model.specs.declared.operands.TheConstants.{MAX_IMMEDIATE}
 use Rattle.grammar.specs.declared.fault.ListingFaultKind.{ListingFaultKind}
 use Rattle.grammar.specs.declared.operands.Immediate.{Immediate}
 use Rattle.grammar.specs.declared.labels.TargetOperand.TheVariants.{Number}
@@ -126,8 +127,8 @@ signed_reads (negsuc n) h = minus_reads (suc n) (omega arith)
 
 pub signed_in_range : (z : ℤ) → Is12Bits z → immediate_of_12_bits (operand_of z) ≡ Ok z
 unfolding immediate_of_12_bits
-signed_in_range (pos n) h = rw (in_range n 2047 h) refl
-signed_in_range (negsuc n) h = rw (in_range (suc n) 2048 (omega arith)) refl
+signed_in_range (pos n) h = rw (in_range n MAX_IMMEDIATE h) refl
+signed_in_range (negsuc n) h = rw (in_range (suc n) (MAX_IMMEDIATE + 1) (omega arith)) refl
 
 pub signed_word : (z : ℤ) → Is12Bits z → IsWord (signed_decimal z)
 signed_word (pos n) h = decimal_word n (omega arith)

@@ -14,9 +14,9 @@ use Rattle.cheri_model.proofs.Runs.Instructions.{instr_of-form_of}
 use Rattle.cap_model.specs.values.Capability as capability
 use Rattle.cap_model.specs.values.Capability.{IsLawful, unsealed_type}
 use Rattle.cap_model.specs.values.CapValue.{CapValue, valid, raw}
-use Rattle.grammar.specs.declared.mnemonics.Mnemonic.{Mnemonic}
+use Rattle.cheri_model.specs.declared.names.Mnemonic.{Mnemonic}
 use Rattle.grammar.specs.Tokens.{is_blank, token_at}
-use Rattle.grammar.specs.Mnemonics.{is_instruction}
+use Rattle.cheri_model.specs.instructions.Names.{is_instruction}
 use Rattle.grammar.specs.Labels.{count_of}
 use Rattle.listings.specs.Draft.{DraftParts, no_registers, hart_from}
 use Rattle.texts.specs.Instructions.{form_text}

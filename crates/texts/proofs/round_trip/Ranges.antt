@@ -1,8 +1,9 @@
 -- What a line that reads without a fault says of its operands.
-use Rattle.std.proofs.Common.{◌≡◌, ℕ, zero, suc, ◌-◌, ◌<◌, ◌≤◌, nat_lt, nat_le, Bool, true, false, cond, List, drop, Option, Some, None, Result, Ok, Err, refl, ap, ◌∙◌, subst, arith}
+use Rattle.std.proofs.Common.{◌≡◌, ℕ, zero, suc, ◌+◌, ◌-◌, ◌<◌, ◌≤◌, nat_lt, nat_le, Bool, true, false, cond, List, drop, Option, Some, None, Result, Ok, Err, refl, ap, ◌∙◌, subst, arith}
 use Rattle.std.specs.Prelude.{ℤ, pos, neg_ℤ, slice_index, option_map}
 use Rattle.std.proofs.lemmas.Bool.Decides.{nat_tests}
 use Rattle.cap_model.specs.values.Capability.{unsealed_type, sentry_type, last_sealable_type, IsLawfulType}
+use Rattle.cheri_model.specs.declared.operands.TheConstants.{MAX_IMMEDIATE}
 use Rattle.grammar.specs.declared.fault.ListingFaultKind.{ListingFaultKind}
 use Rattle.grammar.specs.declared.fault.ListingFaultKind.TheVariants as kind
 use Rattle.grammar.specs.declared.operands.Immediate.{Immediate}
@@ -59,21 +60,21 @@ at_most_ok limit (Some m) n e =
     omega arith
 at_most_ok limit None n e = absurd (cc)
 
-negative_12 : (size : ℕ) (z : ℤ) → size ≤ 2048 → neg_ℤ (pos size) ≡ z → Is12Bits z
+negative_12 : (size : ℕ) (z : ℤ) → size ≤ MAX_IMMEDIATE + 1 → neg_ℤ (pos size) ≡ z → Is12Bits z
 negative_12 zero z h e = subst Is12Bits e (omega arith)
 negative_12 (suc n) z h e = subst Is12Bits e (omega arith)
 
-positive_12 : (size : ℕ) (z : ℤ) → size ≤ 2047 → pos size ≡ z → Is12Bits z
+positive_12 : (size : ℕ) (z : ℤ) → size ≤ MAX_IMMEDIATE → pos size ≡ z → Is12Bits z
 positive_12 size z h e = subst Is12Bits e h
 
 twelve_step : (negative : Bool) (size : Option ℕ) (z : ℤ) → immediate_of_12_bits (record { negative = negative; size = size }) ≡ Ok z → Is12Bits z
 unfolding immediate_of_12_bits
 twelve_step true size z e =
-    let read = then_ok (at_most 2048 size) (λ n. Ok (neg_ℤ (pos n))) z e in
-    negative_12 read.0 z (at_most_ok 2048 size read.0 read.1) (let h = read.2 in cc)
+    let read = then_ok (at_most (MAX_IMMEDIATE + 1) size) (λ n. Ok (neg_ℤ (pos n))) z e in
+    negative_12 read.0 z (at_most_ok (MAX_IMMEDIATE + 1) size read.0 read.1) (let h = read.2 in cc)
 twelve_step false size z e =
-    let read = then_ok (at_most 2047 size) (λ n. Ok (pos n)) z e in
-    positive_12 read.0 z (at_most_ok 2047 size read.0 read.1) (let h = read.2 in cc)
+    let read = then_ok (at_most MAX_IMMEDIATE size) (λ n. Ok (pos n)) z e in
+    positive_12 read.0 z (at_most_ok MAX_IMMEDIATE size read.0 read.1) (let h = read.2 in cc)
 
 pub twelve_ok : (imm : Immediate) (z : ℤ) → immediate_of_12_bits imm ≡ Ok z → Is12Bits z
 twelve_ok imm z e = twelve_step imm.negative imm.size z e

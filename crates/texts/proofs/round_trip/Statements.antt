@@ -12,9 +12,10 @@ use Rattle.grammar.specs.declared.directives.Directive.TheVariants as directive
 use Rattle.grammar.specs.declared.operands.TypeOperand.TheVariants.{Unsealed}
 use Rattle.listings.specs.declared.draft.Setting.{Setting}
 use Rattle.listings.specs.declared.draft.Setting.TheVariants.{Word, Capability}
-use Rattle.grammar.specs.declared.mnemonics.Mnemonic.{Mnemonic}
+use Rattle.cheri_model.specs.declared.names.Mnemonic.{Mnemonic}
 use Rattle.grammar.specs.Tokens.{token_at}
-use Rattle.grammar.specs.Directives.{found_at, directive_of}
+use Rattle.cheri_model.specs.instructions.Tables.{found_at}
+use Rattle.grammar.specs.Directives.{directive_of}
 use Rattle.grammar.specs.Labels.{PlaceParts}
 use Rattle.grammar.specs.Operands.{type_operand_of, type_in_range}
 use Rattle.grammar.specs.Capability.{cap_operands_of, optional_type, cap_tokens, cap_parts_of}

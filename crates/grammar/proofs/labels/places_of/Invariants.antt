@@ -1,6 +1,6 @@
 use Rattle.std.proofs.Common.{◌≡◌, ℕ, ◌+◌, ◌≤◌, List, drop, length}
 use Rattle.grammar.specs.Lines.{lines_of}
-use Rattle.grammar.specs.Directives.{found_at}
+use Rattle.cheri_model.specs.instructions.Tables.{found_at}
 use Rattle.grammar.specs.Labels.{labels_from, label_in, instruction_lines}
 use Rattle.grammar.specs.Places.{named_in, first_place}
 use Rattle.grammar.proofs.labels.places_of.Given as goal

@@ -1,5 +1,7 @@
 -- The names of instructions, as listings spell them (this project's own format).
-use Rattle.std.specs.Prelude.{ℕ, ◌==◌, Bool, List, [], ◌∷◌, Option, is_some, filter, slice_index_or, codes}
+use Rattle.std.specs.Prelude.{ℕ, ◌==◌, Bool, List, [], ◌∷◌, Option, Some, None, if◌then◌else◌}
+use Rattle.std.specs.Prelude.{is_some, filter, slice_index_or, codes}
+use Rattle.std.specs.Option.{unwrap_or}
 use Rattle.cheri_model.specs.declared.form.ThreeOp.TheVariants as three_op
 use Rattle.cheri_model.specs.declared.form.TwoOp.TheVariants as two_op
 use Rattle.cheri_model.specs.declared.form.ImmediateOp.TheVariants as immediate_op
@@ -9,9 +11,13 @@ use Rattle.cheri_model.specs.declared.form.UpperOp.TheVariants as upper_op
 use Rattle.cheri_model.specs.declared.form.LoadOp.TheVariants as load_op
 use Rattle.cheri_model.specs.declared.form.StoreOp.TheVariants as store_op
 use Rattle.cheri_model.specs.declared.form.BranchOp.TheVariants as branch_op
-use Rattle.grammar.specs.declared.mnemonics.Mnemonic.{Mnemonic}
-use Rattle.grammar.specs.declared.mnemonics.Mnemonic.TheVariants.{Three, Two, Immediate, Shift, WordShift, SetBoundsImm, Upper, Load, Store, Swap, Branch, Jump, Invoke, Alone}
-use Rattle.grammar.specs.Directives.{found_at}
+use Rattle.cheri_model.specs.declared.names.Mnemonic.{Mnemonic}
+use Rattle.cheri_model.specs.declared.names.Mnemonic.TheVariants.{Three, Two, Immediate, Shift}
+use Rattle.cheri_model.specs.declared.names.Mnemonic.TheVariants.{WordShift, SetBoundsImm, Upper}
+use Rattle.cheri_model.specs.declared.names.Mnemonic.TheVariants.{Load, Store, Swap, Branch, Jump}
+use Rattle.cheri_model.specs.declared.names.Mnemonic.TheVariants.{Invoke, Alone}
+use Rattle.cheri_model.specs.contracts.names.MnemonicPartialEq.TheImpl as same
+use Rattle.cheri_model.specs.instructions.Tables.{found_at}
 
 -- the names by form
 unfoldable pub mnemonic_table : List (List ℕ × Mnemonic)
@@ -111,3 +117,18 @@ mnemonic_of token = found_at mnemonic_table token
 -- whether a token names an instruction
 unfoldable pub is_instruction : List ℕ → Bool
 is_instruction token = is_some (mnemonic_of token)
+
+-- the name that these rows have for an instruction
+unfoldable pub name_among : List (List ℕ × Mnemonic) → Mnemonic → Option (List ℕ)
+name_among [] mnemonic = None
+name_among (row ∷ rows) mnemonic =
+    if (same.ghosts).eq row.1 mnemonic then Some row.0 else name_among rows mnemonic
+
+-- the name that the first of these tables with one has
+unfoldable pub name_in : List (List (List ℕ × Mnemonic)) → Mnemonic → List ℕ
+name_in [] mnemonic = []
+name_in (rows ∷ tables) mnemonic = unwrap_or (name_among rows mnemonic) (name_in tables mnemonic)
+
+-- the name of an instruction: that of its row
+unfoldable pub name_of : Mnemonic → List ℕ
+name_of mnemonic = unwrap_or (name_among mnemonic_table mnemonic) []

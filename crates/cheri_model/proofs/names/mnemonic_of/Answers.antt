@@ -1,7 +1,7 @@
 use Rattle.std.proofs.Common.{◌∙◌, refl, ap}
-use Rattle.grammar.specs.Directives.{found_at}
-use Rattle.grammar.proofs.NameLemmas.{found_by_letter, nothing_named}
-use Rattle.grammar.proofs.mnemonics.mnemonic_of.Goals as goal
+use Rattle.cheri_model.specs.instructions.Tables.{found_at}
+use Rattle.cheri_model.proofs.NameLemmas.{found_by_letter, nothing_named}
+use Rattle.cheri_model.proofs.names.mnemonic_of.Goals as goal
 
 pub returns-in-empty : goal.returns-in-empty
 returns-in-empty c = nothing_named c.args.token.now c.in-empty.len_below

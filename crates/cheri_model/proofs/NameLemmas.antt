@@ -1,12 +1,22 @@
 -- A name is looked up among those that begin with its letter.
-use Rattle.std.proofs.Common.{◌≡◌, ℕ, ◌==◌, ◌<◌, ◌||◌, ◌&&◌, Bool, true, false, List, [], ◌∷◌, None, filter, get_or, length, refl, sym, ap, ◌∙◌, arith}
+use Rattle.std.proofs.Common.{◌≡◌, ℕ, ◌==◌, ◌<◌, ◌||◌, ◌&&◌, Bool, true, false, List, [], ◌∷◌, Some, None, map, filter, get_or, length, refl, sym, ap, ◌∙◌, arith}
 use Rattle.std.specs.Prelude.{bytes_eq}
 use Rattle.std.specs.List.{list_all}
 use Rattle.std.proofs.lemmas.Bool.Decides.{nat_tests}
 use Rattle.std.proofs.lemmas.Slice.Eq.{bytes_eq-Decides}
-use Rattle.grammar.specs.Directives.{found_at}
-use Rattle.grammar.specs.declared.mnemonics.Mnemonic.{Mnemonic}
-use Rattle.grammar.specs.Mnemonics.{mnemonic_table, mnemonic_of, names_from}
+use Rattle.cheri_model.specs.declared.form.ThreeOp.TheVariants as three_op
+use Rattle.cheri_model.specs.declared.form.TwoOp.TheVariants as two_op
+use Rattle.cheri_model.specs.declared.form.ImmediateOp.TheVariants as immediate_op
+use Rattle.cheri_model.specs.declared.form.ShiftOp.TheVariants as shift_op
+use Rattle.cheri_model.specs.declared.form.WordShiftOp.TheVariants as word_shift_op
+use Rattle.cheri_model.specs.declared.form.UpperOp.TheVariants as upper_op
+use Rattle.cheri_model.specs.declared.form.LoadOp.TheVariants as load_op
+use Rattle.cheri_model.specs.declared.form.StoreOp.TheVariants as store_op
+use Rattle.cheri_model.specs.declared.form.BranchOp.TheVariants as branch_op
+use Rattle.cheri_model.specs.instructions.Tables.{found_at}
+use Rattle.cheri_model.specs.declared.names.Mnemonic.{Mnemonic}
+use Rattle.cheri_model.specs.declared.names.Mnemonic.TheVariants.{Three, Two, Immediate, Shift, WordShift, SetBoundsImm, Upper, Load, Store, Swap, Branch, Jump, Invoke, Alone}
+use Rattle.cheri_model.specs.instructions.Names.{mnemonic_table, mnemonic_of, names_from, name_among, name_in, name_of}
 
 begins : ℕ → List ℕ × Mnemonic → Bool
 begins letter row = get_or row.0 0 0 == letter
@@ -63,3 +73,61 @@ pub nothing_named : (token : List ℕ) → length token < 1 → None ≡ mnemoni
 unfolding found_at
 nothing_named [] h = ap (λ rows. found_at rows []) (sym (no_names 0 refl)) ∙ found_by_letter 0 [] refl
 nothing_named (b ∷ token) h = absurd (omega (arith, h))
+
+-- the tables by their letters, in the code's order
+abbrev pub tables_by_letter : List (List (List ℕ × Mnemonic))
+tables_by_letter = map names_from (0x61 ∷ 0x62 ∷ 0x63 ∷ 0x65 ∷ 0x6C ∷ 0x6F ∷ 0x73 ∷ 0x78 ∷ [])
+
+-- an instruction has one name, wherever it is looked for
+pub one_name : (mnemonic : Mnemonic) → name_in tables_by_letter mnemonic ≡ name_of mnemonic
+unfolding name_in name_of name_among names_from mnemonic_table
+one_name (Three three_op.CSetAddr) = refl
+one_name (Three _) = refl
+one_name (Two two_op.CMove) = refl
+one_name (Two _) = refl
+one_name (Immediate immediate_op.CIncOffsetImm) = refl
+one_name (Immediate _) = refl
+one_name (Shift shift_op.Slli) = refl
+one_name (Shift _) = refl
+one_name (WordShift word_shift_op.Slliw) = refl
+one_name (WordShift _) = refl
+one_name SetBoundsImm = refl
+one_name (Upper upper_op.Lui) = refl
+one_name (Upper _) = refl
+one_name (Load load_op.Lb) = refl
+one_name (Load _) = refl
+one_name (Store store_op.Sb) = refl
+one_name (Store _) = refl
+one_name Swap = refl
+one_name (Branch branch_op.Beq) = refl
+one_name (Branch _) = refl
+one_name Jump = refl
+one_name Invoke = refl
+one_name Alone = refl
+
+-- and that names it
+pub names_back : (mnemonic : Mnemonic) → mnemonic_of (name_of mnemonic) ≡ Some mnemonic
+unfolding mnemonic_of name_of found_at name_among mnemonic_table
+names_back (Three three_op.CSetAddr) = refl
+names_back (Three _) = refl
+names_back (Two two_op.CMove) = refl
+names_back (Two _) = refl
+names_back (Immediate immediate_op.CIncOffsetImm) = refl
+names_back (Immediate _) = refl
+names_back (Shift shift_op.Slli) = refl
+names_back (Shift _) = refl
+names_back (WordShift word_shift_op.Slliw) = refl
+names_back (WordShift _) = refl
+names_back SetBoundsImm = refl
+names_back (Upper upper_op.Lui) = refl
+names_back (Upper _) = refl
+names_back (Load load_op.Lb) = refl
+names_back (Load _) = refl
+names_back (Store store_op.Sb) = refl
+names_back (Store _) = refl
+names_back Swap = refl
+names_back (Branch branch_op.Beq) = refl
+names_back (Branch _) = refl
+names_back Jump = refl
+names_back Invoke = refl
+names_back Alone = refl
