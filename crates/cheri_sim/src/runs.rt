@@ -16,8 +16,8 @@ use crate::printing::{flush, print};
 use command_line::ReportForm;
 use hart_step::View;
 use listings::read_listing;
-use machine::{GREATEST_TRACE_LIMIT, SimFault, StepFault, run_order, simulate};
-use orders::read_order;
+use machine::{GREATEST_TRACE_LIMIT, SimFault, StepFault, run_judged, simulate};
+use orders::judge_order;
 use reports::{ReportFault, ToWrite, report_json};
 use std::alloc::Global;
 use std::io::Write;
@@ -46,8 +46,8 @@ fn simulate_json(
     ensures made { IfErr result (λ fault. fault ≢ SimFault.Report ReportFault.Write) }
 {
     let image = read_listing(alloc, listing)?;
-    let operations = read_order(alloc, order)?;
-    let (core, refused) = run_order(alloc, image, operations.as_slice(), GREATEST_TRACE_LIMIT)?;
+    let operations = judge_order(order)?;
+    let (core, refused) = run_judged(alloc, image, operations, GREATEST_TRACE_LIMIT)?;
     let report = json_line(alloc, core.view())?;
     Ok((report, refused))
 }

@@ -20,7 +20,7 @@ mod watches;
 pub use cores::{Core, GREATEST_TRACE_LIMIT};
 pub use faults::{BootFault, OpenFault, StepFault, WatchFault};
 pub use machines::Machine;
-pub use runs::run_order;
+pub use runs::{run_judged, run_order};
 pub use shares::{Blanks, Lane, Naming, Share};
 pub use simulation::{SimFault, simulate};
 pub use watches::{Look, Receipt, Watch};

@@ -7,6 +7,7 @@ ghost use Rattle.machine.specs.Runs.{IsRunOf};
 use crate::cores::Core;
 use crate::faults::{BootFault, StepFault};
 use cheri_model::{Image, Op};
+use orders::JudgedOrder;
 use std::alloc::Global;
 
 /// Boots the image and takes the operations of this order, until one is refused. It takes the
@@ -28,6 +29,28 @@ pub fn run_order(
         if let Err(fault) = core.apply(*op) {
             return Ok((core, Some((place, fault))));
         }
+    }
+    Ok((core, None))
+}
+
+/// As [`run_order`], where the operations of the order are read one by one while they run, so that
+/// the order takes no memory.
+pub fn run_judged(
+    alloc: Global,
+    image: Image,
+    mut order: JudgedOrder<'_>,
+    limit: u32,
+) -> Result<(Core, Option<(usize, StepFault)>), BootFault>
+    ensures limit { (result ≡ Err BootFault.Limit) ↔ (is_limit limit ≡ false) }
+    ensures run { IfOk result (λ run. IsRunOf image order.entry limit run.0 run.1) }
+{
+    let mut core = Core::boot(alloc, image, limit)?;
+    let mut place = 0;
+    while let Some(op) = order.next() {
+        if let Err(fault) = core.apply(op) {
+            return Ok((core, Some((place, fault))));
+        }
+        place += 1;
     }
     Ok((core, None))
 }

@@ -7,9 +7,9 @@ ghost use Rattle.machine.specs.Simulation.{IsShownRun, IsRefusedRun};
 ghost use Rattle.machine.specs.Simulation.{is_reported, failures_of_run};
 
 use crate::faults::{BootFault, StepFault};
-use crate::runs::run_order;
+use crate::runs::run_judged;
 use listings::{ListingFault, read_listing};
-use orders::{OrderFault, read_order};
+use orders::{OrderFault, judge_order};
 use reports::{ReportFault, Sink, write_report};
 use std::alloc::Global;
 
@@ -116,8 +116,8 @@ pub fn simulate<S: Sink>(
     ensures place { S.place out.new ≡ S.place out.old }
 {
     let image = read_listing(alloc, listing)?;
-    let ops = read_order(alloc, order)?;
-    let (core, refused) = run_order(alloc, image, ops.as_slice(), limit)?;
+    let ops = judge_order(order)?;
+    let (core, refused) = run_judged(alloc, image, ops, limit)?;
     write_report(alloc, core.view(), out)?;
     Ok(refused)
 }

@@ -1,5 +1,5 @@
 -- Every operation that an order asks for is a step of one of eight harts, or a sweep of a range.
-use Rattle.std.proofs.Common.{◌≡◌, ℕ, ◌+◌, ◌-◌, ◌<◌, ◌≤◌, Bool, true, false, cond, nat_lt, ◌&&◌, List, [], ◌∷◌, Option, Some, None, Result, Ok, Err, IfSome, IfOk, All, drop, refl, subst, arith}
+use Rattle.std.proofs.Common.{◌≡◌, ℕ, ◌+◌, ◌-◌, ◌≤◌, Bool, true, false, cond, nat_lt, ◌&&◌, List, [], ◌∷◌, Option, Some, None, Result, Ok, Err, IfSome, IfOk, All, length, drop, refl, ap, subst, arith}
 use Rattle.std.specs.List.{cons_option}
 use Rattle.std.proofs.lemmas.Bool.Decides.{nat_tests}
 use Rattle.std.proofs.lemmas.List.Elements.{All-nil, All-cons}
@@ -8,10 +8,10 @@ use Rattle.cheri_model.specs.declared.operation.Op.{Op}
 use Rattle.cheri_model.specs.declared.operation.Op.TheVariants as operation
 use Rattle.cheri_model.specs.runs.Sweeps.{is_range}
 use Rattle.orders.specs.declared.fault.OrderFault.{OrderFault}
-use Rattle.orders.specs.Faults.{◌>>=◌, byte_fault, range_fault}
+use Rattle.orders.specs.Faults.{◌>>=◌, byte_fault, range_fault, size_fault}
 use Rattle.orders.specs.Numbers.{number_of, number_end}
-use Rattle.orders.specs.Sweeps.{sweep_of, sweep_at}
-use Rattle.orders.specs.Orders.{is_hart_digit, is_blank, is_version_2, body_start, token_at, operations_from, within_limit, order_limit, order_of, IsAsked}
+use Rattle.orders.specs.Sweeps.{sweep_at}
+use Rattle.orders.specs.Orders.{is_hart_digit, body_start, token_at, operations_from, within_limit, order_limit, order_of, IsAsked}
 
 abbrev IsAskedToken : Option Op × ℕ → Type 0
 IsAskedToken token = IfSome token.0 IsAsked
@@ -51,6 +51,12 @@ token_asked : (text : List ℕ) (place b : ℕ) → IfOk (token_at text place b)
 unfolding token_at
 token_asked text place b = token_where text place b _ _ _ refl
 
+-- what a token asks for is what can be asked for
+pub asked_of_token : (text : List ℕ) (place b : ℕ) (operation : Option Op) (next : ℕ) → token_at text place b ≡ Ok (operation, next) → IfSome operation IsAsked
+asked_of_token text place b operation next token =
+    let P : Result (Option Op × ℕ) OrderFault → Type 0 = λ r. IfOk r IsAskedToken in
+    subst P token (token_asked text place b)
+
 consed_asked : (operation : Option Op) (later : Result (List Op) OrderFault) → IfSome operation IsAsked → IfOk later (All IsAsked) → IfOk (later >>= (λ l. Ok (cons_option operation l))) (All IsAsked)
 consed_asked (Some op) (Ok l) h rest = All-cons IsAsked op l h rest
 consed_asked None (Ok l) h rest = rest
@@ -86,3 +92,19 @@ unfolding order_of
 order_asked text order e =
     let P : Result (List Op) OrderFault → Type 0 = λ r. IfOk r (All IsAsked) in
     subst P e (limited_asked _ (operations_asked text (body_start text) 0 text))
+
+short_test : (test : Bool) (operations order : List Op) → test ≡ nat_lt order_limit (length operations) → cond test (Err size_fault) (Ok operations) ≡ Ok order → length order ≤ order_limit
+short_test true operations order t e = cc
+short_test false operations order t e =
+    let same : operations ≡ order = cc in
+    let n = ap length same in
+    grind (arith, nat_tests, n)
+
+short_where : (whole : Result (List Op) OrderFault) (order : List Op) → (whole >>= within_limit) ≡ Ok order → length order ≤ order_limit
+short_where (Err fault) order e = cc
+short_where (Ok operations) order e = short_test (nat_lt order_limit (length operations)) operations order refl e
+
+-- an order is not too long
+pub order_short : (text : List ℕ) (order : List Op) → order_of text ≡ Ok order → length order ≤ order_limit
+unfolding order_of
+order_short text order e = short_where (operations_from text (body_start text) 0 text) order e

@@ -1,6 +1,5 @@
 pub mod AskedLemmas
 pub mod NumberLemmas
 pub mod OrderLemmas
-pub mod PushLemmas
 pub mod SweepLemmas
 pub mod TextFaults

@@ -1,28 +1,27 @@
--- An order token by token: the operations so far, of which no more are kept than one above the limit.
-use Rattle.std.proofs.Common.{◌≡◌, ℕ, zero, suc, ◌+◌, ◌-◌, ◌<◌, ◌≤◌, Bool, true, false, nat_lt, List, [], ◌∷◌, ◌++◌, length, take, drop, get_or, slice_index, Option, Some, None, Result, Ok, Err, refl, sym, ap, ◌∙◌, add-one, append_assoc, min, arith}
+-- An order token by token: how many operations there were, and those that are left.
+use Rattle.std.proofs.Common.{◌≡◌, ℕ, zero, suc, ◌+◌, ◌-◌, ◌<◌, ◌≤◌, true, false, nat_lt, List, [], ◌∷◌, length, drop, slice_index, Option, Some, None, Result, Ok, Err, IsOk, MatchOption, refl, sym, ap, ◌∙◌, add-one, arith}
 use Rattle.std.specs.List.{cons_option}
+use Rattle.std.specs.Option.{is_some}
+use mir.Val.{bool_byte}
 use Rattle.std.proofs.Math.Seq.{drop-cons}
 use Rattle.std.proofs.Math.ListN.{drop_of_length-le}
-use Rattle.std.proofs.lemmas.List.{drop-drop, take_all, take-append-le, length-take, length-append, append-nil}
+use Rattle.std.proofs.lemmas.List.{drop-drop}
 use Rattle.std.proofs.lemmas.Bool.Decides.{nat_tests}
 use Rattle.cheri_model.specs.declared.operation.Op.{Op}
 use Rattle.orders.specs.declared.fault.OrderFault.{OrderFault}
 use Rattle.orders.specs.Faults.{◌>>=◌, size_fault}
-use Rattle.orders.specs.Orders.{order_limit, body_start, token_at, operations_from, within_limit, order_of}
+use Rattle.orders.specs.Orders.{order_limit, body_start, token_at, operations_from, from_place, or_none, left_from, within_limit, order_of}
 
--- what is cut off before more is appended would be cut off after it
-pub cut_early : {A : Type 0} (most : ℕ) (some more : List A) → take most (take most some ++ more) ≡ take most (some ++ more)
-cut_early zero some more = refl
-cut_early (suc most) [] more = refl
-cut_early (suc most) (x ∷ some) more = ap (λ rest. x ∷ rest) (cut_early most some more)
+-- some operations counted, and those of a text after them
+abbrev pub counted : ℕ → Result (List Op) OrderFault → Result ℕ OrderFault
+counted count later = later >>= (λ operations. Ok (count + length operations))
 
--- the operations of the tokens from a place on
-abbrev pub from_place : List ℕ → ℕ → Result (List Op) OrderFault
-from_place text place = operations_from text place place (drop place text)
+abbrev pub count_of : Result (List Op) OrderFault → Result ℕ OrderFault
+count_of whole = whole >>= (λ operations. Ok (length operations))
 
--- some operations and those of a text after them, as far as they are kept
-abbrev pub kept : ℕ → List Op → Result (List Op) OrderFault → Result (List Op) OrderFault
-kept most order later = later >>= (λ operations. Ok (take most (order ++ operations)))
+pub none_counted : (whole : Result (List Op) OrderFault) → counted 0 whole ≡ count_of whole
+none_counted (Ok operations) = ap Ok (omega arith)
+none_counted (Err fault) = refl
 
 -- the bytes of a token that was read are passed over
 pub passed : (text : List ℕ) (next more place : ℕ) (rest : List ℕ) → next ≡ place + more → operations_from text next place rest ≡ operations_from text next next (drop more rest)
@@ -56,62 +55,97 @@ token_faulty text place fault room token =
     let here : nat_lt place place ≡ false = grind (arith, nat_tests) in
     rw (from_here text place room, here, token) refl
 
--- a token's operation is kept before those after it
-appended : (most : ℕ) (order : List Op) (operation : Option Op) (later : List Op)
-    → take most (order ++ cons_option operation later) ≡ take most (take most (order ++ cons_option operation []) ++ later)
-appended most order (Some op) later = sym (cut_early most (order ++ op ∷ []) later ∙ ap (take most) (append_assoc order (op ∷ []) later))
-appended most order None later = sym (ap (λ start. take most (take most start ++ later)) (append-nil order) ∙ cut_early most order later)
+-- a token's operation is counted before those after it
+pub token_counted : (before after : ℕ) (operation : Option Op) (rest : Result (List Op) OrderFault) (whole : Result ℕ OrderFault)
+    → after ≡ before + length (cons_option operation [])
+    → counted before (rest >>= (λ later. Ok (cons_option operation later))) ≡ whole
+    → counted after rest ≡ whole
+token_counted before after (Some op) (Ok later) whole e h = (let n : after + length later ≡ before + length (op ∷ later) = omega arith in ap Ok n) ∙ h
+token_counted before after None (Ok later) whole e h = (let n : after + length later ≡ before + length later = omega arith in ap Ok n) ∙ h
+token_counted before after operation (Err fault) whole e h = h
 
-pub token_kept : (most : ℕ) (before after : List Op) (operation : Option Op) (rest whole : Result (List Op) OrderFault)
-    → after ≡ take most (before ++ cons_option operation [])
-    → kept most before (rest >>= (λ later. Ok (cons_option operation later))) ≡ whole
-    → kept most after rest ≡ whole
-token_kept most before after operation (Ok later) whole e h = ap (λ start. Ok (take most (start ++ later))) e ∙ ap Ok (sym (appended most before operation later)) ∙ h
-token_kept most before after operation (Err fault) whole e h = h
+-- the operations of one token
+pub one_counted : (operation : Option Op) (count : ℕ) → count ≡ bool_byte (is_some operation) → count ≡ length (cons_option operation [])
+one_counted (Some op) count e = e ∙ omega arith
+one_counted None count e = e
 
-pub cut_short : (most : ℕ) (some after : List Op) → after ≡ take most some → length after ≤ most
-cut_short most some after e = let n = ap length e ∙ length-take most some in omega (arith, n)
+pub one_at_most : (operation : Option Op) → length (cons_option operation []) ≤ 1
+one_at_most (Some op) = omega arith
+one_at_most None = omega arith
+
+-- no token is left at the end
+pub end_counted : (text : List ℕ) (place count : ℕ) → length text ≤ place → counted count (from_place text place) ≡ Ok count
+unfolding operations_from
+end_counted text place count ended = rw (drop_of_length-le text ended) (ap Ok (omega arith))
+
+pub none_left : (text : List ℕ) (place : ℕ) → length text ≤ place → left_from text place ≡ []
+unfolding operations_from
+none_left text place ended = rw (drop_of_length-le text ended) refl
 
 -- all operations from the first token on are those of the whole text
-whole_text : (text : List ℕ) → order_of text ≡ (from_place text (body_start text) >>= within_limit)
+pub whole_text : (text : List ℕ) → order_of text ≡ (from_place text (body_start text) >>= within_limit)
 unfolding order_of
 whole_text text = ap (λ operations. operations >>= within_limit) (passed text (body_start text) (body_start text) 0 text (omega arith))
 
-fault_kept : (fault : OrderFault) (whole : Result (List Op) OrderFault) → Err fault ≡ kept (order_limit + 1) [] whole → (whole >>= within_limit) ≡ Err fault
-fault_kept fault (Ok operations) h = cc
-fault_kept fault (Err other) h = cc
+-- what the count of a text's operations says of its meaning
+pub counted_faulty : (whole : Result (List Op) OrderFault) (fault : OrderFault) → Err fault ≡ count_of whole → (whole >>= within_limit) ≡ Err fault
+counted_faulty (Ok operations) fault h = cc
+counted_faulty (Err other) fault h = cc
 
--- a fault is the meaning
-pub order_faulty : (text : List ℕ) (fault : OrderFault) → Err fault ≡ kept (order_limit + 1) [] (from_place text (body_start text)) → order_of text ≡ Err fault
-order_faulty text fault h = whole_text text ∙ fault_kept fault _ h
-
--- at the end, what the operations that were kept say
-long_where : (order : List Op) (whole : Result (List Op) OrderFault) → Ok order ≡ kept (order_limit + 1) [] whole → order_limit < length order → (whole >>= within_limit) ≡ Err size_fault
-long_where order (Err fault) h long = cc
-long_where order (Ok operations) h long =
-    let same : order ≡ take (order_limit + 1) operations = cc in
-    let count = ap length same ∙ length-take (order_limit + 1) operations in
-    let test : nat_lt order_limit (length operations) ≡ true = grind (arith, nat_tests, count) in
+pub counted_long : (whole : Result (List Op) OrderFault) (count : ℕ) → Ok count ≡ count_of whole → order_limit < count → (whole >>= within_limit) ≡ Err size_fault
+counted_long (Err fault) count h long = cc
+counted_long (Ok operations) count h long =
+    let same : count ≡ length operations = cc in
+    let test : nat_lt order_limit (length operations) ≡ true = grind (arith, nat_tests) in
     rw test refl
 
-short_where : (order : List Op) (whole : Result (List Op) OrderFault) → Ok order ≡ kept (order_limit + 1) [] whole → length order ≤ order_limit → (whole >>= within_limit) ≡ Ok order
-short_where order (Err fault) h short = cc
-short_where order (Ok operations) h short =
-    let same : order ≡ take (order_limit + 1) operations = cc in
-    let count = ap length same ∙ length-take (order_limit + 1) operations in
-    let few : length operations ≤ order_limit = omega (arith, count) in
-    let all = take_all (order_limit + 1) operations (omega (arith, few)) in
+pub counted_short : (whole : Result (List Op) OrderFault) (count : ℕ) → Ok count ≡ count_of whole → count ≤ order_limit → (whole >>= within_limit) ≡ Ok (or_none whole)
+counted_short (Err fault) count h short = cc
+counted_short (Ok operations) count h short =
+    let same : count ≡ length operations = cc in
     let test : nat_lt order_limit (length operations) ≡ false = grind (arith, nat_tests) in
-    rw test (ap Ok (sym (same ∙ all)))
+    rw test refl
 
-module _ (text : List ℕ) (place : ℕ) (order : List Op) (ended : length text ≤ place) (few : length order ≤ order_limit + 1)
-    (read : kept (order_limit + 1) order (from_place text place) ≡ kept (order_limit + 1) [] (from_place text (body_start text))) where
-  at_end : kept (order_limit + 1) order (from_place text place) ≡ Ok order
-  unfolding operations_from
-  at_end = rw (drop_of_length-le text ended, append-nil) (ap Ok (take_all (order_limit + 1) order few))
+pub counted_good : (whole : Result (List Op) OrderFault) (count : ℕ) → Ok count ≡ count_of whole → IsOk whole
+counted_good (Ok operations) count h = refl
+counted_good (Err fault) count h = cc
 
-  pub too_many : order_limit < length order → order_of text ≡ Err size_fault
-  too_many long = whole_text text ∙ long_where order _ (sym at_end ∙ read) long
+-- no fault is good
+not_good : {A B : Type 0} (fault : OrderFault) (r : Result A OrderFault) → r ≡ Err fault → IsOk r → B
+not_good fault (Ok x) e h = cc
+not_good fault (Err other) e h = cc
 
-  pub whole_order : length order ≤ order_limit → order_of text ≡ Ok order
-  whole_order short = whole_text text ∙ short_where order _ (sym at_end ∙ read) short
+good_where : (text : List ℕ) (place : ℕ) (token : Result (Option Op × ℕ) OrderFault) → place < length text → IsOk (from_place text place)
+    → token_at text place (slice_index text place) ≡ token → IsOk token
+good_where text place (Ok token) room good e = refl
+good_where text place (Err fault) room good e = not_good fault (from_place text place) (token_faulty text place fault room e) good
+
+-- a good text begins with a good token
+pub token_good : (text : List ℕ) (place : ℕ) → place < length text → IsOk (from_place text place) → IsOk (token_at text place (slice_index text place))
+token_good text place room good = good_where text place _ room good refl
+
+-- after it the text is good, and its operations are the token's and those that are left
+pub record IsPassed (text : List ℕ) (place : ℕ) (operation : Option Op) (next : ℕ) : Type 0 where
+  pub good : IsOk (from_place text next)
+  pub left : left_from text place ≡ cons_option operation (left_from text next)
+
+left_where : (operation : Option Op) (whole rest : Result (List Op) OrderFault) → whole ≡ (rest >>= (λ later. Ok (cons_option operation later))) → IsOk whole
+    → (IsOk rest) × (or_none whole ≡ cons_option operation (or_none rest))
+left_where operation whole (Ok later) e h = (refl, ap or_none e)
+left_where operation whole (Err fault) e h = not_good fault whole e h
+
+pub token_passed : (text : List ℕ) (place : ℕ) (operation : Option Op) (next : ℕ) → place < length text → IsOk (from_place text place)
+    → token_at text place (slice_index text place) ≡ Ok (operation, next) → place < next → IsPassed text place operation next
+token_passed text place operation next room good token ahead =
+    let p = left_where operation (from_place text place) (from_place text next) (token_first text place operation next room token ahead) good in
+    record { good = p.0; left = p.1 }
+
+-- what a token hands out, where it asks for an operation
+pub found : (operation : Option Op) (whole after : List Op) → is_some operation ≡ true → whole ≡ cons_option operation after
+    → MatchOption operation ((whole ≡ []) × (after ≡ [])) (λ op. whole ≡ op ∷ after)
+found (Some op) whole after some e = e
+found None whole after some e = cc
+
+pub skipped : (operation : Option Op) (whole after : List Op) → is_some operation ≡ false → whole ≡ cons_option operation after → after ≡ whole
+skipped (Some op) whole after some e = cc
+skipped None whole after some e = sym e

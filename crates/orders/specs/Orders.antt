@@ -1,6 +1,6 @@
 -- Orders: texts of digits, each of which asks for one step of that hart, and in version 2 of sweeps (this project's own
 -- format).
-use Rattle.std.specs.Prelude.{◌≡◌, ℕ, ◌+◌, ◌-◌, ◌≤◌, ◌<◌, ◌==◌, nat_eq, nat_lt, nat_le, Bool, ◌&&◌, ◌||◌, if◌then◌else◌, List, [], ◌∷◌, ◌++◌, length, Option, Some, None, option_map, Result, Ok, Err, Vec, codes}
+use Rattle.std.specs.Prelude.{◌≡◌, ℕ, ◌+◌, ◌-◌, ◌≤◌, ◌<◌, ◌==◌, nat_eq, nat_lt, nat_le, Bool, ◌&&◌, ◌||◌, if◌then◌else◌, List, [], ◌∷◌, ◌++◌, length, drop, Option, Some, None, Result, Ok, Err, IsOk, Vec, codes}
 use Rattle.std.specs.List.{starts_with, cons_option}
 use Rattle.std.specs.Global.{Global}
 use Rattle.cap_model.specs.declared.encoding.TheConstants.{ADDRESS_SPACE}
@@ -53,6 +53,27 @@ operations_from text next place (b ∷ rest) =
       token ← token_at text place b
       later ← operations_from text token.1 (place + 1) rest
       Ok (cons_option token.0 later)
+
+-- the operations of the tokens from a place on
+abbrev pub from_place : List ℕ → ℕ → Result (List Op) OrderFault
+from_place text place = operations_from text place place (drop place text)
+
+-- how many they are
+abbrev pub count_from : List ℕ → ℕ → Result ℕ OrderFault
+count_from text place = from_place text place >>= (λ operations. Ok (length operations))
+
+-- What is left of a good text from a place on: its operations. Of any other text none are left.
+abbrev pub or_none : Result (List Op) OrderFault → List Op
+or_none (Ok operations) = operations
+or_none (Err fault) = []
+
+abbrev pub left_from : List ℕ → ℕ → List Op
+left_from text place = or_none (from_place text place)
+
+-- a text that is good from a place on
+pub record IsGoodFrom (text : List ℕ) (place : ℕ) : Type 0 where
+  pub inside : place ≤ length text
+  pub good : IsOk (from_place text place)
 
 -- an order that is not too long
 abbrev pub within_limit : List Op → Result (List Op) OrderFault

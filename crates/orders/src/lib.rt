@@ -3,9 +3,11 @@
 #![tactic(auto)]
 
 mod fault;
+mod judged;
 mod numbers;
 mod reader;
 mod sweeps;
 
 pub use fault::{OrderFault, OrderFaultKind};
+pub use judged::{JudgedOrder, judge_order};
 pub use reader::{ORDER_LIMIT, read_order};

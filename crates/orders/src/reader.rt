@@ -5,17 +5,12 @@ ghost use Rattle.std.specs.Prelude.{
   ◌<◌,
   ◌≤◌,
   ◌+◌,
-  ◌++◌,
-  [],
   IsTrue,
   IfOk,
-  OnOk,
   All,
   length,
-  take,
   slice_index,
 };
-ghost use Rattle.std.specs.List.{cons_option};
 ghost use Rattle.orders.specs.Orders.{
   order_of,
   Gives,
@@ -25,7 +20,8 @@ ghost use Rattle.orders.specs.Orders.{
   token_at,
 };
 
-use crate::fault::{OrderFault, OrderFaultKind};
+use crate::fault::OrderFault;
+use crate::judged::{JudgedOrder, judge_order};
 use crate::sweeps::sweep_at;
 use cheri_model::Op;
 use std::alloc::{AllocError, Global};
@@ -45,7 +41,7 @@ fn is_version_2(text: &[u8]) -> bool
 }
 
 /// Where an order's first token is.
-fn body_start(text: &[u8]) -> usize
+pub(crate) fn body_start(text: &[u8]) -> usize
     ensures start { result ≡ body_start text.now }
     ensures room { result ≤ length text.now }
 {
@@ -53,7 +49,8 @@ fn body_start(text: &[u8]) -> usize
 }
 
 /// The token at a place: the operation that it asks for, if any, and the place after it.
-fn token_at(text: &[u8], place: usize) -> Result<(Option<Op>, usize), OrderFault>
+#[inline]
+pub(crate) fn token_at(text: &[u8], place: usize) -> Result<(Option<Op>, usize), OrderFault>
     requires { place < length text.now }
     ensures token { result ≡ token_at text.now place (slice_index text.now place) }
     ensures next { IfOk result (λ token. (place < token.1) × (token.1 ≤ length text.now)) }
@@ -69,18 +66,15 @@ fn token_at(text: &[u8], place: usize) -> Result<(Option<Op>, usize), OrderFault
     }
 }
 
-/// Appends an operation, if there is one. An order that is too long already takes no more.
-fn push_operation(order: &mut Vec<Op>, operation: Option<Op>) -> Result<(), AllocError>
-    requires { length order.old.items ≤ ORDER_LIMIT + 1 }
-    ensures { OnOk result (order.new.items
-        ≡ take (ORDER_LIMIT + 1) (order.old.items ++ cons_option operation [])) }
+/// The operations that are left of an order, in turn.
+fn operations_of(alloc: Global, mut order: JudgedOrder<'_>) -> Result<Vec<Op>, AllocError>
+    ensures { IfOk result (λ operations. operations.items ≡ order.entry) }
 {
-    if let Some(operation) = operation {
-        if order.len() <= ORDER_LIMIT {
-            order.push(operation)?;
-        }
+    let mut operations = Vec::new(alloc);
+    while let Some(operation) = order.next() {
+        operations.push(operation)?;
     }
-    Ok(())
+    Ok(operations)
 }
 
 /// The operations that an order's text asks for, in turn: a step of a hart for each digit, and in
@@ -91,19 +85,7 @@ pub fn read_order(alloc: Global, text: &[u8]) -> Result<Vec<Op>, OrderFault>
     ensures operations { IfOk result (λ order. All IsAsked order.items) }
     ensures limit { IfOk result (λ order. length order.items ≤ ORDER_LIMIT) }
 {
-    let mut order = Vec::new(alloc);
-    let mut place = body_start(text);
-    while place < text.len() {
-        let (operation, next) = token_at(text, place)?;
-        push_operation(&mut order, operation)?;
-        place = next;
-    }
-    let count = order.len();
-    if count > ORDER_LIMIT {
-        return Err(OrderFault {
-            offset: 0,
-            kind: OrderFaultKind::Size,
-        });
-    }
-    Ok(order)
+    let order = judge_order(text)?;
+    let operations = operations_of(alloc, order)?;
+    Ok(operations)
 }

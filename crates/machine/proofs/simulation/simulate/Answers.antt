@@ -1,5 +1,5 @@
 -- Nothing is written before the report, and that is the report of the run.
-use Rattle.std.proofs.Common.{◌≡◌, ℕ, ◌+◌, Result, IsErrAnd, refl, ap, ◌∙◌, arith}
+use Rattle.std.proofs.Common.{◌≡◌, ℕ, ◌+◌, Result, IsErrAnd, refl, sym, ap, ◌∙◌, arith}
 use Rattle.std.specs.Prelude.{Err}
 use Rattle.std.proofs.lemmas.Result.{MatchResult-from_err, err_from_is_err_and}
 use Rattle.machine.specs.Simulation.{failures_of_run}
@@ -37,11 +37,11 @@ returns-in_err-write_report-clause-refused g c =
       c.in_ok-core.refused,
       record {
         image = c.in_ok-image.image;
-        ops = c.in_ok-ops.ops.items;
+        ops = c.in_ok-ops.ops;
         core = c.in_ok-core.core;
         listing_is = c.in_ok-image.ensures;
-        order_is = c.in_ok-ops.ensures.meaning;
-        run_is = rw c.as_slice.ensures.value at c.in_ok-core.ensures.run;
+        order_is = sym c.in_ok-ops.ensures.meaning;
+        run_is = c.in_ok-core.ensures.run;
         shown = rw (c.view.ensures.image, c.view.ensures.entries, c.view.ensures.state) at c.write_report.ensures.beginning;
       },
     )
@@ -53,11 +53,11 @@ returns-in_err-write_report-clause-failures g c =
 pub returns-clause-shown : goal.returns-clause-shown
 returns-clause-shown g c = record {
   image = c.in_ok-image.image;
-  ops = c.in_ok-ops.ops.items;
+  ops = c.in_ok-ops.ops;
   core = c.in_ok-core.core;
   listing_is = c.in_ok-image.ensures;
-  order_is = c.in_ok-ops.ensures.meaning;
-  run_is = rw c.as_slice.ensures.value at c.in_ok-core.ensures.run;
+  order_is = sym c.in_ok-ops.ensures.meaning;
+  run_is = c.in_ok-core.ensures.run;
   shown = rw (c.view.ensures.image, c.view.ensures.entries, c.view.ensures.state) at c.in_ok-write_report.ensures.whole;
 }
 

@@ -1,0 +1,106 @@
+//! Judging an order, and reading the operations of one that was judged.
+
+ghost use Rattle.std.specs.Prelude.{
+  ◌≡◌,
+  ◌≢◌,
+  ◌<◌,
+  ◌≤◌,
+  ◌+◌,
+  [],
+  ◌∷◌,
+  Ok,
+  IfErr,
+  IsOk,
+  IfSome,
+  MatchOption,
+  length,
+  slice_index,
+};
+ghost use Rattle.orders.specs.Orders.{order_of, IsAsked, token_at, from_place, count_from};
+
+use crate::fault::{OrderFault, OrderFaultKind};
+use crate::reader::{ORDER_LIMIT, body_start, token_at};
+use cheri_model::Op;
+use std::marker::Model;
+
+/// An order whose text was judged and is good. Its operations are read one by one from the text,
+/// so that none of them is kept. Contracts see those that are left.
+#[derive(Drop)]
+pub struct JudgedOrder<'a> {
+    text: &'a [u8],
+    place: usize,
+}
+
+impl<'a> Model for JudgedOrder<'a> {
+    ghost use Rattle.std.specs.Prelude.{List};
+    ghost use Rattle.cheri_model.specs.declared.operation.Op.{Op};
+    ghost use Rattle.orders.specs.Orders.{left_from, IsGoodFrom};
+
+    ghost Value = { List Op };
+
+    ghost view = { λ order. left_from order.text.now order.place };
+
+    ghost invariant = { λ order. IsGoodFrom order.text.now order.place };
+}
+
+impl<'a> JudgedOrder<'a> {
+    /// The next operation, until none is left.
+    pub fn next(&mut self) -> Option<Op>
+        ensures next { MatchOption result ((self.old ≡ []) × (self.new ≡ []))
+            (λ operation. self.old ≡ operation ∷ self.new) }
+        ensures asked { IfSome result IsAsked }
+    {
+        while self.place < self.text.len() {
+            let (operation, next) = good_token(self.text, self.place);
+            self.place = next;
+            if operation.is_some() {
+                return operation;
+            }
+        }
+        None
+    }
+}
+
+/// The token at a place of a text that is good from there on.
+#[inline]
+fn good_token(text: &[u8], place: usize) -> (Option<Op>, usize)
+    requires inside { place < length text.now }
+    requires good { IsOk (from_place text.now place) }
+    ensures token { token_at text.now place (slice_index text.now place) ≡ Ok result }
+    ensures next { (place < result.1) × (result.1 ≤ length text.now) }
+{
+    token_at(text, place).unwrap()
+}
+
+/// How many operations the tokens from a place on ask for, or the first fault.
+fn operation_count(text: &[u8], start: usize) -> Result<usize, OrderFault>
+    requires { start ≤ length text.now }
+    ensures count { result ≡ count_from text.now start }
+    ensures fault { IfErr result (λ fault. fault.kind ≢ OrderFaultKind.NoMemory) }
+{
+    let mut count = 0;
+    let mut place = start;
+    while place < text.len() {
+        let (operation, next) = token_at(text, place)?;
+        count += usize::from(operation.is_some());
+        place = next;
+    }
+    Ok(count)
+}
+
+/// Judges an order's text: the order that it means, or its fault, which is the first one in the
+/// text, by its offset; else more than [`ORDER_LIMIT`] operations, at offset 0. Takes no memory.
+pub fn judge_order(text: &[u8]) -> Result<JudgedOrder<'_>, OrderFault>
+    ensures meaning { result ≡ order_of text.now }
+    ensures fault { IfErr result (λ fault. fault.kind ≢ OrderFaultKind.NoMemory) }
+{
+    let place = body_start(text);
+    let count = operation_count(text, place)?;
+    if count > ORDER_LIMIT {
+        return Err(OrderFault {
+            offset: 0,
+            kind: OrderFaultKind::Size,
+        });
+    }
+    Ok(JudgedOrder { text, place })
+}
