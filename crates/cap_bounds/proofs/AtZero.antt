@@ -2,11 +2,11 @@
 use Rattle.std.proofs.Common.{◌≡◌, ℕ, ◌+◌, ◌-◌, ◌^◌, ◌≤◌, ◌≢◌, ◌*◌, ◌%◌, refl, inl, inr, ◌∙◌, arith}
 use Rattle.std.proofs.lemmas.Bool.{cases_lt}
 use Rattle.std.proofs.lemmas.Nat.Bits.{ones_shl}
-use Rattle.cheri_model.specs.Lengths.{internal_exponent}
-use Rattle.cheri_model.specs.Rounding.{rounding_exponent, rounded_top}
-use Rattle.cheri_model.specs.Alignment.{length_at_zero, alignment_mask}
-use Rattle.cheri_model.proofs.Rounding.Exponents.{internal_exponent_small, internal_exponent_long}
-use Rattle.cheri_model.proofs.Rounding.Roundings.{rounding_holds, rounding_exponent_at_most, granule_of_rounding, rounding_granule_small, rounding_granule_long, rounded_base_at_most}
+use Rattle.cap_model.specs.bounds.Lengths.{internal_exponent}
+use Rattle.cap_model.specs.bounds.Rounding.{rounding_exponent, rounded_top}
+use Rattle.cap_model.specs.bounds.Alignment.{length_at_zero, alignment_mask}
+use Rattle.cap_model.proofs.Rounding.Exponents.{internal_exponent_small, internal_exponent_long}
+use Rattle.cap_model.proofs.Rounding.Roundings.{rounding_holds, rounding_exponent_at_most, granule_of_rounding, rounding_granule_small, rounding_granule_long, rounded_base_at_most}
 
 pub length_is_top : (len : ℕ) → rounded_top 0 len ≡ length_at_zero len
 length_is_top len = omega (arith, rounded_base_at_most 0 len)

@@ -2,8 +2,8 @@
 use Rattle.std.proofs.Common.{◌≡◌, ℕ, ◌-◌, ◌/◌, ◌^◌, ◌≤◌, sym, ◌∙◌, arith}
 use Rattle.std.proofs.lemmas.Nat.{leading_length}
 use lib.Count.{count_leading_zeros}
-use Rattle.cheri_model.specs.Lengths.{exponent}
-use Rattle.cheri_model.proofs.Rounding.Exponents.{exponent_digits, exponent_at_most}
+use Rattle.cap_model.specs.bounds.Lengths.{exponent}
+use Rattle.cap_model.proofs.Rounding.Exponents.{exponent_digits, exponent_at_most}
 
 pub exponent_from_zeros : (len : ℕ) → len ≤ 2 ^ 64 → 64 - count_leading_zeros 64 (len / 2 ^ 13) ≡ exponent len
 exponent_from_zeros len fits =

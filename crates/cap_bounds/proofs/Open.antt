@@ -1,7 +1,7 @@
 -- Names for `unfolding(..)` that open what their own line names.
 use Rattle.std.specs.Prelude.{ℕ}
-use Rattle.cheri_model.specs.Alignment.{representable_length}
-use Rattle.cheri_model.specs.RawBounds.{region_start, region_offset, raw_base, uncorrected_top, raw_top}
+use Rattle.cap_model.specs.bounds.Alignment.{representable_length}
+use Rattle.cap_model.specs.words.RawBounds.{region_start, region_offset, raw_base, uncorrected_top, raw_top}
 
 unfoldable pub raw : ℕ → ℕ → ℕ × ℕ
 unfolding raw_base raw_top uncorrected_top region_offset

@@ -1,14 +1,14 @@
 -- The parts of a rounding, in the forms in which the code computes them.
 use Rattle.std.proofs.Common.{◌≡◌, ℕ, ◌+◌, ◌-◌, ◌/◌, ◌%◌, ◌^◌, ◌<◌, ◌≤◌, bit_and, sym, ◌∙◌, arith}
 use Rattle.std.proofs.lemmas.Nat.{and_mask}
-use Rattle.cheri_model.specs.Numbers.{round_down, round_up}
-use Rattle.cheri_model.specs.Lengths.{exponent, internal_exponent}
-use Rattle.cheri_model.specs.Rounding.{rounding_exponent, rounded_base, rounded_top}
-use Rattle.cheri_model.specs.Capability.{b_field, t_field}
-use Rattle.cheri_model.proofs.Rounding.Exponents.{internal_exponent_small, internal_exponent_long}
-use Rattle.cheri_model.proofs.Rounding.Roundings.{rounding_holds, short_rounding, rounding_exponent_small, rounding_bits_long, rounded_base_is, rounded_top_is, rounded_base_small, rounded_top_small}
-use Rattle.cheri_model.proofs.Rounding.RoundedFields.{field_widths}
-use Rattle.cheri_model.proofs.Rounding.RoundingSteps.{rounding_exponent_same, rounding_exponent_next}
+use Rattle.cap_model.specs.bounds.Numbers.{round_down, round_up}
+use Rattle.cap_model.specs.bounds.Lengths.{exponent, internal_exponent}
+use Rattle.cap_model.specs.bounds.Rounding.{rounding_exponent, rounded_base, rounded_top}
+use Rattle.cap_model.specs.values.Capability.{b_field, t_field}
+use Rattle.cap_model.proofs.Rounding.Exponents.{internal_exponent_small, internal_exponent_long}
+use Rattle.cap_model.proofs.Rounding.Roundings.{rounding_holds, short_rounding, rounding_exponent_small, rounding_bits_long, rounded_base_is, rounded_top_is, rounded_base_small, rounded_top_small}
+use Rattle.cap_model.proofs.Rounding.RoundedFields.{field_widths}
+use Rattle.cap_model.proofs.Rounding.RoundingSteps.{rounding_exponent_same, rounding_exponent_next}
 
 -- the fields of a length below 2^12 are the digits of the bounds
 pub b_field_short : (base len : ℕ) → len < 2 ^ 12 → bit_and base 0x3fff ≡ b_field (internal_exponent len) (rounding_exponent base len) (rounded_base base len)

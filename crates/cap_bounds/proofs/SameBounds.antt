@@ -2,9 +2,9 @@
 -- place modulo 2^64.
 use Rattle.std.proofs.Common.{◌≡◌, ℕ, ◌+◌, ◌%◌, ◌^◌, ◌<◌, ◌≤◌, arith, sym, ◌∙◌, ap, inl, inr}
 use Rattle.std.proofs.lemmas.Bool.{cases_lt}
-use Rattle.cheri_model.specs.Fields.{word_exponent, word_b, word_t14}
-use Rattle.cheri_model.specs.RawBounds.{region_start, region_offset, raw_base, uncorrected_top, corrected_top, raw_top}
-use Rattle.cheri_model.proofs.Words.RawWords.{word_exponent_at_most, raw_base_lt}
+use Rattle.cap_model.specs.words.Fields.{word_exponent, word_b, word_t14}
+use Rattle.cap_model.specs.words.RawBounds.{region_start, region_offset, raw_base, uncorrected_top, corrected_top, raw_top}
+use Rattle.cap_model.proofs.Words.RawWords.{word_exponent_at_most, raw_base_lt}
 use Rattle.cap_bounds.proofs.SameRegion.{start_51, start_52, top_from_start}
 
 -- the same top from the same bases, where the regions begin at the same place modulo 2^64

@@ -2,7 +2,7 @@
 use Rattle.std.proofs.Common.{◌≡◌, ℕ, ◌+◌, ◌-◌, ◌*◌, ◌/◌, ◌%◌, ◌^◌, ◌<◌, ◌≤◌, true, false, nat_lt, arith, sym, ap, inl, inr}
 use Rattle.std.proofs.lemmas.Bool.Decides.{nat_tests}
 use Rattle.std.proofs.lemmas.Bool.{cases_lt, cases_eq}
-use Rattle.cheri_model.specs.RawBounds.{region_floor, region_start, corrected_top}
+use Rattle.cap_model.specs.words.RawBounds.{region_floor, region_start, corrected_top}
 
 -- the greatest number at most n that is congruent to c modulo 2^65 or 2^66 is congruent to c modulo 2^65
 congruent_65 : (n c : ℕ) → 2 ^ 66 ≤ n → c ≤ 2 ^ 65 → (n - (n + (2 ^ 65 - c)) % 2 ^ 65) % 2 ^ 65 ≡ c % 2 ^ 65

@@ -1,11 +1,11 @@
 -- The regions of a lawful capability's address and of another address begin at the same place modulo 2^64 exactly
 -- where the other address is in the window.
 use Rattle.std.proofs.Common.{◌≡◌, ℕ, ◌-◌, ◌%◌, ◌^◌}
-use Rattle.cheri_model.specs.Fields.{word_exponent, word_b}
-use Rattle.cheri_model.specs.RawBounds.{region_start}
-use Rattle.cheri_model.specs.Window.{IsInWindow}
-use Rattle.cheri_model.specs.Capability.{Capability, IsLawful, upper_of}
-use Rattle.cheri_model.proofs.Bounds.WindowsEnd.{same_bounds_in_window}
+use Rattle.cap_model.specs.words.Fields.{word_exponent, word_b}
+use Rattle.cap_model.specs.words.RawBounds.{region_start}
+use Rattle.cap_model.specs.bounds.Window.{IsInWindow}
+use Rattle.cap_model.specs.values.Capability.{Capability, IsLawful, upper_of}
+use Rattle.cap_model.proofs.Bounds.WindowsEnd.{same_bounds_in_window}
 use Rattle.cap_bounds.proofs.SameBounds.{start_from_base, base_from_start, top_from_start_of_word}
 
 -- the same start puts the address in the window

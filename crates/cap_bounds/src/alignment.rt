@@ -2,7 +2,7 @@
 //! CRoundRepresentableLength and CRepresentableAlignmentMask).
 
 ghost use Rattle.std.specs.Prelude.{◌≡◌};
-ghost use Rattle.cheri_model.specs.Alignment.{representable_length, alignment_mask};
+ghost use Rattle.cap_model.specs.bounds.Alignment.{representable_length, alignment_mask};
 
 use crate::rounding::set_bounds;
 

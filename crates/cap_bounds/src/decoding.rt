@@ -6,8 +6,8 @@
 //! is too far.
 
 ghost use Rattle.std.specs.Prelude.{◌≡◌, ◌+◌, ◌-◌, ◌*◌, ◌%◌, ◌^◌, ◌≤◌, ◌<◌};
-ghost use Rattle.cheri_model.specs.Fields.{word_exponent, word_b};
-ghost use Rattle.cheri_model.specs.RawBounds.{
+ghost use Rattle.cap_model.specs.words.Fields.{word_exponent, word_b};
+ghost use Rattle.cap_model.specs.words.RawBounds.{
   region_floor,
   region_start,
   raw_base,
@@ -51,7 +51,7 @@ pub(crate) fn region_origin(upper: u64, addr: u64) -> u64
 
 /// Where regions begin, modulo their size, in steps of 2^E: one step of the top three bits of B
 /// below them.
-#[tactic(auto, unfolding(cheri_model::specs::RawBounds::region_floor))]
+#[tactic(auto, unfolding(cap_model::specs::words::RawBounds::region_floor))]
 fn floor_steps(b: u16) -> u64
     requires { b < 2 ^ 14 }
     ensures value { result ≡ region_floor b }
@@ -104,7 +104,7 @@ fn top_of_steps(e: u8, steps: u128) -> u128
 }
 
 /// The top with its bit 64 inverted where base and top would else lie too far apart.
-#[tactic(auto, unfolding(cheri_model::specs::RawBounds::corrected_top))]
+#[tactic(auto, unfolding(cap_model::specs::words::RawBounds::corrected_top))]
 fn with_top_bit(e: u8, base: u64, top: u128) -> u128
     requires { top < 2 ^ 65 }
     ensures { result ≡ corrected_top e base top }

@@ -1,9 +1,9 @@
 //! Which change of the address keeps a word's bounds (CHERI Concentrate, "representable region").
 
 ghost use Rattle.std.specs.Prelude.{◌≡◌, ◌-◌, ◌↔◌, IsTrue};
-ghost use Rattle.cheri_model.specs.RawBounds.{raw_base, raw_top};
-ghost use Rattle.cheri_model.specs.Window.{IsInWindow};
-ghost use Rattle.cheri_model.specs.Capability.{Capability, IsLawful, upper_of};
+ghost use Rattle.cap_model.specs.words.RawBounds.{raw_base, raw_top};
+ghost use Rattle.cap_model.specs.bounds.Window.{IsInWindow};
+ghost use Rattle.cap_model.specs.values.Capability.{Capability, IsLawful, upper_of};
 
 use crate::decoding::region_origin;
 

@@ -2,10 +2,10 @@
 //! of bounds"; CHERI ISA v9, CSetBounds).
 
 ghost use Rattle.std.specs.Prelude.{◌≡◌, ◌+◌, ◌-◌, ◌^◌, ◌<◌, ◌≤◌, ◌↔◌, IsTrue};
-ghost use Rattle.cheri_model.specs.Numbers.{round_down, round_up};
-ghost use Rattle.cheri_model.specs.Lengths.{exponent, internal_exponent};
-ghost use Rattle.cheri_model.specs.Rounding.{rounding_exponent, rounded_base, rounded_top};
-ghost use Rattle.cheri_model.specs.Capability.{b_field, t_field};
+ghost use Rattle.cap_model.specs.bounds.Numbers.{round_down, round_up};
+ghost use Rattle.cap_model.specs.bounds.Lengths.{exponent, internal_exponent};
+ghost use Rattle.cap_model.specs.bounds.Rounding.{rounding_exponent, rounded_base, rounded_top};
+ghost use Rattle.cap_model.specs.values.Capability.{b_field, t_field};
 
 /// The rounding of a requested range: the fields that encode its bounds in a capability's word, the
 /// bounds, and whether they are the requested ones. The top has up to 66 bits where the requested

@@ -2,21 +2,21 @@
 use Rattle.std.proofs.Common.{◌≡◌, ℕ, ◌+◌, ◌-◌, ◌/◌, ◌%◌, ◌^◌, ◌≤◌, ◌==◌, ◌&&◌, Bool, true, false, Ok, Err, inl, inr, arith, refl, ap, sym, ◌∙◌, leb-true, eqb-true}
 use Rattle.std.specs.Prelude.{nat_le, Result}
 use Rattle.std.proofs.lemmas.Bool.{and_parts, cases_Bool, false≢true, false_from_ne_true}
-use Rattle.cheri_model.specs.Lengths.{granule}
-use Rattle.cheri_model.specs.Window.{is_in_window}
-use Rattle.cheri_model.specs.Rounding.{rounded_base}
-use Rattle.cheri_model.specs.Fields.{word_reserved}
-use Rattle.cheri_model.specs.Capability.{Capability, IsLawful, unsealed_type}
-use Rattle.cheri_model.specs.CapValue.{CapValue, valid, bits_of, parts_of, tagged_where, IsLawfulValue}
-use Rattle.cheri_model.specs.FieldResults.{set_flags}
-use Rattle.cheri_model.specs.Readings.{base_of, top_of, permissions_of, flags_of, lies_in}
-use Rattle.cheri_model.specs.Rebuilt.{are_aligned, is_buildable, unsealed_parts, build}
-use Rattle.cheri_model.specs.Results.{address_of, is_open, is_exact, keeps_bounds, clear_tag}
-use Rattle.cheri_model.proofs.Results.Rebuildings.{CanBuild, can_build, build_allowed, built_capability_lawful, eqb-of, flag_lt}
-use Rattle.cheri_model.proofs.Results.Values.{open_parts}
-use Rattle.cheri_model.proofs.Results.AddressResults.{test_of_window}
-use Rattle.cheri_model.proofs.Rounding.RoundingsWithin.{exact_base_fits, exact_top_fits}
-use Rattle.cheri_model.proofs.Words.WordsEdited.{lawful_with_flag}
+use Rattle.cap_model.specs.bounds.Lengths.{granule}
+use Rattle.cap_model.specs.bounds.Window.{is_in_window}
+use Rattle.cap_model.specs.bounds.Rounding.{rounded_base}
+use Rattle.cap_model.specs.words.Fields.{word_reserved}
+use Rattle.cap_model.specs.values.Capability.{Capability, IsLawful, unsealed_type}
+use Rattle.cap_model.specs.values.CapValue.{CapValue, valid, bits_of, parts_of, tagged_where, IsLawfulValue}
+use Rattle.cap_model.specs.results.Fields.{set_flags}
+use Rattle.cap_model.specs.results.Readings.{base_of, top_of, permissions_of, flags_of, lies_in}
+use Rattle.cap_model.specs.results.Rebuilt.{are_aligned, is_buildable, unsealed_parts, build}
+use Rattle.cap_model.specs.results.Addresses.{address_of, is_open, is_exact, keeps_bounds, clear_tag}
+use Rattle.cap_model.proofs.Results.Rebuildings.{CanBuild, can_build, build_allowed, built_capability_lawful, eqb-of, flag_lt}
+use Rattle.cap_model.proofs.Results.Values.{open_parts}
+use Rattle.cap_model.proofs.Results.AddressResults.{test_of_window}
+use Rattle.cap_model.proofs.Rounding.RoundingsWithin.{exact_base_fits, exact_top_fits}
+use Rattle.cap_model.proofs.Words.WordsEdited.{lawful_with_flag}
 use Rattle.cap_ops.specs.declared.making.MakeFault.{MakeFault}
 use Rattle.cap_ops.specs.declared.making.MakeFault.TheVariants.{Inexact, Unrepresentable}
 use Rattle.cap_ops.specs.Making.{made}

@@ -4,25 +4,25 @@ use Rattle.std.specs.Prelude.{nat_le, nat_lt, IsTrue, ◌↔◌}
 use Rattle.std.proofs.lemmas.Bool.{and_parts, le-leb, cases_Bool, cases_lt, false≢true, false_from_ne_true}
 use Rattle.std.proofs.lemmas.Nat.{pow-add, pow_pos, div-add-mod'}
 use Rattle.std.proofs.Math.Nat.{div-lt_iff_lt-mul}
-use Rattle.cheri_model.specs.Lengths.{exponent, internal_exponent, granule}
-use Rattle.cheri_model.specs.Window.{IsInWindow, is_in_window}
-use Rattle.cheri_model.specs.Fields.{with_null_fields, field_of_perms, word_perms, word_reserved, word_flag, word_otype, word_ie, word_exponent}
-use Rattle.cheri_model.specs.RawBounds.{raw_base}
-use Rattle.cheri_model.specs.Capability.{Capability, IsLawful, IsLawfulType, last_sealable_type, b_field, t_field, upper_of_fields, upper_of, word_of, capability_at}
-use Rattle.cheri_model.specs.CapValue.{CapValue, valid, raw, bits_of, tag_of, IsEncoding}
-use Rattle.cheri_model.specs.EditedWords.{word_of_halves}
-use Rattle.cheri_model.specs.ValueFacts.{tag_of-value_at}
-use Rattle.cheri_model.specs.Rebuilt.{are_aligned}
-use Rattle.cheri_model.proofs.Words.FieldsBack.{with_null_fields_lt, with_null_fields_twice}
-use Rattle.cheri_model.proofs.Words.RawWords.{raw_base_lt, word_exponent_at_most}
-use Rattle.cheri_model.proofs.Words.WordsBack.{upper_has_fields, has_its_fields, encoding_of}
-use Rattle.cheri_model.proofs.Words.AddressesMoved.{encoding_upper, moved_lawful, moved_upper}
-use Rattle.cheri_model.proofs.Bounds.WindowsHold.{in_bounds_in_window}
-use Rattle.cheri_model.proofs.Bounds.WindowsEnd.{same_base_in_window}
-use Rattle.cheri_model.proofs.Rounding.Exponents.{exponent_small, exponent_between, exponent_top, exponent_bottom_from_12, internal_exponent_small, internal_exponent_long, granule_small, granule_long}
-use Rattle.cheri_model.proofs.Results.Rebuildings.{eqb-of, flag_lt}
-use Rattle.cheri_model.proofs.Results.Values.{bits_lt, perms_known}
-use Rattle.cheri_model.proofs.Results.AddressResults.{window_test, test_of_window}
+use Rattle.cap_model.specs.bounds.Lengths.{exponent, internal_exponent, granule}
+use Rattle.cap_model.specs.bounds.Window.{IsInWindow, is_in_window}
+use Rattle.cap_model.specs.words.Fields.{with_null_fields, field_of_perms, word_perms, word_reserved, word_flag, word_otype, word_ie, word_exponent}
+use Rattle.cap_model.specs.words.RawBounds.{raw_base}
+use Rattle.cap_model.specs.values.Capability.{Capability, IsLawful, IsLawfulType, last_sealable_type, b_field, t_field, upper_of_fields, upper_of, word_of, capability_at}
+use Rattle.cap_model.specs.values.CapValue.{CapValue, valid, raw, bits_of, tag_of, IsEncoding}
+use Rattle.cap_model.specs.results.EditedWords.{word_of_halves}
+use Rattle.cap_model.specs.values.ValueFacts.{tag_of-value_at}
+use Rattle.cap_model.specs.results.Rebuilt.{are_aligned}
+use Rattle.cap_model.proofs.Words.FieldsBack.{with_null_fields_lt, with_null_fields_twice}
+use Rattle.cap_model.proofs.Words.RawWords.{raw_base_lt, word_exponent_at_most}
+use Rattle.cap_model.proofs.Words.WordsBack.{upper_has_fields, has_its_fields, encoding_of}
+use Rattle.cap_model.proofs.Words.AddressesMoved.{encoding_upper, moved_lawful, moved_upper}
+use Rattle.cap_model.proofs.Bounds.WindowsHold.{in_bounds_in_window}
+use Rattle.cap_model.proofs.Bounds.WindowsEnd.{same_base_in_window}
+use Rattle.cap_model.proofs.Rounding.Exponents.{exponent_small, exponent_between, exponent_top, exponent_bottom_from_12, internal_exponent_small, internal_exponent_long, granule_small, granule_long}
+use Rattle.cap_model.proofs.Results.Rebuildings.{eqb-of, flag_lt}
+use Rattle.cap_model.proofs.Results.Values.{bits_lt, perms_known}
+use Rattle.cap_model.proofs.Results.AddressResults.{window_test, test_of_window}
 use Rattle.cap_ops.specs.Tagged.{is_lawful_type, is_encoding, value_from}
 use Rattle.cap_ops.specs.Unpacked.{IsUnpacked}
 use Rattle.cap_ops.proofs.Unpacking.{parts_read, unpacked_halves, decoded_of}

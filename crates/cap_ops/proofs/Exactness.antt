@@ -1,13 +1,13 @@
 -- What the code tests is what the definitions do: exact bounds, and addresses that keep the bounds.
 use Rattle.std.proofs.Common.{◌≡◌, ℕ, ◌/◌, ◌^◌, Bool, true, ◌==◌, ◌&&◌, ◌↔◌, IsTrue}
 use Rattle.std.proofs.lemmas.Bool.Decides.{same_from_decides, Decides-and, Decides-eqb}
-use Rattle.cheri_model.specs.RawBounds.{raw_base, raw_top}
-use Rattle.cheri_model.specs.CapValue.{CapValue, bits_of, parts_of, IsLawfulValue}
-use Rattle.cheri_model.specs.Results.{is_open, keeps_bounds}
-use Rattle.cheri_model.proofs.Words.WordsBack.{upper_of_word}
-use Rattle.cheri_model.proofs.Bounds.WindowsEnd.{same_bounds_in_window}
-use Rattle.cheri_model.proofs.Results.Values.{open_parts}
-use Rattle.cheri_model.proofs.Results.AddressResults.{internal_exponent_lt, window_test, test_of_window}
+use Rattle.cap_model.specs.words.RawBounds.{raw_base, raw_top}
+use Rattle.cap_model.specs.values.CapValue.{CapValue, bits_of, parts_of, IsLawfulValue}
+use Rattle.cap_model.specs.results.Addresses.{is_open, keeps_bounds}
+use Rattle.cap_model.proofs.Words.WordsBack.{upper_of_word}
+use Rattle.cap_model.proofs.Bounds.WindowsEnd.{same_bounds_in_window}
+use Rattle.cap_model.proofs.Results.Values.{open_parts}
+use Rattle.cap_model.proofs.Results.AddressResults.{internal_exponent_lt, window_test, test_of_window}
 
 -- two equations at once
 pub exact_test : (r : Bool) (a b c d : ℕ) → (IsTrue r ↔ ((a ≡ b) × (c ≡ d))) → r ≡ ((a == b) && (c == d))

@@ -1,8 +1,8 @@
 -- A value that is put together of a tag and halves that are those of a result.
 use Rattle.std.proofs.Common.{◌≡◌, ℕ, ◌/◌, ◌%◌, ◌^◌, Bool, refl}
-use Rattle.cheri_model.specs.CapValue.{CapValue, value_at, IsTaggedWord}
-use Rattle.cheri_model.specs.EditedWords.{word_of_halves, word_with_address, word_with_upper, with_rounded_fields, with_rounded_bounds}
-use Rattle.cheri_model.proofs.Results.Values.{IsResult}
+use Rattle.cap_model.specs.values.CapValue.{CapValue, value_at, IsTaggedWord}
+use Rattle.cap_model.specs.results.EditedWords.{word_of_halves, word_with_address, word_with_upper, with_rounded_fields, with_rounded_bounds}
+use Rattle.cap_model.proofs.Results.Values.{IsResult}
 
 -- the halves of edited words
 pub address_word : (word upper addr : ℕ) → upper ≡ word / 2 ^ 64 → word_of_halves upper addr ≡ word_with_address word addr

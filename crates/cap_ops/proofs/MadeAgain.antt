@@ -1,13 +1,13 @@
 -- A lawful capability with flag 0 is what is made of its own parts.
 use Rattle.std.proofs.Common.{◌≡◌, ◌+◌, ◌-◌, ◌%◌, ◌^◌, ◌≤◌, true, Ok, arith, refl, ap, sym, ◌∙◌}
-use Rattle.cheri_model.specs.Lengths.{granule}
-use Rattle.cheri_model.specs.Rounding.{rounded_base, rounded_top}
-use Rattle.cheri_model.specs.PermissionNames.{known_permissions}
-use Rattle.cheri_model.specs.Capability.{Capability, IsLawful}
-use Rattle.cheri_model.specs.CapValue.{valid}
-use Rattle.cheri_model.specs.Results.{is_exact}
-use Rattle.cheri_model.proofs.Results.PermissionSets.{set_drops_nothing}
-use Rattle.cheri_model.proofs.Rounding.RoundingsWithin.{rounded_base_exact, rounded_top_exact}
+use Rattle.cap_model.specs.bounds.Lengths.{granule}
+use Rattle.cap_model.specs.bounds.Rounding.{rounded_base, rounded_top}
+use Rattle.cap_model.specs.words.PermissionNames.{known_permissions}
+use Rattle.cap_model.specs.values.Capability.{Capability, IsLawful}
+use Rattle.cap_model.specs.values.CapValue.{valid}
+use Rattle.cap_model.specs.results.Addresses.{is_exact}
+use Rattle.cap_model.proofs.Results.PermissionSets.{set_drops_nothing}
+use Rattle.cap_model.proofs.Rounding.RoundingsWithin.{rounded_base_exact, rounded_top_exact}
 use Rattle.cap_ops.specs.Making.{capability_with, made}
 use Rattle.cap_ops.proofs.Exactness.{exact_test}
 use Rattle.cap_ops.proofs.Makings.{made-ok}

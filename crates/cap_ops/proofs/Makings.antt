@@ -1,28 +1,28 @@
 -- Capabilities that are made from parts: their upper half is that of the null word with these fields.
 use Rattle.std.proofs.Common.{◌≡◌, ℕ, ◌+◌, ◌-◌, ◌^◌, ◌<◌, ◌≤◌, true, false, ◌==◌, ◌↔◌, Ok, Err, arith, refl, ap, ◌∙◌, eqb-true, lt-ltb, le-ltb, subst}
 use Rattle.std.proofs.lemmas.Bool.{and_parts, false_from_ne_true}
-use Rattle.cheri_model.specs.Numbers.{first_from}
-use Rattle.cheri_model.specs.Lengths.{exponent, internal_exponent, granule}
-use Rattle.cheri_model.specs.Window.{IsInWindow, is_in_window}
-use Rattle.cheri_model.specs.Rounding.{rounded_base, rounded_top}
-use Rattle.cheri_model.specs.RawBounds.{raw_base, raw_top}
-use Rattle.cheri_model.specs.Fields.{with_null_fields}
-use Rattle.cheri_model.specs.PermissionNames.{known_permissions}
-use Rattle.cheri_model.specs.Capability.{IsPermissionSet, IsLawfulType, IsLawful, unsealed_type, b_field, t_field, upper_of_fields, upper_of, word_of}
-use Rattle.cheri_model.specs.CapValue.{valid}
-use Rattle.cheri_model.specs.EditedWords.{word_of_halves, with_perms, with_otype, with_rounded_fields}
-use Rattle.cheri_model.specs.Results.{is_exact}
-use Rattle.cheri_model.proofs.Results.PermissionSets.{dropped_bits_leave_set}
-use Rattle.cheri_model.proofs.Rounding.Roundings.{rounded_length, rounded_base_multiple, rounded_top_multiple}
-use Rattle.cheri_model.proofs.Rounding.RoundingsWithin.{requested_base_in_window}
-use Rattle.cheri_model.proofs.Words.FieldsBack.{HasFields, with_null_fields_twice}
-use Rattle.cheri_model.proofs.Words.WordsBack.{word_lt}
-use Rattle.cheri_model.proofs.Bounds.WindowsEnd.{same_bounds_in_window}
-use Rattle.cheri_model.proofs.Words.AddressesMoved.{moved_lawful, moved_word}
-use Rattle.cheri_model.proofs.Words.FieldsEdited.{edited_perms, edited_otype, edited_bounds}
-use Rattle.cheri_model.proofs.Words.BoundsRounded.{rounded_fields}
-use Rattle.cheri_model.proofs.Results.Values.{IsResult, result_of}
-use Rattle.cheri_model.proofs.Results.AddressResults.{window_test, test_of_window}
+use Rattle.cap_model.specs.bounds.Numbers.{first_from}
+use Rattle.cap_model.specs.bounds.Lengths.{exponent, internal_exponent, granule}
+use Rattle.cap_model.specs.bounds.Window.{IsInWindow, is_in_window}
+use Rattle.cap_model.specs.bounds.Rounding.{rounded_base, rounded_top}
+use Rattle.cap_model.specs.words.RawBounds.{raw_base, raw_top}
+use Rattle.cap_model.specs.words.Fields.{with_null_fields}
+use Rattle.cap_model.specs.words.PermissionNames.{known_permissions}
+use Rattle.cap_model.specs.values.Capability.{IsPermissionSet, IsLawfulType, IsLawful, unsealed_type, b_field, t_field, upper_of_fields, upper_of, word_of}
+use Rattle.cap_model.specs.values.CapValue.{valid}
+use Rattle.cap_model.specs.results.EditedWords.{word_of_halves, with_perms, with_otype, with_rounded_fields}
+use Rattle.cap_model.specs.results.Addresses.{is_exact}
+use Rattle.cap_model.proofs.Results.PermissionSets.{dropped_bits_leave_set}
+use Rattle.cap_model.proofs.Rounding.Roundings.{rounded_length, rounded_base_multiple, rounded_top_multiple}
+use Rattle.cap_model.proofs.Rounding.RoundingsWithin.{requested_base_in_window}
+use Rattle.cap_model.proofs.Words.FieldsBack.{HasFields, with_null_fields_twice}
+use Rattle.cap_model.proofs.Words.WordsBack.{word_lt}
+use Rattle.cap_model.proofs.Bounds.WindowsEnd.{same_bounds_in_window}
+use Rattle.cap_model.proofs.Words.AddressesMoved.{moved_lawful, moved_word}
+use Rattle.cap_model.proofs.Words.FieldsEdited.{edited_perms, edited_otype, edited_bounds}
+use Rattle.cap_model.proofs.Words.BoundsRounded.{rounded_fields}
+use Rattle.cap_model.proofs.Results.Values.{IsResult, result_of}
+use Rattle.cap_model.proofs.Results.AddressResults.{window_test, test_of_window}
 use Rattle.cap_ops.specs.declared.making.MakeFault.TheVariants.{PastEnd, Inexact, Unrepresentable}
 use Rattle.cap_ops.specs.Making.{capability_with, made, root_with}
 

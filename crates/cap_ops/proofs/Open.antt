@@ -1,12 +1,12 @@
 -- Short names for hints: each definition opens what its own line names.
 use Rattle.std.specs.Prelude.{ℕ, Bool}
-use Rattle.cheri_model.specs.Capability.{Capability, capability_at}
-use Rattle.cheri_model.specs.CapValue.{CapValue}
-use Rattle.cheri_model.specs.EditedWords.{word_with_upper, with_rounded_fields}
-use Rattle.cheri_model.specs.FieldResults.{set_high}
-use Rattle.cheri_model.specs.Fields.{word_otype}
-use Rattle.cheri_model.specs.Results.{address_of, inc_offset}
-use Rattle.cheri_model.proofs.Results.Values.{perms_known}
+use Rattle.cap_model.specs.values.Capability.{Capability, capability_at}
+use Rattle.cap_model.specs.values.CapValue.{CapValue}
+use Rattle.cap_model.specs.results.EditedWords.{word_with_upper, with_rounded_fields}
+use Rattle.cap_model.specs.results.Fields.{set_high}
+use Rattle.cap_model.specs.words.Fields.{word_otype}
+use Rattle.cap_model.specs.results.Addresses.{address_of, inc_offset}
+use Rattle.cap_model.proofs.Results.Values.{perms_known}
 
 unfoldable pub parts : ℕ → Capability
 unfolding capability_at

@@ -1,19 +1,19 @@
 -- Values with their bounds and fields beside them.
 use Rattle.std.proofs.Common.{◌≡◌, ℕ, ◌+◌, ◌*◌, ◌/◌, ◌%◌, ◌^◌, ◌<◌, ◌≤◌, Bool, true, false, ◌&&◌, arith, ap, sym, subst, ◌∙◌, refl}
 use Rattle.std.proofs.lemmas.Bool.{and_parts, false≢true}
-use Rattle.cheri_model.specs.Fields.{with_null_fields, perms_of_field, field_of_perms, word_ie, stored_t, stored_b, word_exponent, word_b, word_t, word_t14, word_perms, word_otype, word_flag}
-use Rattle.cheri_model.specs.RawBounds.{region_floor, region_start, region_offset, raw_base, uncorrected_top, corrected_top, raw_top}
-use Rattle.cheri_model.specs.Capability.{Capability, IsPermissionSet, unsealed_type, capability_at}
-use Rattle.cheri_model.specs.CapValue.{CapValue, valid, raw, bits_of, tag_of, parts_of, value_at, IsLawfulValue, IsTaggedWord}
-use Rattle.cheri_model.specs.ValueFacts.{bits_of-value_at, tag_of-value_at, parts_of-value_at, IsLawfulValue-value_at}
-use Rattle.cheri_model.specs.EditedWords.{word_of_halves}
-use Rattle.cheri_model.specs.Readings.{base_of, top_of, permissions_of}
-use Rattle.cheri_model.specs.Results.{is_open, keeps_bounds, set_address}
-use Rattle.cheri_model.proofs.Words.FieldsBack.{with_null_fields_lt}
-use Rattle.cheri_model.proofs.Words.WordsBack.{upper_of_word, raw_base_of_upper, raw_top_of_upper, capability_at_word_of}
-use Rattle.cheri_model.proofs.Bounds.WindowsHold.{lawful_bounds_in_window}
-use Rattle.cheri_model.proofs.Results.Values.{open_parts, bits_lt, perms_known}
-use Rattle.cheri_model.proofs.Results.AddressResults.{window_test, test_of_window, set_address-result}
+use Rattle.cap_model.specs.words.Fields.{with_null_fields, perms_of_field, field_of_perms, word_ie, stored_t, stored_b, word_exponent, word_b, word_t, word_t14, word_perms, word_otype, word_flag}
+use Rattle.cap_model.specs.words.RawBounds.{region_floor, region_start, region_offset, raw_base, uncorrected_top, corrected_top, raw_top}
+use Rattle.cap_model.specs.values.Capability.{Capability, IsPermissionSet, unsealed_type, capability_at}
+use Rattle.cap_model.specs.values.CapValue.{CapValue, valid, raw, bits_of, tag_of, parts_of, value_at, IsLawfulValue, IsTaggedWord}
+use Rattle.cap_model.specs.values.ValueFacts.{bits_of-value_at, tag_of-value_at, parts_of-value_at, IsLawfulValue-value_at}
+use Rattle.cap_model.specs.results.EditedWords.{word_of_halves}
+use Rattle.cap_model.specs.results.Readings.{base_of, top_of, permissions_of}
+use Rattle.cap_model.specs.results.Addresses.{is_open, keeps_bounds, set_address}
+use Rattle.cap_model.proofs.Words.FieldsBack.{with_null_fields_lt}
+use Rattle.cap_model.proofs.Words.WordsBack.{upper_of_word, raw_base_of_upper, raw_top_of_upper, capability_at_word_of}
+use Rattle.cap_model.proofs.Bounds.WindowsHold.{lawful_bounds_in_window}
+use Rattle.cap_model.proofs.Results.Values.{open_parts, bits_lt, perms_known}
+use Rattle.cap_model.proofs.Results.AddressResults.{window_test, test_of_window, set_address-result}
 use Rattle.cap_ops.specs.Unpacked.{IsUnpacked}
 use Rattle.cap_ops.proofs.Made.{address_word, made_tagged, made_value}
 

@@ -1,10 +1,10 @@
 -- Making a capability from its parts: just these bounds, or a refusal.
 use Rattle.std.specs.Prelude.{ℕ, ◌+◌, ◌^◌, nat_lt, not, Result, Ok, Err, if◌then◌else◌}
-use Rattle.cheri_model.specs.Window.{is_in_window}
-use Rattle.cheri_model.specs.PermissionNames.{known_permissions}
-use Rattle.cheri_model.specs.Capability.{Capability, unsealed_type}
-use Rattle.cheri_model.specs.CapValue.{CapValue, valid}
-use Rattle.cheri_model.specs.Results.{is_exact}
+use Rattle.cap_model.specs.bounds.Window.{is_in_window}
+use Rattle.cap_model.specs.words.PermissionNames.{known_permissions}
+use Rattle.cap_model.specs.values.Capability.{Capability, unsealed_type}
+use Rattle.cap_model.specs.values.CapValue.{CapValue, valid}
+use Rattle.cap_model.specs.results.Addresses.{is_exact}
 use Rattle.cap_ops.specs.declared.making.MakeFault.{MakeFault}
 use Rattle.cap_ops.specs.declared.making.MakeFault.TheVariants.{PastEnd, Inexact, Unrepresentable}
 

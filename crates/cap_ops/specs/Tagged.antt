@@ -1,9 +1,9 @@
 -- Values of a tag and a word from outside: a tag counts on the word of a lawful capability alone.
 use Rattle.std.specs.Prelude.{ℕ, ◌+◌, ◌-◌, ◌^◌, ◌==◌, nat_le, nat_lt, not, Bool, ◌&&◌}
-use Rattle.cheri_model.specs.Window.{is_in_window}
-use Rattle.cheri_model.specs.Capability.{last_sealable_type, word_of, capability_at}
-use Rattle.cheri_model.specs.CapValue.{CapValue, value_at}
-use Rattle.cheri_model.specs.Rebuilt.{are_aligned}
+use Rattle.cap_model.specs.bounds.Window.{is_in_window}
+use Rattle.cap_model.specs.values.Capability.{last_sealable_type, word_of, capability_at}
+use Rattle.cap_model.specs.values.CapValue.{CapValue, value_at}
+use Rattle.cap_model.specs.results.Rebuilt.{are_aligned}
 
 -- whether a capability can have an object type: it has 18 bits, and is none of the two reserved ones
 abbrev pub is_lawful_type : ℕ → Bool

@@ -1,8 +1,8 @@
 -- What a capability value keeps beside its word.
 use Rattle.std.specs.Prelude.{◌≡◌, ℕ, ◌%◌, ◌^◌, Bool}
-use Rattle.cheri_model.specs.CapValue.{CapValue, IsLawfulValue, bits_of, tag_of}
-use Rattle.cheri_model.specs.Fields.{field_of_perms}
-use Rattle.cheri_model.specs.Readings.{base_of, top_of, high_of, flags_of, object_type_of, permissions_of}
+use Rattle.cap_model.specs.values.CapValue.{CapValue, IsLawfulValue, bits_of, tag_of}
+use Rattle.cap_model.specs.words.Fields.{field_of_perms}
+use Rattle.cap_model.specs.results.Readings.{base_of, top_of, high_of, flags_of, object_type_of, permissions_of}
 
 -- the value is lawful, and these are its tag t, the halves u and a of its word, and the bounds and fields that the
 -- word is decoded to

@@ -4,7 +4,7 @@
 //! word is new.
 
 ghost use Rattle.std.specs.Prelude.{◌≡◌, ◌+◌, ◌*◌, ◌/◌, ◌%◌, ◌^◌, ◌&&◌};
-ghost use Rattle.cheri_model.specs.CapValue.{
+ghost use Rattle.cap_model.specs.values.CapValue.{
   raw,
   bits_of,
   tag_of,
@@ -13,15 +13,15 @@ ghost use Rattle.cheri_model.specs.CapValue.{
   IsLawfulValue,
   IsTaggedWord,
 };
-ghost use Rattle.cheri_model.specs.Capability.{capability_at};
-ghost use Rattle.cheri_model.specs.EditedWords.{word_of_halves};
-ghost use Rattle.cheri_model.specs.RawBounds.{raw_base, raw_top};
-ghost use Rattle.cheri_model.specs.Readings.{top_of};
-ghost use Rattle.cheri_model.specs.Results.{address_of, is_open, keeps_bounds, set_address};
+ghost use Rattle.cap_model.specs.values.Capability.{capability_at};
+ghost use Rattle.cap_model.specs.results.EditedWords.{word_of_halves};
+ghost use Rattle.cap_model.specs.words.RawBounds.{raw_base, raw_top};
+ghost use Rattle.cap_model.specs.results.Readings.{top_of};
+ghost use Rattle.cap_model.specs.results.Addresses.{address_of, is_open, keeps_bounds, set_address};
 
 use crate::fields::permission_field;
 use cap_bounds::{decode, fields};
-use cheri_model::{ADDRESS_SPACE, UNSEALED_TYPE, Value};
+use cap_model::{ADDRESS_SPACE, UNSEALED_TYPE, Value};
 use std::marker::Model;
 
 mod tagged;
@@ -45,10 +45,10 @@ pub struct Cap {
 
 impl Model for Cap {
     ghost use Rattle.std.specs.Prelude.{◌%◌, ◌^◌};
-    ghost use Rattle.cheri_model.specs.CapValue.{CapValue, bits_of, tag_of, value_at};
-    ghost use Rattle.cheri_model.specs.EditedWords.{word_of_halves};
-    ghost use Rattle.cheri_model.specs.Fields.{field_of_perms};
-    ghost use Rattle.cheri_model.specs.Readings.{
+    ghost use Rattle.cap_model.specs.values.CapValue.{CapValue, bits_of, tag_of, value_at};
+    ghost use Rattle.cap_model.specs.results.EditedWords.{word_of_halves};
+    ghost use Rattle.cap_model.specs.words.Fields.{field_of_perms};
+    ghost use Rattle.cap_model.specs.results.Readings.{
       base_of,
       top_of,
       high_of,

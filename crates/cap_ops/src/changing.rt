@@ -2,8 +2,8 @@
 //! the same edited word without a tag (CHERI ISA v9, "capability instructions").
 
 ghost use Rattle.std.specs.Prelude.{◌≡◌, ◌+◌, ◌%◌, ◌^◌, ◌&&◌};
-ghost use Rattle.cheri_model.specs.CapValue.{parts_of, IsLawfulValue};
-ghost use Rattle.cheri_model.specs.Results.{
+ghost use Rattle.cap_model.specs.values.CapValue.{parts_of, IsLawfulValue};
+ghost use Rattle.cap_model.specs.results.Addresses.{
   address_of,
   is_open,
   in_bounds,
@@ -15,7 +15,7 @@ ghost use Rattle.cheri_model.specs.Results.{
   set_bounds,
   set_bounds_exact,
 };
-ghost use Rattle.cheri_model.specs.FieldResults.{and_perm, set_flags, set_high};
+ghost use Rattle.cap_model.specs.results.Fields.{and_perm, set_flags, set_high};
 
 use crate::cap::Cap;
 use crate::fields::{with_flag, with_perms, with_rounded_fields};
@@ -81,7 +81,7 @@ impl Cap {
 
     /// Whether this is open and the range of `len` addresses from its address on lies in its
     /// bounds.
-    #[tactic(auto, unfolding(cheri_model::specs::Results::address_of))]
+    #[tactic(auto, unfolding(cap_model::specs::results::Addresses::address_of))]
     fn may_narrow(self, len: u64) -> bool
         ensures value { result ≡ (is_open self && in_bounds self (address_of self) len) }
         ensures lawful { IsLawfulValue self }

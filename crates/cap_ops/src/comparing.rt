@@ -1,8 +1,8 @@
 //! Comparisons of two values, tagged or not (CHERI ISA v9, "capability instructions").
 
 ghost use Rattle.std.specs.Prelude.{◌≡◌};
-ghost use Rattle.cheri_model.specs.CapValue.{parts_of};
-ghost use Rattle.cheri_model.specs.Readings.{same_tag, lies_in, is_subset, is_equal_exact};
+ghost use Rattle.cap_model.specs.values.CapValue.{parts_of};
+ghost use Rattle.cap_model.specs.results.Readings.{same_tag, lies_in, is_subset, is_equal_exact};
 
 use crate::cap::Cap;
 
@@ -16,7 +16,7 @@ fn same_tag(first: bool, second: bool) -> bool
 impl Cap {
     /// Whether the tags are equal, and the other's bounds and permissions lie in this one's
     /// (CTestSubset). Object types are not compared.
-    #[tactic(auto, unfolding(cheri_model::specs::Readings::is_subset))]
+    #[tactic(auto, unfolding(cap_model::specs::results::Readings::is_subset))]
     pub fn test_subset(self, other: Cap) -> bool
         ensures { result ≡ is_subset self other }
     {
@@ -43,7 +43,7 @@ impl Cap {
     }
 
     /// Whether the tags and the words are equal (CSetEqualExact).
-    #[tactic(auto, unfolding(cheri_model::specs::Readings::is_equal_exact))]
+    #[tactic(auto, unfolding(cap_model::specs::results::Readings::is_equal_exact))]
     pub fn equal_exact(self, other: Cap) -> bool
         ensures { result ≡ is_equal_exact self other }
     {

@@ -1,8 +1,8 @@
 //! Laws over the making of capabilities: each function does nothing, and its contract is the law.
 
 ghost use Rattle.std.specs.Prelude.{◌≡◌, ℕ, ◌-◌, ◌^◌, ◌<◌, ◌↔◌, IsTrue, Ok};
-ghost use Rattle.cheri_model.specs.Capability.{Capability, IsLawful, word_of};
-ghost use Rattle.cheri_model.specs.CapValue.{valid, IsEncoding};
+ghost use Rattle.cap_model.specs.values.Capability.{Capability, IsLawful, word_of};
+ghost use Rattle.cap_model.specs.values.CapValue.{valid, IsEncoding};
 ghost use Rattle.cap_ops.specs.Making.{made};
 ghost use Rattle.cap_ops.specs.Tagged.{is_encoding};
 

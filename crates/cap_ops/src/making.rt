@@ -1,13 +1,13 @@
 //! Making capabilities from their parts (CHERI ISA v9, "architectural capabilities").
 
 ghost use Rattle.std.specs.Prelude.{◌≡◌, ◌^◌, ◌≤◌, ◌<◌};
-ghost use Rattle.cheri_model.specs.Capability.{IsLawfulType, unsealed_type};
+ghost use Rattle.cap_model.specs.values.Capability.{IsLawfulType, unsealed_type};
 ghost use Rattle.cap_ops.specs.Making.{make_fault_number, made, root_with};
 
 use crate::cap::Cap;
 use crate::fields::{with_otype, with_perms, with_rounded_fields};
 use cap_bounds::representable;
-use cheri_model::{ADDRESS_SPACE, OType, Perms};
+use cap_model::{ADDRESS_SPACE, OType, Perms};
 
 /// Why no capability has these parts: the first reason that holds.
 #[derive(Clone, Copy, Debug, PartialEq, Eq)]

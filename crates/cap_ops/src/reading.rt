@@ -1,10 +1,10 @@
 //! What instructions read off a value, tagged or not. Nothing here decodes the bounds.
 
 ghost use Rattle.std.specs.Prelude.{◌≡◌, ◌+◌, ◌^◌, ◌<◌, ◌≤◌, ◌&&◌};
-ghost use Rattle.cheri_model.specs.CapValue.{tag_of, parts_of, IsLawfulValue};
-ghost use Rattle.cheri_model.specs.Capability.{IsPermissionSet};
-ghost use Rattle.cheri_model.specs.Results.{is_open, has_permission, length_of};
-ghost use Rattle.cheri_model.specs.Readings.{
+ghost use Rattle.cap_model.specs.values.CapValue.{tag_of, parts_of, IsLawfulValue};
+ghost use Rattle.cap_model.specs.values.Capability.{IsPermissionSet};
+ghost use Rattle.cap_model.specs.results.Addresses.{is_open, has_permission, length_of};
+ghost use Rattle.cap_model.specs.results.Readings.{
   permissions_of,
   object_type_of,
   type_number_of,
@@ -14,17 +14,17 @@ ghost use Rattle.cheri_model.specs.Readings.{
   offset_of,
   is_sealed,
 };
-ghost use Rattle.cheri_model.specs.Sweeps.{is_in_sweep};
+ghost use Rattle.cap_model.specs.results.Swept.{is_in_sweep};
 
 use crate::cap::Cap;
 use crate::fields::shown_permissions;
 use bitflags::Flags;
-use cheri_model::{LAST_SEALABLE_TYPE, OType, Perms, UNSEALED_TYPE};
+use cap_model::{LAST_SEALABLE_TYPE, OType, Perms, UNSEALED_TYPE};
 
 impl Cap {
     /// The bounds: the base, and the top, which is the first address above them. The top of a word
     /// that no instruction makes may lie below its base.
-    #[tactic(auto, using(cheri_model::proofs::Results::Values::top_lt))]
+    #[tactic(auto, using(cap_model::proofs::Results::Values::top_lt))]
     pub fn bounds(self) -> (u64, u128)
         ensures base { result.0 ≡ base_of self }
         ensures top { result.1 ≡ top_of self }
@@ -42,7 +42,7 @@ impl Cap {
     }
 
     /// The length (CGetLen): the top less the base modulo 2^65, and 2^64 - 1 where that is more.
-    #[tactic(auto, unfolding(cheri_model::specs::Results::length_of))]
+    #[tactic(auto, unfolding(cap_model::specs::results::Addresses::length_of))]
     pub fn len(self) -> u64
         ensures { result ≡ length_of self }
     {
@@ -52,7 +52,7 @@ impl Cap {
     }
 
     /// The address less the base, modulo 2^64 (CGetOffset).
-    #[tactic(auto, unfolding(cheri_model::specs::Readings::offset_of))]
+    #[tactic(auto, unfolding(cap_model::specs::results::Readings::offset_of))]
     pub fn offset(self) -> u64
         ensures { result ≡ offset_of self }
     {
@@ -88,7 +88,7 @@ impl Cap {
 
     /// The object type as an integer register has it (CGetType): a type above the sealable ones is
     /// sign-extended from 18 bits, so that unsealed is 2^64 - 1.
-    #[tactic(auto, unfolding(cheri_model::specs::Readings::type_number_of))]
+    #[tactic(auto, unfolding(cap_model::specs::results::Readings::type_number_of))]
     pub fn otype(self) -> u64
         ensures { result ≡ type_number_of self }
     {
@@ -101,7 +101,7 @@ impl Cap {
     }
 
     /// The flag, 0 or 1 (CGetFlags).
-    #[tactic(auto, unfolding(cheri_model::specs::Capability::capability_at))]
+    #[tactic(auto, unfolding(cap_model::specs::values::Capability::capability_at))]
     pub fn flags(self) -> u8
         ensures { result ≡ flags_of self }
     {

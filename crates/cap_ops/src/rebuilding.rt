@@ -1,11 +1,11 @@
 //! Rebuilding a capability from what a word says, under an authority (CHERI ISA v9, CBuildCap).
 
 ghost use Rattle.std.specs.Prelude.{◌≡◌, ◌/◌, ◌^◌, ◌==◌, ◌&&◌, nat_le};
-ghost use Rattle.cheri_model.specs.CapValue.{bits_of, parts_of, IsLawfulValue};
-ghost use Rattle.cheri_model.specs.Fields.{word_reserved};
-ghost use Rattle.cheri_model.specs.Readings.{base_of, top_of, lies_in};
-ghost use Rattle.cheri_model.specs.Rebuilt.{build};
-ghost use Rattle.cheri_model.specs.Results.{is_open};
+ghost use Rattle.cap_model.specs.values.CapValue.{bits_of, parts_of, IsLawfulValue};
+ghost use Rattle.cap_model.specs.words.Fields.{word_reserved};
+ghost use Rattle.cap_model.specs.results.Readings.{base_of, top_of, lies_in};
+ghost use Rattle.cap_model.specs.results.Rebuilt.{build};
+ghost use Rattle.cap_model.specs.results.Addresses.{is_open};
 
 use crate::cap::Cap;
 use cap_bounds::fields;

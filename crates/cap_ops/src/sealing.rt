@@ -1,10 +1,10 @@
 //! Sealing and unsealing by object type (CHERI ISA v9, "sealed capabilities").
 
 ghost use Rattle.std.specs.Prelude.{◌≡◌, ◌%◌, ◌^◌, ◌<◌, ◌==◌, ◌&&◌};
-ghost use Rattle.cheri_model.specs.CapValue.{tag_of, parts_of, IsLawfulValue};
-ghost use Rattle.cheri_model.specs.Capability.{IsPermissionSet};
-ghost use Rattle.cheri_model.specs.Results.{address_of, is_open, has_permission};
-ghost use Rattle.cheri_model.specs.SealResults.{
+ghost use Rattle.cap_model.specs.values.CapValue.{tag_of, parts_of, IsLawfulValue};
+ghost use Rattle.cap_model.specs.values.Capability.{IsPermissionSet};
+ghost use Rattle.cap_model.specs.results.Addresses.{address_of, is_open, has_permission};
+ghost use Rattle.cap_model.specs.results.Seals.{
   seal_permission,
   unseal_permission,
   execute_permission,
@@ -19,7 +19,7 @@ ghost use Rattle.cheri_model.specs.SealResults.{
 
 use crate::cap::Cap;
 use crate::fields::{with_otype, with_perms};
-use cheri_model::{LAST_SEALABLE_TYPE, SENTRY_TYPE, UNSEALED_TYPE, permission};
+use cap_model::{LAST_SEALABLE_TYPE, SENTRY_TYPE, UNSEALED_TYPE, permission};
 
 impl Cap {
     /// Sealed with the authority's address as its object type (CSeal). The tag stays where this is
@@ -71,7 +71,7 @@ impl Cap {
     }
 
     /// Whether this may be sealed under the authority.
-    #[tactic(auto, unfolding(cheri_model::specs::Results::address_of))]
+    #[tactic(auto, unfolding(cap_model::specs::results::Addresses::address_of))]
     fn may_seal(self, authority: Cap) -> bool
         ensures value { result ≡ (is_open self && has_type_authority authority seal_permission
             && is_sealable (address_of authority)) }
@@ -87,7 +87,7 @@ impl Cap {
     }
 
     /// Whether this may be unsealed under the authority.
-    #[tactic(auto, unfolding(cheri_model::specs::Results::address_of))]
+    #[tactic(auto, unfolding(cap_model::specs::results::Addresses::address_of))]
     fn may_unseal(self, authority: Cap) -> bool
         ensures value { result ≡ (tag_of self && is_sealable (parts_of self).otype
             && has_type_authority authority unseal_permission
@@ -121,7 +121,7 @@ impl Cap {
 
     /// Whether this has authority, by the permission with this number, over the object type that is
     /// its address.
-    #[tactic(auto, unfolding(cheri_model::specs::Results::address_of))]
+    #[tactic(auto, unfolding(cap_model::specs::results::Addresses::address_of))]
     fn has_type_authority(self, permission: u32) -> bool
         requires { permission < 19 }
         ensures { result ≡ has_type_authority self permission }
@@ -138,7 +138,7 @@ impl Cap {
     }
 
     /// The permissions after unsealing under the authority.
-    #[tactic(auto, using(cheri_model::proofs::Results::FieldResultsMade::unsealed_perms_known))]
+    #[tactic(auto, using(cap_model::proofs::Results::FieldResultsMade::unsealed_perms_known))]
     fn unsealed_perms(self, authority: Cap) -> u32
         ensures value { result ≡ unsealed_perms self authority }
         ensures known { IsPermissionSet result }

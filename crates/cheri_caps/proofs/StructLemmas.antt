@@ -1,9 +1,9 @@
 -- Structs and the values that they mean.
 use Rattle.std.proofs.Common.{◌≡◌, ℕ, ◌+◌, ◌*◌, ◌/◌, ◌%◌, ◌^◌, ◌&&◌, Bool, true, false, refl, ap, arith, ◌∙◌}
-use Rattle.cheri_model.specs.Capability.{Capability, word_of}
-use Rattle.cheri_model.specs.CapValue.{CapValue, valid, raw, bits_of, tag_of, value_at, IsLawfulValue}
-use Rattle.cheri_model.specs.EditedWords.{word_of_halves}
-use Rattle.cheri_model.proofs.Words.WordsBack.{capability_at_word_of, encoding_of}
+use Rattle.cap_model.specs.values.Capability.{Capability, word_of}
+use Rattle.cap_model.specs.values.CapValue.{CapValue, valid, raw, bits_of, tag_of, value_at, IsLawfulValue}
+use Rattle.cap_model.specs.results.EditedWords.{word_of_halves}
+use Rattle.cap_model.proofs.Words.WordsBack.{capability_at_word_of, encoding_of}
 use Rattle.cap_ops.specs.Tagged.{is_encoding, value_from}
 use Rattle.cap_ops.proofs.Encodings.{encoding_passes}
 use Rattle.cheri_caps.specs.Structs.{value_of, struct_of}

@@ -1,13 +1,13 @@
 -- What the structs of C mean, and which struct a result is.
 use Rattle.std.specs.Prelude.{ℕ, ◌+◌, ◌*◌, ◌/◌, ◌%◌, ◌^◌, Bool, Result, Ok, Err, if◌then◌else◌}
-use Rattle.cheri_model.specs.Lengths.{internal_exponent}
-use Rattle.cheri_model.specs.Rounding.{rounding_exponent, rounded_base, rounded_top}
-use Rattle.cheri_model.specs.RawBounds.{raw_base, raw_top}
-use Rattle.cheri_model.specs.Capability.{b_field, t_field}
-use Rattle.cheri_model.specs.CapValue.{CapValue, raw, bits_of, tag_of}
-use Rattle.cheri_model.specs.EditedWords.{word_of_halves}
-use Rattle.cheri_model.specs.Readings.{base_of, top_of, offset_of, type_number_of, permissions_of, flags_of, is_sealed}
-use Rattle.cheri_model.specs.Results.{is_exact, length_of}
+use Rattle.cap_model.specs.bounds.Lengths.{internal_exponent}
+use Rattle.cap_model.specs.bounds.Rounding.{rounding_exponent, rounded_base, rounded_top}
+use Rattle.cap_model.specs.words.RawBounds.{raw_base, raw_top}
+use Rattle.cap_model.specs.values.Capability.{b_field, t_field}
+use Rattle.cap_model.specs.values.CapValue.{CapValue, raw, bits_of, tag_of}
+use Rattle.cap_model.specs.results.EditedWords.{word_of_halves}
+use Rattle.cap_model.specs.results.Readings.{base_of, top_of, offset_of, type_number_of, permissions_of, flags_of, is_sealed}
+use Rattle.cap_model.specs.results.Addresses.{is_exact, length_of}
 use Rattle.cap_ops.specs.Making.{make_fault_number, made}
 use Rattle.cap_ops.specs.Tagged.{is_lawful_type, value_from}
 use Rattle.cap_ops.specs.declared.making.MakeFault.{MakeFault}

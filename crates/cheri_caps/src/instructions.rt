@@ -2,17 +2,17 @@
 //! edited word without a tag (CHERI ISA v9, "capability instructions").
 
 ghost use Rattle.std.specs.Prelude.{◌≡◌};
-ghost use Rattle.cheri_model.specs.FieldResults.{and_perm, set_flags, set_high};
-ghost use Rattle.cheri_model.specs.Readings.{is_subset, is_equal_exact};
-ghost use Rattle.cheri_model.specs.Rebuilt.{build};
-ghost use Rattle.cheri_model.specs.Results.{
+ghost use Rattle.cap_model.specs.results.Fields.{and_perm, set_flags, set_high};
+ghost use Rattle.cap_model.specs.results.Readings.{is_subset, is_equal_exact};
+ghost use Rattle.cap_model.specs.results.Rebuilt.{build};
+ghost use Rattle.cap_model.specs.results.Addresses.{
   clear_tag,
   set_address,
   inc_offset,
   set_bounds,
   set_bounds_exact,
 };
-ghost use Rattle.cheri_model.specs.SealResults.{seal, unseal, seal_entry};
+ghost use Rattle.cap_model.specs.results.Seals.{seal, unseal, seal_entry};
 ghost use Rattle.cheri_caps.specs.Structs.{value_of, struct_of};
 
 use crate::structs::CheriCap;

@@ -8,7 +8,7 @@ use crate::structs::CheriMade;
 use crate::values::struct_of;
 use bitflags::Flags;
 use cap_ops::{Cap, MakeFault};
-use cheri_model::{LAST_SEALABLE_TYPE, OType, Perms, SENTRY_TYPE, UNSEALED_TYPE};
+use cap_model::{LAST_SEALABLE_TYPE, OType, Perms, SENTRY_TYPE, UNSEALED_TYPE};
 
 /// Of `make`: no capability has this type.
 const RESERVED_TYPE: u8 = 4;

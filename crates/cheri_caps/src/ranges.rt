@@ -1,7 +1,7 @@
 //! The rounding of requested ranges, and the lengths and alignments that need none.
 
 ghost use Rattle.std.specs.Prelude.{◌≡◌};
-ghost use Rattle.cheri_model.specs.Alignment.{representable_length, alignment_mask};
+ghost use Rattle.cap_model.specs.bounds.Alignment.{representable_length, alignment_mask};
 ghost use Rattle.cheri_caps.specs.Structs.{rounding};
 
 use crate::structs::CheriRounded;

@@ -1,14 +1,14 @@
 //! Values as C has them: a word and a tag that may say anything.
 
 ghost use Rattle.std.specs.Prelude.{◌≡◌, ◌/◌, ◌%◌, ◌^◌};
-ghost use Rattle.cheri_model.specs.CapValue.{raw};
+ghost use Rattle.cap_model.specs.values.CapValue.{raw};
 ghost use Rattle.cap_ops.specs.Making.{root_with};
 ghost use Rattle.cheri_caps.specs.Structs.{value_of, struct_of, parts_with};
 
 use crate::structs::{CheriCap, CheriParts};
 use bitflags::Flags;
 use cap_ops::Cap;
-use cheri_model::Perms;
+use cap_model::Perms;
 
 /// The value that a struct means. A tag on a word that no capability has counts as none.
 #[tactic(auto, unfolding(crate::specs::Structs::value_of))]

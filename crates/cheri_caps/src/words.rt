@@ -1,8 +1,8 @@
 //! Words of 128 bits, whether or not a capability has them.
 
 ghost use Rattle.std.specs.Prelude.{◌≡◌, ◌↔◌, IsTrue};
-ghost use Rattle.cheri_model.specs.EditedWords.{word_of_halves};
-ghost use Rattle.cheri_model.specs.Fields.{
+ghost use Rattle.cap_model.specs.results.EditedWords.{word_of_halves};
+ghost use Rattle.cap_model.specs.words.Fields.{
   word_perms,
   word_otype,
   word_flag,
@@ -10,7 +10,7 @@ ghost use Rattle.cheri_model.specs.Fields.{
   word_ie,
   word_exponent,
 };
-ghost use Rattle.cheri_model.specs.RawBounds.{raw_base, raw_top};
+ghost use Rattle.cap_model.specs.words.RawBounds.{raw_base, raw_top};
 ghost use Rattle.cap_ops.specs.Tagged.{is_encoding, value_from};
 ghost use Rattle.cheri_caps.specs.Structs.{bounds_with};
 

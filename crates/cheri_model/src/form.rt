@@ -1,7 +1,7 @@
 //! The forms of operands: instructions sorted by the operands that they take.
 
 ghost use Rattle.std.specs.Prelude.{◌≡◌};
-ghost use Rattle.cheri_model.specs.Form.{
+ghost use Rattle.cheri_model.specs.instructions.Form.{
   instr_of,
   three_instr,
   two_instr,
@@ -162,7 +162,7 @@ pub enum Form {
 
 impl ThreeOp {
     /// The instruction of this name with these operands.
-    #[tactic(auto, unfolding(crate::specs::Form::three_instr))]
+    #[tactic(auto, unfolding(crate::specs::instructions::Form::three_instr))]
     fn instr(self, cd: Reg, c1: Reg, c2: Reg) -> Instr
         ensures { result ≡ three_instr self cd c1 c2 }
     {
@@ -200,7 +200,7 @@ impl ThreeOp {
 
 impl TwoOp {
     /// The instruction of this name with these operands.
-    #[tactic(auto, unfolding(crate::specs::Form::two_instr))]
+    #[tactic(auto, unfolding(crate::specs::instructions::Form::two_instr))]
     fn instr(self, cd: Reg, c1: Reg) -> Instr
         ensures { result ≡ two_instr self cd c1 }
     {
@@ -226,7 +226,7 @@ impl TwoOp {
 
 impl ImmediateOp {
     /// The instruction of this name with these operands.
-    #[tactic(auto, unfolding(crate::specs::Form::immediate_instr))]
+    #[tactic(auto, unfolding(crate::specs::instructions::Form::immediate_instr))]
     fn instr(self, cd: Reg, c1: Reg, imm: i16) -> Instr
         ensures { result ≡ immediate_instr self cd c1 imm }
     {
@@ -245,7 +245,7 @@ impl ImmediateOp {
 
 impl ShiftOp {
     /// The instruction of this name with these operands.
-    #[tactic(auto, unfolding(crate::specs::Form::shift_instr))]
+    #[tactic(auto, unfolding(crate::specs::instructions::Form::shift_instr))]
     fn instr(self, cd: Reg, c1: Reg, amount: u8) -> Instr
         ensures { result ≡ shift_instr self cd c1 amount }
     {
@@ -259,7 +259,7 @@ impl ShiftOp {
 
 impl WordShiftOp {
     /// The instruction of this name with these operands.
-    #[tactic(auto, unfolding(crate::specs::Form::word_shift_instr))]
+    #[tactic(auto, unfolding(crate::specs::instructions::Form::word_shift_instr))]
     fn instr(self, cd: Reg, c1: Reg, amount: u8) -> Instr
         ensures { result ≡ word_shift_instr self cd c1 amount }
     {
@@ -273,7 +273,7 @@ impl WordShiftOp {
 
 impl UpperOp {
     /// The instruction of this name with these operands.
-    #[tactic(auto, unfolding(crate::specs::Form::upper_instr))]
+    #[tactic(auto, unfolding(crate::specs::instructions::Form::upper_instr))]
     fn instr(self, cd: Reg, imm: u32) -> Instr
         ensures { result ≡ upper_instr self cd imm }
     {
@@ -286,7 +286,7 @@ impl UpperOp {
 
 impl LoadOp {
     /// The instruction of this name with these operands.
-    #[tactic(auto, unfolding(crate::specs::Form::load_instr))]
+    #[tactic(auto, unfolding(crate::specs::instructions::Form::load_instr))]
     fn instr(self, cd: Reg, c1: Reg, imm: i16) -> Instr
         ensures { result ≡ load_instr self cd c1 imm }
     {
@@ -306,7 +306,7 @@ impl LoadOp {
 
 impl StoreOp {
     /// The instruction of this name with these operands.
-    #[tactic(auto, unfolding(crate::specs::Form::store_instr))]
+    #[tactic(auto, unfolding(crate::specs::instructions::Form::store_instr))]
     fn instr(self, c2: Reg, c1: Reg, imm: i16) -> Instr
         ensures { result ≡ store_instr self c2 c1 imm }
     {
@@ -322,7 +322,7 @@ impl StoreOp {
 
 impl BranchOp {
     /// The instruction of this name with these operands.
-    #[tactic(auto, unfolding(crate::specs::Form::branch_instr))]
+    #[tactic(auto, unfolding(crate::specs::instructions::Form::branch_instr))]
     fn instr(self, c1: Reg, c2: Reg, target: Target) -> Instr
         ensures { result ≡ branch_instr self c1 c2 target }
     {
@@ -339,7 +339,7 @@ impl BranchOp {
 
 impl Form {
     /// The instruction of this form.
-    #[tactic(auto, unfolding(crate::specs::Form::instr_of))]
+    #[tactic(auto, unfolding(crate::specs::instructions::Form::instr_of))]
     pub fn instr(self) -> Instr
         ensures { result ≡ instr_of self }
     {

@@ -4,23 +4,23 @@ ghost use Rattle.std.specs.Prelude.{◌≡◌, IfOk, true};
 ghost use Rattle.std.specs.Cmp.Rules.{comparing};
 ghost use Rattle.std.proofs.Common.{rules};
 ghost use Rattle.cheri_model.specs.contracts.instr.InstrPartialEq.TheImpl.Laws as instr_laws;
-ghost use Rattle.cheri_model.specs.contracts.value.ValuePartialEq.TheImpl.Laws as value_laws;
+ghost use Rattle.cap_model.specs.contracts.value.ValuePartialEq.TheImpl.Laws as value_laws;
 ghost use Rattle.cheri_model.specs.contracts.image.HartImagePartialEq.TheImpl.Laws as hart_laws;
 ghost use Rattle.cheri_model.specs.contracts.instr.InstrEq.TheImpl.Laws as instr_equal;
-ghost use Rattle.cheri_model.specs.contracts.value.ValueEq.TheImpl.Laws as value_equal;
+ghost use Rattle.cap_model.specs.contracts.value.ValueEq.TheImpl.Laws as value_equal;
 ghost use Rattle.cheri_model.specs.contracts.image.HartImageEq.TheImpl.Laws as hart_equal;
-ghost use Rattle.cheri_model.specs.ImageForm.{
+ghost use Rattle.cheri_model.specs.runs.ImageForm.{
   image_of,
   is_image,
   are_sizes,
   are_granules,
   is_granule,
 };
-ghost use Rattle.cheri_model.specs.Memory.{ram_base};
+ghost use Rattle.cheri_model.specs.steps.Memory.{ram_base};
 
 use crate::instr::Instr;
 use crate::memory::{GRANULE_BYTES, MAX_RAM_BYTES, RAM_BASE};
-use crate::value::Value;
+use cap_model::Value;
 use std::alloc::{AllocError, Global};
 use std::marker::Model;
 
@@ -53,11 +53,11 @@ pub struct Image {
 
 impl Model for Image {
     ghost use Rattle.std.specs.Prelude.{◌≡◌, true};
-    ghost use Rattle.cheri_model.specs.Image.{ImageParts};
+    ghost use Rattle.cheri_model.specs.runs.Image.{ImageParts};
 
     ghost Value = { ImageParts };
 
-    ghost use Rattle.cheri_model.specs.ImageForm.{is_image};
+    ghost use Rattle.cheri_model.specs.runs.ImageForm.{is_image};
 
     ghost view = { λ i. record {
       program = i.program.items;
@@ -75,7 +75,7 @@ impl Model for Image {
 }
 
 impl PartialEq for Image {
-    ghost use Rattle.cheri_model.specs.SameImages.{same_images};
+    ghost use Rattle.cheri_model.specs.runs.SameImages.{same_images};
 
     ghost eq = { same_images };
 
@@ -126,7 +126,7 @@ fn is_granule(ram: u32, from: u64, addr: u64, value: Value) -> bool
 }
 
 /// Whether these granules, in this order, may be those of an image with this RAM.
-#[tactic(auto, unfolding(crate::specs::ImageForm::are_granules))]
+#[tactic(auto, unfolding(crate::specs::runs::ImageForm::are_granules))]
 fn are_granules(ram: u32, granules: &[(u64, Value)]) -> bool
     ensures { result ≡ are_granules ram ram_base granules.now }
 {
@@ -143,7 +143,7 @@ fn are_granules(ram: u32, granules: &[(u64, Value)]) -> bool
 impl Image {
     /// The image of these parts. `None` exactly where a size is outside its limits or a granule
     /// cannot be listed at its place. Takes no memory.
-    #[tactic(auto, unfolding(crate::specs::ImageForm::image_of, crate::specs::ImageForm::is_image))]
+    #[tactic(auto, unfolding(crate::specs::runs::ImageForm::image_of, crate::specs::runs::ImageForm::is_image))]
     pub fn new(
         program: Vec<Instr>,
         ram: u32,

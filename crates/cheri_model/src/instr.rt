@@ -1,7 +1,7 @@
 //! Instructions as they stand in a program, one variant for each name.
 
 ghost use Rattle.std.specs.Prelude.{◌≡◌};
-ghost use Rattle.cheri_model.specs.Form.{form_of};
+ghost use Rattle.cheri_model.specs.instructions.Form.{form_of};
 
 use crate::form::{
     BranchOp, Form, ImmediateOp, LoadOp, ShiftOp, StoreOp, ThreeOp, TwoOp, UpperOp, WordShiftOp,
@@ -192,7 +192,7 @@ pub enum Instr {
 impl Instr {
     /// The same instruction by its form: its name among those with the same operands, and the
     /// operands.
-    #[tactic(auto, unfolding(crate::specs::Form::form_of))]
+    #[tactic(auto, unfolding(crate::specs::instructions::Form::form_of))]
     pub fn form(self) -> Form
         ensures { result ≡ form_of self }
     {
@@ -293,7 +293,7 @@ impl Instr {
 impl PartialEq for Instr {
     ghost use Rattle.std.specs.Cmp.Rules.{comparing};
     ghost use Rattle.std.proofs.Common.{rules};
-    ghost use Rattle.cheri_model.specs.SameInstrs.{same_instrs};
+    ghost use Rattle.cheri_model.specs.instructions.SameInstrs.{same_instrs};
     ghost use Rattle.cheri_model.specs.contracts.form.FormPartialEq.TheImpl.Laws as form_laws;
 
     ghost eq = { same_instrs };

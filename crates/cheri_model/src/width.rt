@@ -1,7 +1,7 @@
 //! The widths of data accesses.
 
 ghost use Rattle.std.specs.Prelude.{◌≡◌};
-ghost use Rattle.cheri_model.specs.Memory.{bytes_of};
+ghost use Rattle.cheri_model.specs.steps.Memory.{bytes_of};
 
 /// How much a data access moves: 1, 2, 4 or 8 bytes.
 #[derive(Clone, Copy, Debug, PartialEq, Eq)]

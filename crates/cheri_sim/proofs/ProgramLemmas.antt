@@ -4,8 +4,8 @@ use Rattle.std.specs.Prelude.{OnOk, IfErr}
 use Rattle.listings.specs.declared.fault.ListingFault.{ListingFault}
 use Rattle.listings.specs.Faults.{Gives}
 use Rattle.listings.specs.Meaning.{listing_meaning}
-use Rattle.cheri_model.specs.Image.{ImageParts}
-use Rattle.cheri_model.specs.declared.encoding.TheConstants.{ADDRESS_SPACE}
+use Rattle.cheri_model.specs.runs.Image.{ImageParts}
+use Rattle.cap_model.specs.declared.encoding.TheConstants.{ADDRESS_SPACE}
 use Rattle.reports.specs.Sinks.{TakesBeginning}
 use Rattle.machine.specs.declared.faults.StepFault.{StepFault}
 use Rattle.command_line.specs.Requests.{Asked, Check, Run, Race, Bounds, Decode}

@@ -5,8 +5,8 @@ use Rattle.std.specs.Io.KnownBytes.{Appends}
 use Rattle.listings.specs.declared.fault.ListingFault.{ListingFault}
 use Rattle.listings.specs.Faults.{Gives}
 use Rattle.listings.specs.Meaning.{listing_meaning}
-use Rattle.cheri_model.specs.Image.{ImageParts}
-use Rattle.cheri_model.specs.Replay.{IsReplay}
+use Rattle.cheri_model.specs.runs.Image.{ImageParts}
+use Rattle.cheri_model.specs.runs.Replay.{IsReplay}
 use Rattle.reports.specs.Report.{line, report}
 use Rattle.reports.specs.Sinks.{TakesBeginning}
 use Rattle.machine.specs.Cores.{CoreParts}

@@ -1,13 +1,13 @@
 -- The lines that the program answers about a listing, a range and a word, and the numbers that ask for them.
 use Rattle.std.specs.Prelude.{ℕ, nat_le, Bool, if◌then◌else◌, List, ◌++◌, codes, decimal, Option, Some, Result, Ok, Err, length}
-use Rattle.cheri_model.specs.Fields.{word_ie, word_exponent}
-use Rattle.cheri_model.specs.Lengths.{internal_exponent}
-use Rattle.cheri_model.specs.Rounding.{rounding_exponent, rounded_base, rounded_top}
-use Rattle.cheri_model.specs.Capability.{b_field, t_field}
-use Rattle.cheri_model.specs.CapValue.{CapValue, raw}
-use Rattle.cheri_model.specs.Image.{ImageParts}
-use Rattle.cheri_model.specs.Results.{is_exact, address_of, length_of}
-use Rattle.cheri_model.specs.Readings.{permissions_of, flags_of, object_type_of, high_of, base_of, top_of}
+use Rattle.cap_model.specs.words.Fields.{word_ie, word_exponent}
+use Rattle.cap_model.specs.bounds.Lengths.{internal_exponent}
+use Rattle.cap_model.specs.bounds.Rounding.{rounding_exponent, rounded_base, rounded_top}
+use Rattle.cap_model.specs.values.Capability.{b_field, t_field}
+use Rattle.cap_model.specs.values.CapValue.{CapValue, raw}
+use Rattle.cheri_model.specs.runs.Image.{ImageParts}
+use Rattle.cap_model.specs.results.Addresses.{is_exact, address_of, length_of}
+use Rattle.cap_model.specs.results.Readings.{permissions_of, flags_of, object_type_of, high_of, base_of, top_of}
 use Rattle.grammar.specs.declared.fault.ListingFaultKind.{ListingFaultKind}
 use Rattle.cheri_sim.specs.declared.faults.Fault.{Fault}
 use Rattle.cheri_sim.specs.declared.faults.Fault.TheVariants.{BadNumber}

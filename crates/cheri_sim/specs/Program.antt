@@ -1,8 +1,8 @@
 -- What the program prints for what it was asked.
 use Rattle.std.specs.Prelude.{◌≡◌, ℕ, List, ◌∷◌, map, codes, Option, Some, None, Ok, Err, IsErr, ◌⊎◌, Bool, true, false, String, string_bytes}
 use Rattle.std.specs.Global.{Global}
-use Rattle.cheri_model.specs.Image.{ImageParts}
-use Rattle.cheri_model.specs.declared.encoding.TheConstants.{ADDRESS_SPACE}
+use Rattle.cheri_model.specs.runs.Image.{ImageParts}
+use Rattle.cap_model.specs.declared.encoding.TheConstants.{ADDRESS_SPACE}
 use Rattle.listings.specs.declared.fault.ListingFault.{ListingFault}
 use Rattle.orders.specs.declared.fault.OrderFault.{OrderFault}
 use Rattle.listings.specs.Meaning.{listing_meaning}

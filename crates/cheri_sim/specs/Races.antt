@@ -1,7 +1,7 @@
 -- The race of a listing's harts, and what is printed of it.
 use Rattle.std.specs.Prelude.{◌≡◌, ℕ, ◌≤◌, List, ◌++◌, codes, decimal, length, Option, Ok, Err, ◌⊎◌}
-use Rattle.cheri_model.specs.Image.{ImageParts}
-use Rattle.cheri_model.specs.Replay.{IsReplay}
+use Rattle.cheri_model.specs.runs.Image.{ImageParts}
+use Rattle.cheri_model.specs.runs.Replay.{IsReplay}
 use Rattle.listings.specs.Meaning.{listing_meaning}
 use Rattle.reports.specs.Report.{line, report}
 use Rattle.reports.specs.Sinks.{TakesBeginning}

@@ -2,7 +2,7 @@
 use Rattle.std.specs.Prelude.{◌≡◌, ℕ, List, Option, Ok, Err, ◌⊎◌}
 use Rattle.serde_json.specs.Written.{compact_text}
 use Rattle.cheri_model.specs.declared.operation.Op.{Op}
-use Rattle.cheri_model.specs.Image.{ImageParts}
+use Rattle.cheri_model.specs.runs.Image.{ImageParts}
 use Rattle.listings.specs.Meaning.{listing_meaning}
 use Rattle.orders.specs.Orders.{order_of}
 use Rattle.reports.specs.Json.{json_report}

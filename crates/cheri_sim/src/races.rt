@@ -2,7 +2,7 @@
 
 ghost use Rattle.std.specs.Prelude.{◌≡◌, ◌≤◌, ◌↔◌, length, OnOk, OnErr, IfOk, IfErr, IfSome, Err};
 ghost use Rattle.std.specs.Prelude.{false, true};
-ghost use Rattle.cheri_model.specs.Replay.{IsReplay};
+ghost use Rattle.cheri_model.specs.runs.Replay.{IsReplay};
 ghost use Rattle.machine.specs.Cores.{is_limit};
 ghost use Rattle.harts.specs.Reports.{AreReports};
 ghost use Rattle.reports.specs.Report.{line};

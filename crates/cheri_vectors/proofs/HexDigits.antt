@@ -3,7 +3,7 @@ use Rattle.std.proofs.Common.{◌≡◌, ℕ, ◌+◌, ◌*◌, ◌/◌, ◌%◌
 use Rattle.std.proofs.lemmas.Bool.{cases_Bool, false_from_ne_true}
 use Rattle.std.proofs.lemmas.Fmt.{hex_one_digit}
 use Rattle.std.proofs.Math.Nat.{pow-suc, div-lt_iff_lt-mul, pow-le-pow_right}
-use Rattle.cheri_model.proofs.Results.Rebuildings.{eqb-of}
+use Rattle.cap_model.proofs.Results.Rebuildings.{eqb-of}
 use Rattle.std.specs.Fmt.{digit_glyph, digits_onto, digits}
 
 -- one more digit in front of what there is

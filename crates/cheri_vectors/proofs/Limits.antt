@@ -1,8 +1,8 @@
 -- How great the numbers of rows are.
 use Rattle.std.proofs.Common.{ℕ, ◌+◌, ◌-◌, ◌*◌, ◌/◌, ◌^◌, ◌<◌, ◌≤◌, arith, lit<}
 use Rattle.std.proofs.Math.Nat.{div-mul-le_self, pow-le-pow_right}
-use Rattle.cheri_model.specs.Rounding.{rounded_top}
-use Rattle.cheri_model.proofs.Rounding.Roundings.{rounding_bits, rounding_bits_at_most, rounded_top_is}
+use Rattle.cap_model.specs.bounds.Rounding.{rounded_top}
+use Rattle.cap_model.proofs.Rounding.Roundings.{rounding_bits, rounding_bits_at_most, rounded_top_is}
 
 -- a rounded top has at most 66 bits
 pub rounded_top_lt : (base len : ℕ) → base < 2 ^ 64 → len < 2 ^ 64 → rounded_top base len < 2 ^ 68

@@ -1,7 +1,7 @@
 -- Short names for hints: each definition opens what its own line names.
 use Rattle.std.specs.Prelude.{ℕ, List}
-use Rattle.cheri_model.specs.Fields.{with_null_fields}
-use Rattle.cheri_model.specs.RawBounds.{region_floor}
+use Rattle.cap_model.specs.words.Fields.{with_null_fields}
+use Rattle.cap_model.specs.words.RawBounds.{region_floor}
 use Rattle.cheri_vectors.specs.Ranges.{rounded_text}
 use Rattle.cheri_vectors.specs.Words.{bounds_text, upper_with, corner_addr}
 

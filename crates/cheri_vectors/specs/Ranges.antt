@@ -1,10 +1,10 @@
 -- The rows of ranges: lengths at each power of 2, and ranges that round up twice or end past the address space.
 use Rattle.std.specs.Prelude.{ℕ, ◌+◌, ◌-◌, ◌*◌, ◌/◌, ◌%◌, ◌^◌, ◌==◌, if◌then◌else◌, List, codes}
-use Rattle.cheri_model.specs.Lengths.{internal_exponent}
-use Rattle.cheri_model.specs.Rounding.{rounding_exponent, rounded_base, rounded_top}
-use Rattle.cheri_model.specs.Capability.{b_field, t_field}
-use Rattle.cheri_model.specs.Results.{is_exact}
-use Rattle.cheri_model.specs.Alignment.{representable_length, alignment_mask}
+use Rattle.cap_model.specs.bounds.Lengths.{internal_exponent}
+use Rattle.cap_model.specs.bounds.Rounding.{rounding_exponent, rounded_base, rounded_top}
+use Rattle.cap_model.specs.values.Capability.{b_field, t_field}
+use Rattle.cap_model.specs.results.Addresses.{is_exact}
+use Rattle.cap_model.specs.bounds.Alignment.{representable_length, alignment_mask}
 use Rattle.cheri_vectors.specs.Texts.{hex, bit_of, ◌+++◌}
 
 -- a range and the bounds of its rounding

@@ -1,12 +1,12 @@
 -- The rows of values: each operation on each of some values and each of some second ones.
 use Rattle.std.specs.Prelude.{ℕ, ◌+◌, ◌/◌, ◌%◌, ◌^◌, Bool, false, List, codes, get_or}
-use Rattle.cheri_model.specs.CapValue.{CapValue, raw, bits_of, tag_of}
-use Rattle.cheri_model.specs.EditedWords.{word_of_halves}
-use Rattle.cheri_model.specs.FieldResults.{and_perm, set_flags, set_high}
-use Rattle.cheri_model.specs.Readings.{is_subset, is_equal_exact}
-use Rattle.cheri_model.specs.Rebuilt.{build}
-use Rattle.cheri_model.specs.Results.{address_of, clear_tag, set_address, inc_offset, set_bounds, set_bounds_exact}
-use Rattle.cheri_model.specs.SealResults.{seal, unseal, seal_entry}
+use Rattle.cap_model.specs.values.CapValue.{CapValue, raw, bits_of, tag_of}
+use Rattle.cap_model.specs.results.EditedWords.{word_of_halves}
+use Rattle.cap_model.specs.results.Fields.{and_perm, set_flags, set_high}
+use Rattle.cap_model.specs.results.Readings.{is_subset, is_equal_exact}
+use Rattle.cap_model.specs.results.Rebuilt.{build}
+use Rattle.cap_model.specs.results.Addresses.{address_of, clear_tag, set_address, inc_offset, set_bounds, set_bounds_exact}
+use Rattle.cap_model.specs.results.Seals.{seal, unseal, seal_entry}
 use Rattle.cap_ops.specs.Tagged.{value_from}
 use Rattle.cheri_vectors.specs.declared.values.Given.{Given}
 use Rattle.cheri_vectors.specs.declared.values.Operation.{Operation}

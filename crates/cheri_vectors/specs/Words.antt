@@ -1,9 +1,9 @@
 -- The rows of words: null and each single bit, and words of each exponent with bounds at the quarters.
 use Rattle.std.specs.Prelude.{ℕ, ◌+◌, ◌-◌, ◌*◌, ◌/◌, ◌%◌, ◌^◌, ◌==◌, nat_lt, if◌then◌else◌, List, codes, slice_index}
-use Rattle.cheri_model.specs.Fields.{with_null_fields, word_perms, word_otype, word_flag, word_reserved, word_ie, word_exponent}
-use Rattle.cheri_model.specs.RawBounds.{region_floor, raw_base, raw_top}
-use Rattle.cheri_model.specs.Capability.{unsealed_type}
-use Rattle.cheri_model.specs.EditedWords.{word_of_halves}
+use Rattle.cap_model.specs.words.Fields.{with_null_fields, word_perms, word_otype, word_flag, word_reserved, word_ie, word_exponent}
+use Rattle.cap_model.specs.words.RawBounds.{region_floor, raw_base, raw_top}
+use Rattle.cap_model.specs.values.Capability.{unsealed_type}
+use Rattle.cap_model.specs.results.EditedWords.{word_of_halves}
 use Rattle.cap_ops.specs.Tagged.{is_encoding}
 use Rattle.cheri_vectors.specs.declared.words.TheConstants.{B_DIGITS, T_DIGITS}
 use Rattle.cheri_vectors.specs.Texts.{hex, bit_of, ◌+++◌}

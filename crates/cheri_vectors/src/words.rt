@@ -1,7 +1,7 @@
 //! The rows of words.
 
 ghost use Rattle.std.specs.Prelude.{◌≡◌, ◌+◌, ◌*◌, ◌/◌, ◌%◌, ◌^◌, ◌<◌, ◌++◌, OnOk, string_bytes};
-ghost use Rattle.cheri_model.specs.EditedWords.{word_of_halves};
+ghost use Rattle.cap_model.specs.results.EditedWords.{word_of_halves};
 ghost use Rattle.cap_ops.specs.Tagged.{is_encoding};
 ghost use Rattle.cheri_vectors.specs.Texts.{bit_of};
 ghost use Rattle.cheri_vectors.specs.Words.{
@@ -19,7 +19,7 @@ ghost use Rattle.cheri_vectors.specs.Words.{
 use crate::hex::Top;
 use cap_bounds::{decode, fields};
 use cap_ops::Cap;
-use cheri_model::{NULL_FIELDS, UNSEALED_TYPE};
+use cap_model::{NULL_FIELDS, UNSEALED_TYPE};
 use std::alloc::AllocError;
 
 /// How many rows have null or one bit.
@@ -53,7 +53,7 @@ pub fn upper_with(ie: u8, t: u32, b: u32) -> u64
 }
 
 /// Appends a word and its bounds.
-#[tactic(auto, using(cheri_model::proofs::Words::RawWords::raw_top_lt), unfolding(crate::proofs::Open::bounds))]
+#[tactic(auto, using(cap_model::proofs::Words::RawWords::raw_top_lt), unfolding(crate::proofs::Open::bounds))]
 fn push_bounds(out: &mut String, upper: u64, addr: u64) -> Result<(), AllocError>
     ensures { OnOk result (string_bytes out.new ≡ string_bytes out.old ++ bounds_text upper addr) }
 {

@@ -1,7 +1,7 @@
 -- Names for `unfolding(..)` that open what their own line names.
 use Rattle.std.specs.Prelude.{ℕ, List, Option, Result}
 use Rattle.bitflags.specs.Sets.{known_from}
-use Rattle.cheri_model.specs.declared.perms.Perms.{Perms}
+use Rattle.cap_model.specs.declared.perms.Perms.{Perms}
 use Rattle.grammar.specs.declared.fault.ListingFaultKind.{ListingFaultKind}
 use Rattle.grammar.specs.declared.operands.MemoryOperand.{MemoryOperand}
 use Rattle.grammar.specs.declared.operands.TypeOperand.{TypeOperand}

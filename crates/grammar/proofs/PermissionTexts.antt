@@ -9,7 +9,7 @@ use Rattle.std.proofs.lemmas.Str.Ascii.{IsAscii-from_all}
 use Rattle.std.proofs.lemmas.List.Elements.{All-nil, All-cons}
 use Rattle.std.proofs.lemmas.Bool.Decides.{nat_tests}
 use Rattle.bitflags.specs.Sets.{Row, find_row}
-use Rattle.cheri_model.specs.PermissionNames.{permission_table}
+use Rattle.cap_model.specs.words.PermissionNames.{permission_table}
 use Rattle.grammar.specs.Permissions.{permission_named}
 
 abbrev are_ascii : List ℕ → Bool

@@ -1,6 +1,6 @@
 -- The capabilities of a listing (this project's own format).
 use Rattle.std.specs.Prelude.{ℕ, ◌+◌, ◌-◌, ◌^◌, ◌==◌, if◌then◌else◌, List, length, Result, Ok, Err}
-use Rattle.cheri_model.specs.CapValue.{CapValue}
+use Rattle.cap_model.specs.values.CapValue.{CapValue}
 use Rattle.cap_ops.specs.Making.{made}
 use Rattle.cap_ops.specs.declared.making.MakeFault.{MakeFault}
 use Rattle.grammar.specs.declared.fault.ListingFaultKind.{ListingFaultKind}

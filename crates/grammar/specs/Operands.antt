@@ -7,7 +7,7 @@ use Rattle.grammar.specs.declared.operands.Immediate.{Immediate}
 use Rattle.grammar.specs.declared.operands.MemoryOperand.{MemoryOperand}
 use Rattle.grammar.specs.declared.operands.TypeOperand.{TypeOperand}
 use Rattle.grammar.specs.declared.operands.TypeOperand.TheVariants.{Unsealed, Sentry, Number}
-use Rattle.cheri_model.specs.Capability.{unsealed_type, sentry_type, last_sealable_type}
+use Rattle.cap_model.specs.values.Capability.{unsealed_type, sentry_type, last_sealable_type}
 use Rattle.grammar.specs.Faults.{◌>>=◌}
 use Rattle.grammar.specs.Numerals.{number_of, at_most}
 

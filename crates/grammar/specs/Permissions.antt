@@ -2,8 +2,8 @@
 use Rattle.std.specs.Prelude.{ℕ, ◌==◌, if◌then◌else◌, List, Option, Some, None, option_map, ok_or, fold, Result, Ok, codes, bytes_eq, bit_or}
 use Rattle.std.specs.List.{slice_split}
 use Rattle.bitflags.specs.Sets.{find_name}
-use Rattle.cheri_model.specs.declared.perms.Perms.{Perms}
-use Rattle.cheri_model.specs.PermissionNames.{permission_table, all_permissions}
+use Rattle.cap_model.specs.declared.perms.Perms.{Perms}
+use Rattle.cap_model.specs.words.PermissionNames.{permission_table, all_permissions}
 use Rattle.grammar.specs.declared.fault.ListingFaultKind.{ListingFaultKind}
 use Rattle.grammar.specs.declared.fault.ListingFaultKind.TheVariants.{Operand}
 

@@ -1,7 +1,7 @@
 //! The operands of a listing's lines.
 
 ghost use Rattle.std.specs.Prelude.{◌≡◌, ◌≢◌, ◌<◌, ◌≤◌, ◌^◌, ◌==◌, IfOk, position};
-ghost use Rattle.cheri_model.specs.Capability.{IsLawfulType};
+ghost use Rattle.cap_model.specs.values.Capability.{IsLawfulType};
 ghost use Rattle.grammar.specs.Operands.{
   register_of,
   register_numbered,
@@ -51,7 +51,7 @@ pub struct LawfulType {
 
 impl Model for LawfulType {
     ghost use Rattle.std.specs.Prelude.{ℕ};
-    ghost use Rattle.cheri_model.specs.Capability.{IsLawfulType};
+    ghost use Rattle.cap_model.specs.values.Capability.{IsLawfulType};
 
     ghost Value = { ℕ };
 

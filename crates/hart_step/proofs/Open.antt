@@ -11,13 +11,13 @@ use Rattle.cheri_model.specs.declared.form.UpperOp.{UpperOp}
 use Rattle.cheri_model.specs.declared.form.LoadOp.{LoadOp}
 use Rattle.cheri_model.specs.declared.form.StoreOp.{StoreOp}
 use Rattle.cheri_model.specs.declared.form.BranchOp.{BranchOp}
-use Rattle.cheri_model.specs.Actions.{Action, action}
-use Rattle.cheri_model.specs.CapInstructions.{capability_result}
-use Rattle.cheri_model.specs.CapValue.{CapValue}
-use Rattle.cheri_model.specs.Form.{three_instr, two_instr, immediate_instr, shift_instr, word_shift_instr, upper_instr, load_instr, store_instr, branch_instr}
-use Rattle.cheri_model.specs.Hart.{HartState}
-use Rattle.cheri_model.specs.HartStep.{Stepped, execute, trapped, hart_step}
-use Rattle.cheri_model.specs.Integers.{sum, difference, word_sum, word_difference, word_shifted_left, upper_immediate}
+use Rattle.cheri_model.specs.steps.Actions.{Action, action}
+use Rattle.cap_model.specs.results.CapInstructions.{capability_result}
+use Rattle.cap_model.specs.values.CapValue.{CapValue}
+use Rattle.cheri_model.specs.instructions.Form.{three_instr, two_instr, immediate_instr, shift_instr, word_shift_instr, upper_instr, load_instr, store_instr, branch_instr}
+use Rattle.cheri_model.specs.steps.Hart.{HartState}
+use Rattle.cheri_model.specs.steps.HartStep.{Stepped, execute, trapped, hart_step}
+use Rattle.cheri_model.specs.instructions.Integers.{sum, difference, word_sum, word_difference, word_shifted_left, upper_immediate}
 use Rattle.cheri_model.proofs.Runs.Instructions.{integers_back, extended_low}
 
 pub ruleset back = (integers_back)

@@ -3,10 +3,10 @@ use Rattle.std.proofs.Common.{◌≡◌, ℕ, zero, suc, ◌<◌, List, ◌∷�
 use Rattle.std.proofs.Math.ListN.{length-set}
 use Rattle.std.specs.Prelude.{All, ◌%◌, ◌==◌, ◌&&◌, true}
 use Rattle.std.proofs.lemmas.Bool.{and_parts}
-use Rattle.cheri_model.specs.Image.{ImageParts}
-use Rattle.cheri_model.specs.ImageForm.{is_image, are_sizes, is_between}
-use Rattle.cheri_model.specs.CapValue.{CapValue}
-use Rattle.cheri_model.specs.Memory.{store_capability, is_ram_size}
+use Rattle.cheri_model.specs.runs.Image.{ImageParts}
+use Rattle.cheri_model.specs.runs.ImageForm.{is_image, are_sizes, is_between}
+use Rattle.cap_model.specs.values.CapValue.{CapValue}
+use Rattle.cheri_model.specs.steps.Memory.{store_capability, is_ram_size}
 
 -- lists whose first elements are equal are equal below 1
 pub same_first : {X : Type 0} (x y : X) (xs ys : List X) → x ≡ y → (k : ℕ) (d : X) → k < 1 → get_or (x ∷ xs) k d ≡ get_or (y ∷ ys) k d

@@ -7,12 +7,13 @@ use Rattle.std.proofs.lemmas.List.{length-map, length-take, get_or-drop}
 use Rattle.std.proofs.Math.Seq.{get_or-append_right}
 use Rattle.std.proofs.lemmas.List.Elements.{All-map}
 use Rattle.std.proofs.lemmas.List.Sums.{count_by-le-length, count_by_more_no, count_by_more_yes, sum_by-cons}
-use Rattle.cheri_model.specs.CapValue.{CapValue, IsLawfulValue}
-use Rattle.cheri_model.specs.Hart.{HartState, null}
-use Rattle.cheri_model.specs.Readings.{number_of}
-use Rattle.cheri_model.specs.Results.{clear_tag}
-use Rattle.cheri_model.specs.Sweeps.{is_in_sweep, swept, cleared_in_hart}
-use Rattle.cheri_model.proofs.Results.Values.{bits_lt}
+use Rattle.cap_model.specs.values.CapValue.{CapValue, IsLawfulValue}
+use Rattle.cheri_model.specs.steps.Hart.{HartState, null}
+use Rattle.cap_model.specs.results.Readings.{number_of}
+use Rattle.cap_model.specs.results.Addresses.{clear_tag}
+use Rattle.cap_model.specs.results.Swept.{is_in_sweep, swept}
+use Rattle.cheri_model.specs.runs.Sweeps.{cleared_in_hart}
+use Rattle.cap_model.proofs.Results.Values.{bits_lt}
 use Rattle.hart_step.specs.Hart.{IsHart}
 
 module _ (lo hi : ℕ) where

@@ -2,7 +2,7 @@
 use Rattle.std.proofs.Common.{◌≡◌, List, ◌∷◌, sym}
 use Rattle.std.specs.Prelude.{Result, Ok, Err, OnOk}
 use Rattle.cheri_model.specs.declared.trace.Trap.{Trap}
-use Rattle.cheri_model.specs.Checks.{CheckLine}
+use Rattle.cheri_model.specs.steps.Checks.{CheckLine}
 
 -- what holds where a table passes holds of a verdict that is Ok
 pub on_ok : (P : Type 0) (r v : Result (Unit {0}) Trap) → r ≡ v → (v ≡ Ok tt → P) → OnOk r P

@@ -1,6 +1,6 @@
 -- What the code's actions ask for.
-use Rattle.cheri_model.specs.Actions.{Action}
-use Rattle.cheri_model.specs.Actions as asked
+use Rattle.cheri_model.specs.steps.Actions.{Action}
+use Rattle.cheri_model.specs.steps.Actions as asked
 use Rattle.hart_step.specs.declared.actions.Action.{Action as Asking}
 use Rattle.hart_step.specs.declared.actions.Action.TheVariants.{Put, Load, Store, LoadCap, StoreCap, Swap, Branch, Jump, JumpThrough, Invoke, Halt}
 

@@ -1,7 +1,7 @@
 -- What every hart of the machine keeps: 32 registers, of which c0 is null, and lawful values in all of them.
 use Rattle.std.specs.Prelude.{◌≡◌, List, length, slice_index_or, All}
-use Rattle.cheri_model.specs.CapValue.{CapValue, IsLawfulValue}
-use Rattle.cheri_model.specs.Hart.{null}
+use Rattle.cap_model.specs.values.CapValue.{CapValue, IsLawfulValue}
+use Rattle.cheri_model.specs.steps.Hart.{null}
 
 pub record IsHart (registers : List CapValue) (counter : CapValue) : Type 0 where
   pub count : length registers ≡ 32

@@ -1,5 +1,5 @@
 -- What a view shows of a machine's state.
-use Rattle.cheri_model.specs.Machine.{MachineState}
+use Rattle.cheri_model.specs.runs.Machine.{MachineState}
 use Rattle.hart_step.specs.declared.view.View.{View}
 
 abbrev pub state_of : View → MachineState

@@ -1,8 +1,8 @@
 //! What an instruction asks for, its sources read before anything is written.
 
 ghost use Rattle.std.specs.Prelude.{◌≡◌};
-ghost use Rattle.cheri_model.specs.Actions.{action};
-ghost use Rattle.cheri_model.specs.Form.{instr_of};
+ghost use Rattle.cheri_model.specs.steps.Actions.{action};
+ghost use Rattle.cheri_model.specs.instructions.Form.{instr_of};
 ghost use Rattle.hart_step.specs.Actions.{asks};
 
 mod immediates;
@@ -90,7 +90,7 @@ pub(crate) enum Action {
 }
 
 /// What an instruction asks for, by its form.
-#[tactic(auto, unfolding(cheri_model::specs::Form::instr_of, cheri_model::specs::Actions::action))]
+#[tactic(auto, unfolding(cheri_model::specs::instructions::Form::instr_of, cheri_model::specs::steps::Actions::action))]
 fn asked_by_form(form: Form, hart: &Hart) -> Action
     ensures { asks result ≡ action (instr_of form) hart.now }
 {

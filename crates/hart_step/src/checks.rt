@@ -1,10 +1,10 @@
 //! The checks that an instruction must pass before it acts.
 
 ghost use Rattle.std.specs.Prelude.{◌≡◌, ◌%◌, ◌<◌, ◌==◌, ◌&&◌, not, find};
-ghost use Rattle.cheri_model.specs.Capability.{unsealed_type};
-ghost use Rattle.cheri_model.specs.CapValue.{tag_of};
-ghost use Rattle.cheri_model.specs.Checks.{check_line, first_failing, has_type};
-ghost use Rattle.cheri_model.specs.Results.{has_permission, in_bounds};
+ghost use Rattle.cap_model.specs.values.Capability.{unsealed_type};
+ghost use Rattle.cap_model.specs.values.CapValue.{tag_of};
+ghost use Rattle.cheri_model.specs.steps.Checks.{check_line, first_failing, has_type};
+ghost use Rattle.cap_model.specs.results.Addresses.{has_permission, in_bounds};
 
 use cap_ops::Cap;
 use cheri_model::Trap;
@@ -22,7 +22,7 @@ pub(crate) struct Line {
 }
 
 impl Model for Line {
-    ghost use Rattle.cheri_model.specs.Checks.{CheckLine};
+    ghost use Rattle.cheri_model.specs.steps.Checks.{CheckLine};
 
     ghost Value = { CheckLine };
 
@@ -53,7 +53,7 @@ fn first_line(table: &[Line]) -> Option<Line>
 }
 
 /// The trap of the first line that fails, if one does.
-#[tactic(auto, unfolding(cheri_model::specs::Checks::first_failing))]
+#[tactic(auto, unfolding(cheri_model::specs::steps::Checks::first_failing))]
 pub(crate) fn first_failing(table: &[Line]) -> Result<(), Trap>
     ensures { result ≡ first_failing table.now }
 {

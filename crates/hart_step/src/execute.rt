@@ -1,7 +1,7 @@
 //! One step of one hart: the fetch, then what the instruction asks for.
 
 ghost use Rattle.std.specs.Prelude.{◌≡◌, true, if◌then◌else◌};
-ghost use Rattle.cheri_model.specs.Actions.{
+ghost use Rattle.cheri_model.specs.steps.Actions.{
   Branch,
   Invoke,
   Jump,
@@ -12,10 +12,10 @@ ghost use Rattle.cheri_model.specs.Actions.{
   StoreCap,
   Swap,
 };
-ghost use Rattle.cheri_model.specs.Authority.{IsConfinedTo, alone};
-ghost use Rattle.cheri_model.specs.CapValue.{IsLawfulValue};
-ghost use Rattle.cheri_model.specs.HartStep.{execute, hart_step, loaded, permitted};
-ghost use Rattle.cheri_model.specs.Results.{address_of, in_bounds, is_open};
+ghost use Rattle.cheri_model.specs.runs.Authority.{IsConfinedTo, alone};
+ghost use Rattle.cap_model.specs.values.CapValue.{IsLawfulValue};
+ghost use Rattle.cheri_model.specs.steps.HartStep.{execute, hart_step, loaded, permitted};
+ghost use Rattle.cap_model.specs.results.Addresses.{address_of, in_bounds, is_open};
 ghost use Rattle.hart_step.specs.Actions.{asks};
 
 use crate::actions::{Action, asked};
@@ -42,7 +42,7 @@ fn loaded(signed: bool, width: Width, number: u64) -> u64
 }
 
 /// A loaded capability, which keeps its tag only under the permission Load_Capability.
-#[tactic(auto, unfolding(cheri_model::specs::HartStep::permitted))]
+#[tactic(auto, unfolding(cheri_model::specs::steps::HartStep::permitted))]
 fn permitted(auth: Cap, value: Cap) -> Cap
     ensures { result ≡ permitted auth value }
 {
@@ -245,7 +245,7 @@ fn invoke(hart: &mut Hart, ram: &Ram, c1: Reg, c2: Reg, target: u64) -> Outcome
 
 /// Does what an instruction asks for after a fetch, which found PCC open and the instruction in its
 /// bounds.
-#[tactic(auto, unfolding(cheri_model::specs::HartStep::execute))]
+#[tactic(auto, unfolding(cheri_model::specs::steps::HartStep::execute))]
 fn execute(action: Action, hart: &mut Hart, ram: &mut Ram) -> Outcome
     requires open { is_open hart.old.pcc ≡ true }
     requires within { in_bounds hart.old.pcc (address_of hart.old.pcc) 4 ≡ true }

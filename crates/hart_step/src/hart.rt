@@ -1,13 +1,14 @@
 //! One hart: its registers, PCC and status.
 
 ghost use Rattle.std.specs.Prelude.{◌≡◌, ◌≤◌, ◌∷◌, All, count_by, map, true};
-ghost use Rattle.cheri_model.specs.Authority.{EachOfHart};
-ghost use Rattle.cheri_model.specs.CapValue.{IsLawfulValue};
-ghost use Rattle.cheri_model.specs.Hart.{next, null, put, register};
-ghost use Rattle.cheri_model.specs.Image.{opening_hart};
-ghost use Rattle.cheri_model.specs.Readings.{number_of};
-ghost use Rattle.cheri_model.specs.Results.{address_of, in_bounds, is_open};
-ghost use Rattle.cheri_model.specs.Sweeps.{is_in_sweep, swept, swept_hart, cleared_in_hart};
+ghost use Rattle.cheri_model.specs.runs.Authority.{EachOfHart};
+ghost use Rattle.cap_model.specs.values.CapValue.{IsLawfulValue};
+ghost use Rattle.cheri_model.specs.steps.Hart.{next, null, put, register};
+ghost use Rattle.cheri_model.specs.runs.Image.{opening_hart};
+ghost use Rattle.cap_model.specs.results.Readings.{number_of};
+ghost use Rattle.cap_model.specs.results.Addresses.{address_of, in_bounds, is_open};
+ghost use Rattle.cap_model.specs.results.Swept.{is_in_sweep, swept};
+ghost use Rattle.cheri_model.specs.runs.Sweeps.{swept_hart, cleared_in_hart};
 
 use crate::places::following;
 use cap_ops::Cap;
@@ -23,7 +24,7 @@ pub struct Hart {
 }
 
 impl Model for Hart {
-    ghost use Rattle.cheri_model.specs.Hart.{HartState};
+    ghost use Rattle.cheri_model.specs.steps.Hart.{HartState};
 
     ghost Value = { HartState };
 
@@ -78,7 +79,7 @@ fn sweep_registers(regs: &mut [Cap; 32], lo: u64, hi: u128) -> u32
 
 impl Hart {
     /// The hart before its first step.
-    #[tactic(auto, unfolding(cheri_model::specs::Image::opening_hart))]
+    #[tactic(auto, unfolding(cheri_model::specs::runs::Image::opening_hart))]
     pub fn open(image: &HartImage) -> Hart
         ensures same { result ≡ opening_hart image.now }
         ensures lawful { EachOfHart IsLawfulValue result }
@@ -93,7 +94,7 @@ impl Hart {
     }
 
     /// A register's value.
-    #[tactic(auto, unfolding(cheri_model::specs::Hart::register))]
+    #[tactic(auto, unfolding(cheri_model::specs::steps::Hart::register))]
     pub fn register(&self, reg: Reg) -> Cap
         ensures value { result ≡ register self.now reg }
         ensures lawful { IsLawfulValue result }
@@ -118,7 +119,7 @@ impl Hart {
     }
 
     /// Writes a register; a write to c0 is dropped.
-    #[tactic(auto, unfolding(cheri_model::specs::Hart::put))]
+    #[tactic(auto, unfolding(cheri_model::specs::steps::Hart::put))]
     pub fn put(&mut self, cd: Reg, value: Cap)
         ensures value { self.new ≡ put cd value self.old }
         ensures pcc { self.new.pcc ≡ self.old.pcc }
@@ -131,7 +132,7 @@ impl Hart {
     }
 
     /// Advances PCC after a successful fetch.
-    #[tactic(auto, unfolding(cheri_model::specs::Hart::next))]
+    #[tactic(auto, unfolding(cheri_model::specs::steps::Hart::next))]
     pub fn advance(&mut self)
         requires open { is_open self.old.pcc ≡ true }
         requires within { in_bounds self.old.pcc (address_of self.old.pcc) 4 ≡ true }

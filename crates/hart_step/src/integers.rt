@@ -1,7 +1,7 @@
 //! The integer operations (RISC-V unprivileged ISA, "RV64I").
 
 ghost use Rattle.std.specs.Prelude.{◌≡◌, ◌%◌, ◌/◌, ◌*◌, ◌^◌, ◌<◌};
-ghost use Rattle.cheri_model.specs.Integers.{
+ghost use Rattle.cheri_model.specs.instructions.Integers.{
   immediate,
   is_less_signed,
   shifted_left,
@@ -16,7 +16,7 @@ ghost use Rattle.cheri_model.specs.Integers.{
   upper_immediate,
   extended,
 };
-ghost use Rattle.cheri_model.specs.Readings.{number_of};
+ghost use Rattle.cap_model.specs.results.Readings.{number_of};
 
 use cheri_model::Width;
 
@@ -35,7 +35,7 @@ pub fn number_of(holds: bool) -> u64
 }
 
 /// Whether one number is less than another, both read as signed.
-#[tactic(auto, unfolding(cheri_model::specs::Integers::is_less_signed))]
+#[tactic(auto, unfolding(cheri_model::specs::instructions::Integers::is_less_signed))]
 pub fn is_less_signed(a: u64, b: u64) -> bool
     ensures { result ≡ is_less_signed a b }
 {
@@ -43,7 +43,7 @@ pub fn is_less_signed(a: u64, b: u64) -> bool
 }
 
 /// A shift to the left, by the amount modulo 64.
-#[tactic(auto, unfolding(cheri_model::specs::Integers::shifted_left))]
+#[tactic(auto, unfolding(cheri_model::specs::instructions::Integers::shifted_left))]
 pub fn shifted_left(a: u64, amount: u64) -> u64
     ensures { result ≡ shifted_left a amount }
 {
@@ -51,7 +51,7 @@ pub fn shifted_left(a: u64, amount: u64) -> u64
 }
 
 /// A shift to the right, by the amount modulo 64.
-#[tactic(auto, unfolding(cheri_model::specs::Integers::shifted_right))]
+#[tactic(auto, unfolding(cheri_model::specs::instructions::Integers::shifted_right))]
 pub fn shifted_right(a: u64, amount: u64) -> u64
     ensures { result ≡ shifted_right a amount }
 {
@@ -59,7 +59,7 @@ pub fn shifted_right(a: u64, amount: u64) -> u64
 }
 
 /// The same, with the sign in the high bits.
-#[tactic(auto, unfolding(cheri_model::specs::Integers::shifted_arithmetic))]
+#[tactic(auto, unfolding(cheri_model::specs::instructions::Integers::shifted_arithmetic))]
 pub fn shifted_arithmetic(a: u64, amount: u64) -> u64
     ensures { result ≡ shifted_arithmetic a amount }
 {
@@ -74,7 +74,7 @@ fn low_word(number: u64) -> u32
 }
 
 /// A number of 32 bits, sign-extended.
-#[tactic(auto, unfolding(cheri_model::specs::Integers::extended_word))]
+#[tactic(auto, unfolding(cheri_model::specs::instructions::Integers::extended_word))]
 fn extended_word(number: u32) -> u64
     ensures { result ≡ extended_word number }
 {
@@ -106,7 +106,7 @@ pub fn word_shifted_left(a: u64, amount: u64) -> u64
 }
 
 /// The low 32 bits shifted to the right, by the amount modulo 32.
-#[tactic(auto, unfolding(cheri_model::specs::Integers::word_shifted_right))]
+#[tactic(auto, unfolding(cheri_model::specs::instructions::Integers::word_shifted_right))]
 pub fn word_shifted_right(a: u64, amount: u64) -> u64
     ensures { result ≡ word_shifted_right a amount }
 {
@@ -114,7 +114,7 @@ pub fn word_shifted_right(a: u64, amount: u64) -> u64
 }
 
 /// The same, with the sign of the 32 bits in the high ones.
-#[tactic(auto, unfolding(cheri_model::specs::Integers::word_shifted_arithmetic))]
+#[tactic(auto, unfolding(cheri_model::specs::instructions::Integers::word_shifted_arithmetic))]
 pub fn word_shifted_arithmetic(a: u64, amount: u64) -> u64
     ensures { result ≡ word_shifted_arithmetic a amount }
 {
@@ -130,7 +130,7 @@ pub fn upper_immediate(imm: u32) -> u64
 }
 
 /// A loaded number of a width, sign-extended.
-#[tactic(auto, unfolding(cheri_model::specs::Integers::extended))]
+#[tactic(auto, unfolding(cheri_model::specs::instructions::Integers::extended))]
 pub fn extended(width: Width, number: u64) -> u64
     ensures { result ≡ extended width number }
 {

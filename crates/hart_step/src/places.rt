@@ -2,10 +2,10 @@
 //! the checks before it say that it is in bounds.
 
 ghost use Rattle.std.specs.Prelude.{◌≡◌, true};
-ghost use Rattle.cheri_model.specs.CapValue.{IsLawfulValue, tag_of};
-ghost use Rattle.cheri_model.specs.Hart.{following, link};
-ghost use Rattle.cheri_model.specs.Results.{address_of, in_bounds, is_open, with_address};
-ghost use Rattle.cheri_model.specs.SealResults.{unsealed};
+ghost use Rattle.cap_model.specs.values.CapValue.{IsLawfulValue, tag_of};
+ghost use Rattle.cheri_model.specs.steps.Hart.{following, link};
+ghost use Rattle.cap_model.specs.results.Addresses.{address_of, in_bounds, is_open, with_address};
+ghost use Rattle.cap_model.specs.results.Seals.{unsealed};
 
 use cap_ops::Cap;
 
@@ -23,7 +23,7 @@ pub fn following(pcc: Cap) -> Cap
 }
 
 /// What a jump leaves to come back by: the next instruction's address, sealed as a sentry.
-#[tactic(auto, unfolding(cheri_model::specs::Hart::link))]
+#[tactic(auto, unfolding(cheri_model::specs::steps::Hart::link))]
 pub fn link(pcc: Cap) -> Cap
     requires open { is_open pcc ≡ true }
     requires within { in_bounds pcc (address_of pcc) 4 ≡ true }

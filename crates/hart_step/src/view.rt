@@ -1,7 +1,7 @@
 //! What is shown of a machine at one moment.
 
 ghost use Rattle.std.specs.Prelude.{◌≡◌, ◌<◌, length};
-ghost use Rattle.cheri_model.specs.Memory.{granule_at};
+ghost use Rattle.cheri_model.specs.steps.Memory.{granule_at};
 
 use crate::hart::Hart;
 use cap_ops::Cap;

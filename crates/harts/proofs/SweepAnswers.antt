@@ -5,9 +5,9 @@ use Rattle.std.specs.Prelude.{◌↔◌, Option, Some, None, Result, Ok, Err, If
 use Rattle.cheri_model.specs.declared.operation.Op.TheVariants as operation
 use Rattle.cheri_model.specs.declared.operation.Event.{Event}
 use Rattle.cheri_model.specs.declared.operation.Event.TheVariants as event
-use Rattle.cheri_model.specs.Replay.{operation_of}
-use Rattle.cheri_model.specs.Sweeps.{is_range}
-use Rattle.cheri_model.specs.Machine.{event_of}
+use Rattle.cheri_model.specs.runs.Replay.{operation_of}
+use Rattle.cheri_model.specs.runs.Sweeps.{is_range}
+use Rattle.cheri_model.specs.runs.Machine.{event_of}
 use Rattle.machine.specs.declared.faults.StepFault.{StepFault}
 use Rattle.machine.specs.declared.faults.StepFault.TheVariants.{NoSuchHart, TraceFull, HartStopped, NoMemory, BadRange}
 use Rattle.machine.specs.Cores.{CoreParts, answered, refused, unless_refused}

@@ -2,7 +2,7 @@
 use Rattle.std.specs.Prelude.{◌≡◌, ℕ, ◌<◌, ◌≤◌, List, map, All}
 use Rattle.std.specs.List.{range_with_len}
 use Rattle.cheri_model.specs.declared.operation.Event.{Event}
-use Rattle.cheri_model.specs.Replay.{step_count}
+use Rattle.cheri_model.specs.runs.Replay.{step_count}
 use Rattle.harts.specs.declared.workers.Why.{Why}
 use Rattle.harts.specs.declared.workers.Why.TheVariants.{Turns, Gate, Stopped, Refused}
 use Rattle.harts.specs.declared.workers.HartReport.{HartReport}

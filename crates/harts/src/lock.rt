@@ -2,8 +2,8 @@
 
 ghost use Rattle.std.specs.Prelude.{◌≡◌, ◌≢◌, ◌↔◌, IfOk, Err, false};
 ghost use Rattle.std.specs.Sync.Mutex.{mutex_guard_value};
-ghost use Rattle.cheri_model.specs.Replay.{operation_of};
-ghost use Rattle.cheri_model.specs.Sweeps.{is_range};
+ghost use Rattle.cheri_model.specs.runs.Replay.{operation_of};
+ghost use Rattle.cheri_model.specs.runs.Sweeps.{is_range};
 ghost use Rattle.machine.specs.Cores.{IsCore};
 
 use cheri_model::{Event, Op};
@@ -23,7 +23,7 @@ pub struct Shared<J: Naming> {
 }
 
 impl<J: Naming> Model for Shared<J> {
-    ghost use Rattle.cheri_model.specs.Image.{ImageParts};
+    ghost use Rattle.cheri_model.specs.runs.Image.{ImageParts};
 
     ghost Value = { ImageParts };
 

@@ -4,9 +4,9 @@ use Rattle.std.proofs.Math.Seq.{drop-cons}
 use Rattle.std.proofs.Math.ListN.{drop_of_length-le, length-set}
 use Rattle.std.proofs.lemmas.List.{append-nil}
 use Rattle.std.proofs.lemmas.Bool.Decides.{nat_tests}
-use Rattle.cheri_model.specs.CapValue.{CapValue, raw}
-use Rattle.cheri_model.specs.Memory.{ram_base, is_in_ram, fits, store_data}
-use Rattle.cheri_model.specs.ImageForm.{is_listed}
+use Rattle.cap_model.specs.values.CapValue.{CapValue, raw}
+use Rattle.cheri_model.specs.steps.Memory.{ram_base, is_in_ram, fits, store_data}
+use Rattle.cheri_model.specs.runs.ImageForm.{is_listed}
 use Rattle.grammar.proofs.PermissionTexts.{first, second}
 use Rattle.listings.specs.Draft.{stored_bytes}
 use Rattle.listings.specs.Meaning.{listed_from}

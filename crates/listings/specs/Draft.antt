@@ -3,8 +3,8 @@ use Rattle.std.specs.Prelude.{ℕ, ◌+◌, ◌-◌, ◌==◌, nat_lt, Bool, tru
 use Rattle.cheri_model.specs.declared.instr.Instr.{Instr}
 use Rattle.cheri_model.specs.declared.image.HartImage.{HartImage}
 use Rattle.cheri_model.specs.declared.image.TheConstants.{MAX_HARTS, MAX_INSTRUCTIONS}
-use Rattle.cheri_model.specs.CapValue.{CapValue, raw}
-use Rattle.cheri_model.specs.Memory.{cleared_memory, is_ram_size, is_in_ram, fits, store_data, store_capability}
+use Rattle.cap_model.specs.values.CapValue.{CapValue, raw}
+use Rattle.cheri_model.specs.steps.Memory.{cleared_memory, is_ram_size, is_in_ram, fits, store_data, store_capability}
 use Rattle.grammar.specs.declared.fault.ListingFaultKind.{ListingFaultKind}
 use Rattle.grammar.specs.declared.fault.ListingFaultKind.TheVariants.{Range, Twice, NoHart, Size}
 use Rattle.grammar.specs.declared.capability.CapParts.{CapParts}

@@ -1,10 +1,10 @@
 -- The meaning of a listing: the image that its lines make one after another, or the first fault.
 use Rattle.std.specs.Prelude.{ℕ, ◌+◌, ◌*◌, ◌==◌, nat_lt, if◌then◌else◌, List, [], ◌∷◌, length, Result, Ok, Err}
 use Rattle.std.specs.List.{list_all}
-use Rattle.cheri_model.specs.CapValue.{CapValue}
-use Rattle.cheri_model.specs.Memory.{ram_base}
-use Rattle.cheri_model.specs.Image.{ImageParts}
-use Rattle.cheri_model.specs.ImageForm.{is_listed}
+use Rattle.cap_model.specs.values.CapValue.{CapValue}
+use Rattle.cheri_model.specs.steps.Memory.{ram_base}
+use Rattle.cheri_model.specs.runs.Image.{ImageParts}
+use Rattle.cheri_model.specs.runs.ImageForm.{is_listed}
 use Rattle.listings.specs.declared.reader.TheConstants.{LISTING_LIMIT}
 use Rattle.listings.specs.declared.fault.ListingFault.{ListingFault}
 use Rattle.grammar.specs.declared.fault.ListingFaultKind.{ListingFaultKind}

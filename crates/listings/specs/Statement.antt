@@ -3,7 +3,7 @@
 use Rattle.std.specs.Prelude.{ℕ, ◌-◌, ◌^◌, ◌==◌, if◌then◌else◌, List, length, Option, Some, None, Result, Ok, Err, codes, bytes_eq}
 use Rattle.hex.specs.Hex.{decode_of}
 use Rattle.hex.specs.declared.error.FromHexError.{FromHexError}
-use Rattle.cheri_model.specs.Form.{instr_of}
+use Rattle.cheri_model.specs.instructions.Form.{instr_of}
 use Rattle.grammar.specs.declared.fault.ListingFaultKind.{ListingFaultKind}
 use Rattle.grammar.specs.declared.fault.ListingFaultKind.TheVariants.{Word, Operand}
 use Rattle.grammar.specs.declared.directives.Directive.{Directive}

@@ -9,10 +9,10 @@ use Rattle.cheri_model.specs.declared.operation.Op.TheVariants as operation
 use Rattle.cheri_model.specs.declared.operation.Event.{Event}
 use Rattle.cheri_model.specs.declared.operation.Event.TheVariants as event
 use Rattle.cheri_model.specs.declared.trace.Entry.{Entry}
-use Rattle.cheri_model.specs.Image.{ImageParts}
-use Rattle.cheri_model.specs.Sweeps.{is_range}
-use Rattle.cheri_model.specs.Machine.{opening_state, entry_of, event_of, is_running, hart_at}
-use Rattle.cheri_model.specs.Replay.{IsReplay, IsBeginning, operations_of, replayed_events}
+use Rattle.cheri_model.specs.runs.Image.{ImageParts}
+use Rattle.cheri_model.specs.runs.Sweeps.{is_range}
+use Rattle.cheri_model.specs.runs.Machine.{opening_state, entry_of, event_of, is_running, hart_at}
+use Rattle.cheri_model.specs.runs.Replay.{IsReplay, IsBeginning, operations_of, replayed_events}
 use Rattle.cheri_model.proofs.Runs.Replays.{events_beginning}
 use Rattle.history.specs.declared.seen.Token.{Token}
 use Rattle.history.specs.Orders.{OrderName, order}

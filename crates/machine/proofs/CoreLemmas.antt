@@ -11,15 +11,15 @@ use Rattle.cheri_model.specs.declared.operation.Op.TheVariants as operation
 use Rattle.cheri_model.specs.declared.operation.Event.{Event}
 use Rattle.cheri_model.specs.declared.operation.Event.TheVariants as event
 use Rattle.cheri_model.specs.declared.trace.Entry.{Entry}
-use Rattle.cheri_model.specs.CapValue.{CapValue, IsLawfulValue}
-use Rattle.cheri_model.specs.Memory.{IsMemory}
-use Rattle.cheri_model.specs.Hart.{HartState}
-use Rattle.cheri_model.specs.Image.{ImageParts, opening_hart, opening_memory}
-use Rattle.cheri_model.specs.Sweeps.{is_range, swept_hart, swept_memory, cleared_in_hart, cleared_in_memory}
-use Rattle.cheri_model.specs.Machine.{MachineState, opening_state, is_running, hart_at, no_hart, may_take, entry_of, event_of, state_after_step, state_after_one, swept_state, cleared}
-use Rattle.cheri_model.specs.Replay.{IsReplay, operations_of, state_after, replayed_state}
-use Rattle.cheri_model.specs.ImageForm.{is_between, are_sizes, is_image}
-use Rattle.cheri_model.specs.Authority.{EachOfHart, IsLawfulState, IsConfined, IsMonotone}
+use Rattle.cap_model.specs.values.CapValue.{CapValue, IsLawfulValue}
+use Rattle.cheri_model.specs.steps.Memory.{IsMemory}
+use Rattle.cheri_model.specs.steps.Hart.{HartState}
+use Rattle.cheri_model.specs.runs.Image.{ImageParts, opening_hart, opening_memory}
+use Rattle.cheri_model.specs.runs.Sweeps.{is_range, swept_hart, swept_memory, cleared_in_hart, cleared_in_memory}
+use Rattle.cheri_model.specs.runs.Machine.{MachineState, opening_state, is_running, hart_at, no_hart, may_take, entry_of, event_of, state_after_step, state_after_one, swept_state, cleared}
+use Rattle.cheri_model.specs.runs.Replay.{IsReplay, operations_of, state_after, replayed_state}
+use Rattle.cheri_model.specs.runs.ImageForm.{is_between, are_sizes, is_image}
+use Rattle.cheri_model.specs.runs.Authority.{EachOfHart, IsLawfulState, IsConfined, IsMonotone}
 use Rattle.cheri_model.proofs.Runs.Replays.{IsReplay-opening, IsReplay_push, operations_of_push, operation-event_of}
 use Rattle.cheri_model.proofs.Runs.RunsConfined.{memory_lawful, run_lawful, replay_monotone}
 use Rattle.machine.specs.declared.faults.StepFault.{StepFault}

@@ -9,8 +9,8 @@ use Rattle.cheri_model.specs.declared.operation.Op.TheVariants as operation
 use Rattle.cheri_model.specs.declared.operation.Event.{Event}
 use Rattle.cheri_model.specs.declared.operation.Event.TheVariants as event
 use Rattle.cheri_model.specs.declared.trace.Entry.{Entry}
-use Rattle.cheri_model.specs.Replay.{is_step_of, step_count}
-use Rattle.cheri_model.specs.Machine.{entry_of, event_of}
+use Rattle.cheri_model.specs.runs.Replay.{is_step_of, step_count}
+use Rattle.cheri_model.specs.runs.Machine.{entry_of, event_of}
 use Rattle.machine.specs.Cores.{CoreParts, core_after}
 use Rattle.machine.specs.Shares.{ShareParts, share_at, shares_of, IsCounted}
 

@@ -6,12 +6,13 @@ use Rattle.std.proofs.lemmas.List.{length-map, length-take, get_or-drop}
 use Rattle.std.proofs.lemmas.List.Sums.{count_by-le-length}
 use Rattle.cheri_model.specs.declared.operation.Op.TheVariants as operation
 use Rattle.cheri_model.specs.declared.operation.Event.TheVariants as event
-use Rattle.cheri_model.specs.CapValue.{CapValue}
-use Rattle.cheri_model.specs.Hart.{HartState}
-use Rattle.cheri_model.specs.ImageForm.{is_image}
-use Rattle.cheri_model.specs.Sweeps.{is_in_sweep, cleared_in_memory}
-use Rattle.cheri_model.specs.Machine.{event_of, state_after_one, swept_state, cleared}
-use Rattle.cheri_model.specs.Authority.{EachOfState}
+use Rattle.cap_model.specs.values.CapValue.{CapValue}
+use Rattle.cheri_model.specs.steps.Hart.{HartState}
+use Rattle.cheri_model.specs.runs.ImageForm.{is_image}
+use Rattle.cap_model.specs.results.Swept.{is_in_sweep}
+use Rattle.cheri_model.specs.runs.Sweeps.{cleared_in_memory}
+use Rattle.cheri_model.specs.runs.Machine.{event_of, state_after_one, swept_state, cleared}
+use Rattle.cheri_model.specs.runs.Authority.{EachOfState}
 use Rattle.cheri_model.proofs.Runs.Sweeping.{state_left}
 use Rattle.machine.specs.Cores.{CoreParts, IsCore, core_after}
 use Rattle.machine.proofs.CoreLemmas.{hart_count_kept, image_hart_limit}

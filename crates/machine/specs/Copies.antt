@@ -1,7 +1,7 @@
 -- What watchers are shown of a machine, and what was seen of its order of operations.
 use Rattle.std.specs.Prelude.{◌≡◌, true, false}
-use Rattle.cheri_model.specs.Image.{ImageParts}
-use Rattle.cheri_model.specs.Replay.{operations_of}
+use Rattle.cheri_model.specs.runs.Image.{ImageParts}
+use Rattle.cheri_model.specs.runs.Replay.{operations_of}
 use Rattle.history.specs.Orders.{OrderName, order}
 use Rattle.machine.specs.Cores.{applied}
 use Rattle.machine.specs.declared.shown.Shown.{Shown}

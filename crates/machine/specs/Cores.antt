@@ -5,15 +5,15 @@ use Rattle.cheri_model.specs.declared.operation.Op.{Op}
 use Rattle.cheri_model.specs.declared.operation.Op.TheVariants as operation
 use Rattle.cheri_model.specs.declared.operation.Event.{Event}
 use Rattle.cheri_model.specs.declared.trace.Entry.{Entry}
-use Rattle.cheri_model.specs.CapValue.{CapValue}
-use Rattle.cheri_model.specs.Hart.{HartState}
-use Rattle.cheri_model.specs.HartStep.{hart_step}
-use Rattle.cheri_model.specs.Results.{address_of}
-use Rattle.cheri_model.specs.Image.{ImageParts}
-use Rattle.cheri_model.specs.Sweeps.{is_range}
-use Rattle.cheri_model.specs.Machine.{MachineState, opening_state, is_running, hart_at, entry_of, state_after_one, event_of}
-use Rattle.cheri_model.specs.Replay.{IsReplay}
-use Rattle.cheri_model.specs.Authority.{IsLawfulState}
+use Rattle.cap_model.specs.values.CapValue.{CapValue}
+use Rattle.cheri_model.specs.steps.Hart.{HartState}
+use Rattle.cheri_model.specs.steps.HartStep.{hart_step}
+use Rattle.cap_model.specs.results.Addresses.{address_of}
+use Rattle.cheri_model.specs.runs.Image.{ImageParts}
+use Rattle.cheri_model.specs.runs.Sweeps.{is_range}
+use Rattle.cheri_model.specs.runs.Machine.{MachineState, opening_state, is_running, hart_at, entry_of, state_after_one, event_of}
+use Rattle.cheri_model.specs.runs.Replay.{IsReplay}
+use Rattle.cheri_model.specs.runs.Authority.{IsLawfulState}
 use Rattle.machine.specs.declared.cores.TheConstants.{GREATEST_TRACE_LIMIT}
 use Rattle.machine.specs.declared.faults.StepFault.{StepFault}
 use Rattle.machine.specs.declared.faults.StepFault.TheVariants.{NoSuchHart, TraceFull, HartStopped, BadRange}

@@ -1,9 +1,9 @@
 -- What a run of an order leaves.
 use Rattle.std.specs.Prelude.{◌≡◌, ℕ, ◌≤◌, List, length, take, slice_get, Option, Some, Err, MatchOption}
 use Rattle.cheri_model.specs.declared.operation.Op.{Op}
-use Rattle.cheri_model.specs.Authority.{IsConfined}
-use Rattle.cheri_model.specs.Image.{ImageParts}
-use Rattle.cheri_model.specs.Replay.{IsReplay, operations_of}
+use Rattle.cheri_model.specs.runs.Authority.{IsConfined}
+use Rattle.cheri_model.specs.runs.Image.{ImageParts}
+use Rattle.cheri_model.specs.runs.Replay.{IsReplay, operations_of}
 use Rattle.machine.specs.declared.faults.StepFault.{StepFault}
 use Rattle.machine.specs.Cores.{CoreParts, answered}
 

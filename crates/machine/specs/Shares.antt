@@ -2,7 +2,7 @@
 use Rattle.std.specs.Prelude.{◌≡◌, ℕ, ◌<◌, List, length, map, slice_index}
 use Rattle.std.specs.List.{range_with_len}
 use Rattle.cheri_model.specs.declared.operation.Event.{Event}
-use Rattle.cheri_model.specs.Replay.{step_count}
+use Rattle.cheri_model.specs.runs.Replay.{step_count}
 
 -- the hart of a share, and how many steps of that hart it has counted
 pub record ShareParts : Type 0 where

@@ -4,7 +4,7 @@ use Rattle.listings.specs.Faults.{Gives}
 use Rattle.listings.specs.Meaning.{listing_meaning}
 use Rattle.orders.specs.Orders.{GivesFault, order_of}
 use Rattle.cheri_model.specs.declared.operation.Op.{Op}
-use Rattle.cheri_model.specs.Image.{ImageParts}
+use Rattle.cheri_model.specs.runs.Image.{ImageParts}
 use Rattle.reports.specs.Report.{report}
 use Rattle.reports.specs.ReportFaults.{failures_of}
 use Rattle.machine.specs.declared.faults.BootFault.{BootFault}

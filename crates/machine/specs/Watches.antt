@@ -1,7 +1,7 @@
 -- What contracts see of a watch.
 use Rattle.std.specs.Prelude.{List}
 use Rattle.cheri_model.specs.declared.operation.Event.{Event}
-use Rattle.cheri_model.specs.Image.{ImageParts}
+use Rattle.cheri_model.specs.runs.Image.{ImageParts}
 
 -- the image that it watches, and the trace that it has seen
 pub record WatchParts : Type 0 where

@@ -4,11 +4,11 @@
 ghost use Rattle.std.specs.Prelude.{◌≡◌, ◌↔◌, ◌<◌, ◌≤◌, [], ◌∷◌, ◌++◌};
 ghost use Rattle.std.specs.Prelude.{length, vec_len, vec_capacity, false};
 ghost use Rattle.std.specs.Prelude.{IfOk, OnOk, OnErr, Err, None};
-ghost use Rattle.cheri_model.specs.Authority.{EachOfState, IsConfined, IsMonotone};
-ghost use Rattle.cheri_model.specs.Machine.{opening_state, entry_of, event_of};
-ghost use Rattle.cheri_model.specs.Machine.{swept_state, cleared};
-ghost use Rattle.cheri_model.specs.Replay.{IsReplay};
-ghost use Rattle.cheri_model.specs.Sweeps.{is_in_sweep};
+ghost use Rattle.cheri_model.specs.runs.Authority.{EachOfState, IsConfined, IsMonotone};
+ghost use Rattle.cheri_model.specs.runs.Machine.{opening_state, entry_of, event_of};
+ghost use Rattle.cheri_model.specs.runs.Machine.{swept_state, cleared};
+ghost use Rattle.cheri_model.specs.runs.Replay.{IsReplay};
+ghost use Rattle.cap_model.specs.results.Swept.{is_in_sweep};
 ghost use Rattle.hart_step.specs.View.{state_of};
 ghost use Rattle.machine.specs.Cores.{CoreParts, IsCore, IsHartStep};
 ghost use Rattle.machine.specs.Cores.{applied, answered, answered_step};
@@ -223,7 +223,7 @@ impl Core {
 }
 
 /// Why a step of a hart would be refused, where the trace has this many events.
-#[tactic(auto, unfolding(crate::specs::Cores::refused, cheri_model::specs::Machine::hart_at))]
+#[tactic(auto, unfolding(crate::specs::Cores::refused, cheri_model::specs::runs::Machine::hart_at))]
 fn refusal_of_step(harts: &[Hart], events: usize, limit: u32, hart: u8) -> Option<StepFault>
     ensures { (core : CoreParts) → core.state.harts ≡ harts.now → length core.trace ≡ events
         → core.limit ≡ limit → result ≡ refused core (Op.Step hart) }

@@ -4,10 +4,10 @@
 ghost use Rattle.std.specs.Prelude.{◌≡◌, ◌≢◌, ◌+◌, ◌<◌, ◌≤◌, ◌++◌, ◌∷◌, [], List, length, All};
 ghost use Rattle.std.specs.Prelude.{slice_index, slice_set, replicate, IfOk, OnOk, OnErr, Err, None};
 ghost use Rattle.std.specs.Prelude.{false};
-ghost use Rattle.cheri_model.specs.Authority.{EachOfState};
-ghost use Rattle.cheri_model.specs.Machine.{swept_state, cleared};
-ghost use Rattle.cheri_model.specs.Replay.{is_step_of, step_count};
-ghost use Rattle.cheri_model.specs.Sweeps.{is_in_sweep};
+ghost use Rattle.cheri_model.specs.runs.Authority.{EachOfState};
+ghost use Rattle.cheri_model.specs.runs.Machine.{swept_state, cleared};
+ghost use Rattle.cheri_model.specs.runs.Replay.{is_step_of, step_count};
+ghost use Rattle.cap_model.specs.results.Swept.{is_in_sweep};
 ghost use Rattle.machine.specs.Cores.{answered, answered_step, applied, refused};
 ghost use Rattle.machine.specs.Shares.{share_at, shares_of, IsCounted};
 ghost use Rattle.machine.specs.Watches.{watch_of};
@@ -256,7 +256,7 @@ fn draw_share<J: Naming>(
 }
 
 /// How many of these events are a hart's steps.
-#[tactic(auto, unfolding(cheri_model::specs::Replay::step_count))]
+#[tactic(auto, unfolding(cheri_model::specs::runs::Replay::step_count))]
 fn step_count(events: &[Event], hart: u8) -> u64
     ensures { result ≡ step_count events.now hart }
 {

@@ -1,10 +1,10 @@
 //! The machine before its first step: harts and memory of an image.
 
 ghost use Rattle.std.specs.Prelude.{◌≡◌, All, IfOk, map, length};
-ghost use Rattle.cheri_model.specs.Authority.{EachOfHart};
-ghost use Rattle.cheri_model.specs.CapValue.{IsLawfulValue};
-ghost use Rattle.cheri_model.specs.Image.{opening_hart, opening_memory};
-ghost use Rattle.cheri_model.specs.Memory.{IsMemory};
+ghost use Rattle.cheri_model.specs.runs.Authority.{EachOfHart};
+ghost use Rattle.cap_model.specs.values.CapValue.{IsLawfulValue};
+ghost use Rattle.cheri_model.specs.runs.Image.{opening_hart, opening_memory};
+ghost use Rattle.cheri_model.specs.steps.Memory.{IsMemory};
 ghost use Rattle.cheri_model.specs.declared.image.HartImage.{HartImage};
 
 use cap_ops::Cap;
@@ -26,7 +26,7 @@ pub fn opening_harts(alloc: Global, images: &[HartImage]) -> Result<Vec<Hart>, N
 }
 
 /// The memory of an image: an untagged 0 everywhere but at the image's granules.
-#[tactic(auto, unfolding(cheri_model::specs::Image::opening_memory))]
+#[tactic(auto, unfolding(cheri_model::specs::runs::Image::opening_memory))]
 pub fn opening_ram(alloc: Global, image: &Image) -> Result<Ram, NoMemory>
     ensures same { IfOk result (λ ram. ram ≡ opening_memory image.now.ram image.now.granules) }
     ensures memory { IfOk result (λ ram. IsMemory ram) }

@@ -1,7 +1,7 @@
 //! Two copies of a core: watchers read one, while the other takes in what came.
 
 ghost use Rattle.std.specs.Prelude.{◌≡◌, ◌<◌, [], None, IfOk, OnOk, OnErr};
-ghost use Rattle.cheri_model.specs.Replay.{operations_of};
+ghost use Rattle.cheri_model.specs.runs.Replay.{operations_of};
 ghost use Rattle.machine.specs.Cores.{core_after, refused};
 ghost use Rattle.machine.specs.Names.{order_named};
 ghost use Rattle.machine.specs.Watches.{watch_of};

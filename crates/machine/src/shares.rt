@@ -3,7 +3,7 @@
 
 ghost use Rattle.std.specs.Prelude.{◌≡◌, ◌+◌, ◌<◌, length, slice_index, slice_set};
 ghost use Rattle.std.specs.Prelude.{List, ℕ, [], replicate};
-ghost use Rattle.cheri_model.specs.Image.{ImageParts};
+ghost use Rattle.cheri_model.specs.runs.Image.{ImageParts};
 ghost use Rattle.machine.specs.Names.{order_named};
 
 use std::marker::{Brand, Model, PhantomData};

@@ -2,7 +2,7 @@
 
 ghost use Rattle.std.specs.Prelude.{◌≡◌, ◌≤◌, ◌*◌, length, map, sum_by};
 ghost use Rattle.cheri_model.specs.declared.operation.Op.TheVariants.{Sweep};
-ghost use Rattle.cheri_model.specs.Sweeps.{swept_hart, cleared_in_hart};
+ghost use Rattle.cheri_model.specs.runs.Sweeps.{swept_hart, cleared_in_hart};
 ghost use Rattle.machine.specs.Cores.{CoreParts, refused};
 
 use crate::faults::StepFault;

@@ -2,7 +2,7 @@
 //! keeper of the order of its operations.
 
 ghost use Rattle.std.specs.Prelude.{◌≡◌, [], None, IfOk, OnOk, OnErr};
-ghost use Rattle.cheri_model.specs.Replay.{operation_of, operations_of};
+ghost use Rattle.cheri_model.specs.runs.Replay.{operation_of, operations_of};
 ghost use Rattle.machine.specs.Cores.{core_after, refused};
 ghost use Rattle.machine.specs.Names.{order_named};
 ghost use Rattle.machine.specs.Watches.{watch_of};
@@ -42,7 +42,7 @@ impl<J: Naming> Model for Watched<J> {
     ghost Value = { CoreParts };
 
     ghost use Rattle.std.specs.Prelude.{◌≡◌};
-    ghost use Rattle.cheri_model.specs.Replay.{operations_of};
+    ghost use Rattle.cheri_model.specs.runs.Replay.{operations_of};
     ghost use Rattle.machine.specs.Stages.{core_at};
 
     ghost view = { λ w. core_at w.stage };
@@ -140,7 +140,7 @@ impl<J: Naming> Watched<J> {
 }
 
 /// Adds the operations of these events to an order that is empty.
-#[tactic(auto, unfolding(cheri_model::specs::Replay::operations_of))]
+#[tactic(auto, unfolding(cheri_model::specs::runs::Replay::operations_of))]
 fn add_all<J: Naming>(keeper: &mut Keeper<OrderOf<J>>, events: &[Event])
     requires { keeper.old ≡ [] }
     ensures { keeper.new ≡ operations_of events.now }

@@ -1,7 +1,7 @@
 //! Watches: who looks at a machine takes no lock, and never sees its time go back.
 
 ghost use Rattle.std.specs.Prelude.{◌≡◌, ◌⊎◌, IfOk, IfErr, IfSome};
-ghost use Rattle.cheri_model.specs.Replay.{IsBeginning, operations_of};
+ghost use Rattle.cheri_model.specs.runs.Replay.{IsBeginning, operations_of};
 ghost use Rattle.machine.specs.Copies.{IsShown};
 ghost use Rattle.machine.specs.Names.{order_named};
 ghost use Rattle.machine.specs.Watches.{watch_of};
@@ -27,7 +27,7 @@ impl<J: Naming> Model for Receipt<J> {
     ghost Value = { List Event };
 
     ghost use Rattle.std.specs.Prelude.{◌≡◌, length};
-    ghost use Rattle.cheri_model.specs.Replay.{replayed_events};
+    ghost use Rattle.cheri_model.specs.runs.Replay.{replayed_events};
 
     ghost view = { λ r. replayed_events J.image r.seen };
 

@@ -2,9 +2,9 @@
 use Rattle.std.proofs.Common.{◌≡◌, ℕ, ◌+◌, ◌-◌, ◌^◌, ◌<◌, ◌≤◌, min, List, drop, nat_lt, Bool, true, false, cond, ◌&&◌, Ok, Err, ◌⊎◌, inl, inr, refl, arith}
 use Rattle.std.proofs.lemmas.Bool.{cases_lt}
 use Rattle.std.proofs.lemmas.Bool.Decides.{nat_tests}
-use Rattle.cheri_model.specs.declared.encoding.TheConstants.{ADDRESS_SPACE}
+use Rattle.cap_model.specs.declared.encoding.TheConstants.{ADDRESS_SPACE}
 use Rattle.cheri_model.specs.declared.operation.Op.TheVariants as operation
-use Rattle.cheri_model.specs.Sweeps.{is_range}
+use Rattle.cheri_model.specs.runs.Sweeps.{is_range}
 use Rattle.orders.specs.Faults.{◌>>=◌, range_fault}
 use Rattle.orders.specs.Numbers.{number_of, number_end}
 use Rattle.orders.specs.Sweeps.{sweep_of, sweep_at}

@@ -1,9 +1,9 @@
 -- No fault of a text is that memory ran out.
 use Rattle.std.proofs.Common.{◌≡◌, ℕ, ◌+◌, ◌-◌, Bool, true, false, cond, nat_lt, ◌&&◌, List, length, drop, Option, Some, None, Result, Ok, Err, IfErr, refl, sym, subst}
-use Rattle.cheri_model.specs.declared.encoding.TheConstants.{ADDRESS_SPACE}
+use Rattle.cap_model.specs.declared.encoding.TheConstants.{ADDRESS_SPACE}
 use Rattle.cheri_model.specs.declared.operation.Op.{Op}
 use Rattle.cheri_model.specs.declared.operation.Op.TheVariants as operation
-use Rattle.cheri_model.specs.Sweeps.{is_range}
+use Rattle.cheri_model.specs.runs.Sweeps.{is_range}
 use Rattle.orders.specs.declared.fault.OrderFault.{OrderFault}
 use Rattle.orders.specs.Faults.{◌>>=◌, byte_fault, range_fault}
 use Rattle.orders.specs.Numbers.{number_of, number_end}

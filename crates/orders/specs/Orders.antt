@@ -3,7 +3,7 @@
 use Rattle.std.specs.Prelude.{◌≡◌, ℕ, ◌+◌, ◌-◌, ◌≤◌, ◌<◌, ◌==◌, nat_eq, nat_lt, nat_le, Bool, ◌&&◌, ◌||◌, if◌then◌else◌, List, [], ◌∷◌, ◌++◌, length, Option, Some, None, option_map, Result, Ok, Err, Vec, codes}
 use Rattle.std.specs.List.{starts_with, cons_option}
 use Rattle.std.specs.Global.{Global}
-use Rattle.cheri_model.specs.declared.encoding.TheConstants.{ADDRESS_SPACE}
+use Rattle.cap_model.specs.declared.encoding.TheConstants.{ADDRESS_SPACE}
 use Rattle.cheri_model.specs.declared.operation.Op.{Op}
 use Rattle.cheri_model.specs.declared.operation.Op.TheVariants as operation
 use Rattle.orders.specs.declared.reader.TheConstants.{ORDER_LIMIT}

@@ -1,9 +1,9 @@
 -- Sweeps `[LO,HI]` in orders of version 2 (this project's own format).
 use Rattle.std.specs.Prelude.{ℕ, ◌+◌, nat_lt, Bool, ◌&&◌, if◌then◌else◌, List, drop, Result, Ok, Err}
-use Rattle.cheri_model.specs.declared.encoding.TheConstants.{ADDRESS_SPACE}
+use Rattle.cap_model.specs.declared.encoding.TheConstants.{ADDRESS_SPACE}
 use Rattle.cheri_model.specs.declared.operation.Op.{Op}
 use Rattle.cheri_model.specs.declared.operation.Op.TheVariants as operation
-use Rattle.cheri_model.specs.Sweeps.{is_range}
+use Rattle.cheri_model.specs.runs.Sweeps.{is_range}
 use Rattle.orders.specs.declared.fault.OrderFault.{OrderFault}
 use Rattle.orders.specs.Faults.{◌>>=◌, range_fault}
 use Rattle.orders.specs.Numbers.{number_of, number_end}

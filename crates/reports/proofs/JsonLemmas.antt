@@ -13,11 +13,11 @@ use Rattle.cheri_model.specs.declared.trace.Outcome.{Outcome}
 use Rattle.cheri_model.specs.declared.trace.Outcome.TheVariants as outcome
 use Rattle.cheri_model.specs.declared.trace.Status.{Status}
 use Rattle.cheri_model.specs.declared.trace.Status.TheVariants as status
-use Rattle.cheri_model.specs.CapValue.{CapValue, tag_of}
-use Rattle.cheri_model.specs.Hart.{HartState, register}
-use Rattle.cheri_model.specs.Image.{ImageParts}
-use Rattle.cheri_model.specs.ImageForm.{is_listed}
-use Rattle.cheri_model.specs.Machine.{MachineState}
+use Rattle.cap_model.specs.values.CapValue.{CapValue, tag_of}
+use Rattle.cheri_model.specs.steps.Hart.{HartState, register}
+use Rattle.cheri_model.specs.runs.Image.{ImageParts}
+use Rattle.cheri_model.specs.runs.ImageForm.{is_listed}
+use Rattle.cheri_model.specs.runs.Machine.{MachineState}
 use Rattle.reports.specs.ReportText.{hex_text}
 use Rattle.reports.specs.Json.{count, value_data, entry_data, outcome_data, put_listed, put_registers, status_data, hart_data, put_granules, image_data, json_report}
 use Rattle.reports.specs.Report.{version_of}

@@ -2,7 +2,7 @@
 use Rattle.std.proofs.Common.{◌≡◌, ℕ, suc, ◌+◌, ◌<◌, ◌≤◌, List, [], ◌∷◌, ◌++◌, length, drop, get_or, append_assoc, drop-cons, add-one}
 use Rattle.std.proofs.Math.ListN.{drop_of_length-le}
 use Rattle.std.proofs.lemmas.List.{append-nil}
-use Rattle.cheri_model.specs.Hart.{HartState, register}
+use Rattle.cheri_model.specs.steps.Hart.{HartState, register}
 use Rattle.reports.specs.Report.{numbered, register_line, register_lines}
 
 -- the text so far and that of the items from a place on stay the same when the item there is written

@@ -2,8 +2,8 @@
 use Rattle.std.proofs.Common.{◌≡◌, ℕ, ◌+◌, ◌<◌, ◌≤◌, List, ◌++◌, Option, codes, length, drop, get_or, refl, append_assoc}
 use Rattle.std.specs.Io.KnownBytes.{Appends}
 use Rattle.cheri_model.specs.declared.operation.Event.{Event}
-use Rattle.cheri_model.specs.Image.{ImageParts}
-use Rattle.cheri_model.specs.Machine.{MachineState}
+use Rattle.cheri_model.specs.runs.Image.{ImageParts}
+use Rattle.cheri_model.specs.runs.Machine.{MachineState}
 use Rattle.reports.specs.Report.{numbered, line, report, head_lines, shown_lines}
 use Rattle.reports.specs.Sinks.{TakesAllBut, TakesBeginning}
 use Rattle.reports.proofs.ReportLines.{numbered_step, numbered_end}

@@ -6,8 +6,8 @@ use Rattle.cheri_model.specs.declared.trace.Outcome.{Outcome}
 use Rattle.cheri_model.specs.declared.trace.Outcome.TheVariants as outcome
 use Rattle.cheri_model.specs.declared.trace.Status.{Status}
 use Rattle.cheri_model.specs.declared.trace.Status.TheVariants as status
-use Rattle.cheri_model.specs.Capability.{Capability, unsealed_type, sentry_type}
-use Rattle.cheri_model.specs.CapValue.{CapValue, bits_of, tag_of, parts_of}
+use Rattle.cap_model.specs.values.Capability.{Capability, unsealed_type, sentry_type}
+use Rattle.cap_model.specs.values.CapValue.{CapValue, bits_of, tag_of, parts_of}
 
 -- one text and then another; it groups to the right
 infixr 65 ◌+++◌

@@ -2,7 +2,7 @@
 
 ghost use Rattle.std.specs.Prelude.{◌≡◌, ◌+◌, ◌++◌, OnOk, IfOk, string_bytes};
 ghost use Rattle.std.specs.Io.KnownBytes.{Appends};
-ghost use Rattle.cheri_model.specs.ImageForm.{is_listed};
+ghost use Rattle.cheri_model.specs.runs.ImageForm.{is_listed};
 ghost use Rattle.reports.specs.Report.{version_of, numbered, title_line, image_line};
 ghost use Rattle.reports.specs.Report.{ending, entry_line, register_line, register_lines};
 ghost use Rattle.reports.specs.Report.{hart_lines, granule_line};

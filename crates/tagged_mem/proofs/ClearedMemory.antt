@@ -4,8 +4,8 @@ use Rattle.std.specs.Prelude.{slice_index_or, replicate}
 use Rattle.std.proofs.lemmas.Bool.{cases_lt, false≢true}
 use Rattle.std.proofs.lemmas.Bool.Decides.{nat_tests}
 use Rattle.std.proofs.lemmas.List.{length-replicate, get_or-replicate, get_or_past}
-use Rattle.cheri_model.specs.CapValue.{raw}
-use Rattle.cheri_model.specs.Memory.{cleared_memory, is_ram_size}
+use Rattle.cap_model.specs.values.CapValue.{raw}
+use Rattle.cheri_model.specs.steps.Memory.{cleared_memory, is_ram_size}
 use Rattle.tagged_mem.specs.Packed.{number_at, tag_at, granules_from, unpacked_memory, IsPackedRam}
 
 abbrev pub zeros : ℕ → List ℕ

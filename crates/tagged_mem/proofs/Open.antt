@@ -1,7 +1,7 @@
 -- Short names for hints: each definition opens what its own line names.
 use Rattle.std.specs.Prelude.{ℕ, List}
-use Rattle.cheri_model.specs.CapValue.{CapValue}
-use Rattle.cheri_model.specs.Memory.{granule_at, load_data, store_data, store_capability}
+use Rattle.cap_model.specs.values.CapValue.{CapValue}
+use Rattle.cheri_model.specs.steps.Memory.{granule_at, load_data, store_data, store_capability}
 
 unfoldable pub load : List CapValue → ℕ → ℕ → ℕ
 unfolding granule_at load_data

@@ -4,7 +4,7 @@ use Rattle.std.specs.Prelude.{slice_index_or, slice_set}
 use Rattle.std.proofs.Math.Nat.{mul_assoc, mul_comm}
 use Rattle.std.proofs.lemmas.Nat.{pow-add, mod-pow-add, mod-mul-add, div-mul-add}
 use Rattle.std.proofs.lemmas.List.{length-set, get_or-set_same, get_or-set_other}
-use Rattle.cheri_model.specs.CapValue.{CapValue}
+use Rattle.cap_model.specs.values.CapValue.{CapValue}
 use Rattle.tagged_mem.specs.Packed.{number_at, with_number, packed_at, granules_from}
 
 -- one byte more is eight bits more

@@ -5,12 +5,12 @@ use Rattle.std.proofs.lemmas.Bool.{cases_lt, cases_eq, false≢true}
 use Rattle.std.proofs.lemmas.Bool.Decides.{nat_tests}
 use Rattle.std.proofs.lemmas.List.{get_or_past, get_or-set_same, get_or-set_other, set_past, drop_all, take_all, append-nil}
 use Rattle.std.proofs.Math.Nat.{mul_comm}
-use Rattle.cheri_model.specs.CapValue.{CapValue, raw, bits_of, tag_of, IsLawfulValue, IsTaggedWord}
-use Rattle.cheri_model.specs.ValueFacts.{bits_of-value_at, IsLawfulValue-value_at}
+use Rattle.cap_model.specs.values.CapValue.{CapValue, raw, bits_of, tag_of, IsLawfulValue, IsTaggedWord}
+use Rattle.cap_model.specs.values.ValueFacts.{bits_of-value_at, IsLawfulValue-value_at}
 use Rattle.cheri_model.specs.declared.width.Width.{Width}
 use Rattle.cheri_model.specs.declared.width.Width.TheVariants.{Byte, Half, Word, Double}
-use Rattle.cheri_model.specs.Memory.{ram_base, bytes_of, fits, granule_number, granule_offset, granule_at, bytes_at, with_bytes, is_ram_size, IsMemory}
-use Rattle.cheri_model.proofs.Results.Values.{value_back, value_tagged, bits_lt}
+use Rattle.cheri_model.specs.steps.Memory.{ram_base, bytes_of, fits, granule_number, granule_offset, granule_at, bytes_at, with_bytes, is_ram_size, IsMemory}
+use Rattle.cap_model.proofs.Results.Values.{value_back, value_tagged, bits_lt}
 use Rattle.tagged_mem.specs.Packed.{number_at, with_number, tag_at, packed_at, unpacked_memory, IsPackedRam}
 use Rattle.tagged_mem.proofs.PackedBytes.{number_below, number_split, number_same, length-with_number, with_number_other, with_number_there, length-granules_from, granule-granules_from, granules_set, whole_low, whole_mid, whole_high}
 

@@ -4,7 +4,7 @@ use Rattle.std.specs.Prelude.{slice_index_or, slice_set}
 use Rattle.std.specs.Int.{bit_at}
 use Rattle.std.proofs.lemmas.Bool.{cases_eq}
 use Rattle.std.proofs.lemmas.List.{get_or-set_same, get_or-set_other}
-use Rattle.cheri_model.specs.Readings.{number_of}
+use Rattle.cap_model.specs.results.Readings.{number_of}
 use Rattle.tagged_mem.specs.Packed.{tag_at}
 
 -- a bit as a truth value

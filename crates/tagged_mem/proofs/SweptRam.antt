@@ -3,10 +3,11 @@ use Rattle.std.proofs.Common.{◌≡◌, ◌≢◌, ℕ, zero, suc, ◌+◌, ◌
 use Rattle.std.specs.Prelude.{min, ◌++◌, map, count_by, slice_index_or}
 use Rattle.std.proofs.lemmas.Bool.{cases_lt, cases_Bool, false≢true}
 use Rattle.std.proofs.lemmas.List.Sums.{sum_by-append, count_by-le-length}
-use Rattle.cheri_model.specs.CapValue.{tag_of, value_at, IsTaggedWord}
-use Rattle.cheri_model.specs.ValueFacts.{bits_of-value_at, tag_of-value_at}
-use Rattle.cheri_model.specs.Readings.{number_of}
-use Rattle.cheri_model.specs.Sweeps.{is_in_sweep, swept, swept_memory, cleared_in_memory}
+use Rattle.cap_model.specs.values.CapValue.{tag_of, value_at, IsTaggedWord}
+use Rattle.cap_model.specs.values.ValueFacts.{bits_of-value_at, tag_of-value_at}
+use Rattle.cap_model.specs.results.Readings.{number_of}
+use Rattle.cap_model.specs.results.Swept.{is_in_sweep, swept}
+use Rattle.cheri_model.specs.runs.Sweeps.{swept_memory, cleared_in_memory}
 use Rattle.tagged_mem.specs.Packed.{number_at, tag_at, packed_at, granules_from, unpacked_memory, IsPackedRam}
 use Rattle.tagged_mem.specs.SweptTags.{cleared_between, IsSweptBetween}
 use Rattle.tagged_mem.proofs.PackedBytes.{length-granules_from, granules_same}

@@ -1,8 +1,8 @@
 -- RAM as its bytes, in the order of their addresses, and a bitmap with one tag for each granule.
 use Rattle.std.specs.Prelude.{◌≡◌, ℕ, zero, suc, ◌+◌, ◌*◌, ◌/◌, ◌%◌, ◌==◌, ◌<◌, ◌≤◌, Bool, true, List, [], ◌∷◌, length, slice_index_or, slice_set}
 use Rattle.std.specs.Int.{bit_at}
-use Rattle.cheri_model.specs.CapValue.{CapValue, value_at, IsTaggedWord}
-use Rattle.cheri_model.specs.Memory.{is_ram_size}
+use Rattle.cap_model.specs.values.CapValue.{CapValue, value_at, IsTaggedWord}
+use Rattle.cheri_model.specs.steps.Memory.{is_ram_size}
 
 -- the number that this many bytes are, from byte i on, the least significant first
 unfoldable pub number_at : List ℕ → ℕ → ℕ → ℕ

@@ -1,7 +1,8 @@
 -- The bitmap of tags where a part of RAM was swept.
 use Rattle.std.specs.Prelude.{◌≡◌, ℕ, ◌-◌, ◌<◌, ◌≤◌, List, length}
-use Rattle.cheri_model.specs.CapValue.{tag_of}
-use Rattle.cheri_model.specs.Sweeps.{swept, cleared_in_memory}
+use Rattle.cap_model.specs.values.CapValue.{tag_of}
+use Rattle.cap_model.specs.results.Swept.{swept}
+use Rattle.cheri_model.specs.runs.Sweeps.{cleared_in_memory}
 use Rattle.tagged_mem.specs.Packed.{tag_at, packed_at, granules_from}
 
 -- how many tags a sweep of the granules from one on, up to another, clears

@@ -2,9 +2,9 @@
 
 ghost use Rattle.std.specs.Prelude.{◌≡◌, ◌≢◌, ◌+◌, ◌/◌, ◌%◌, ◌^◌, ◌*◌, ◌<◌, ◌≤◌, ℕ, length};
 ghost use Rattle.std.specs.Int.{bit_at};
-ghost use Rattle.cheri_model.specs.CapValue.{value_at, IsLawfulValue, IsTaggedWord};
-ghost use Rattle.cheri_model.specs.Memory.{bytes_of};
-ghost use Rattle.cheri_model.specs.Readings.{number_of};
+ghost use Rattle.cap_model.specs.values.CapValue.{value_at, IsLawfulValue, IsTaggedWord};
+ghost use Rattle.cheri_model.specs.steps.Memory.{bytes_of};
+ghost use Rattle.cap_model.specs.results.Readings.{number_of};
 ghost use Rattle.tagged_mem.specs.Packed.{number_at, with_number, tag_at};
 
 use cap_ops::Cap;

@@ -17,8 +17,8 @@ ghost use Rattle.std.specs.Prelude.{
   IfErr,
   IsTrue,
 };
-ghost use Rattle.cheri_model.specs.CapValue.{bits_of, IsLawfulValue};
-ghost use Rattle.cheri_model.specs.Memory.{
+ghost use Rattle.cap_model.specs.values.CapValue.{bits_of, IsLawfulValue};
+ghost use Rattle.cheri_model.specs.steps.Memory.{
   ram_base,
   bytes_of,
   bytes_at,
@@ -33,7 +33,7 @@ ghost use Rattle.cheri_model.specs.Memory.{
   store_capability,
   IsMemory,
 };
-ghost use Rattle.cheri_model.specs.Sweeps.{swept_memory, cleared_in_memory};
+ghost use Rattle.cheri_model.specs.runs.Sweeps.{swept_memory, cleared_in_memory};
 
 use crate::fault::MemFault;
 use crate::packed::{data_at, put_bytes, put_tag, tag_at, unpacked, word_at};
@@ -53,7 +53,7 @@ pub struct Ram {
 
 impl Model for Ram {
     ghost use Rattle.std.specs.Prelude.{List};
-    ghost use Rattle.cheri_model.specs.CapValue.{CapValue};
+    ghost use Rattle.cap_model.specs.values.CapValue.{CapValue};
     ghost use Rattle.tagged_mem.specs.Packed.{unpacked_memory, IsPackedRam};
 
     ghost Value = { List CapValue };
@@ -163,7 +163,7 @@ impl Ram {
     }
 
     /// The granule at `addr`, with its tag.
-    #[tactic(auto, unfolding(cheri_model::specs::Memory::load_capability))]
+    #[tactic(auto, unfolding(cheri_model::specs::steps::Memory::load_capability))]
     pub fn load_cap(&self, addr: u64) -> Cap
         requires { IsTrue (fits self.now addr 16) }
         ensures value { result ≡ load_capability self.now addr }

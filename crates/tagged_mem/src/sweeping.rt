@@ -2,8 +2,8 @@
 //! and each tag that is set one decoding of its granule.
 
 ghost use Rattle.std.specs.Prelude.{◌≡◌, ◌+◌, ◌-◌, ◌*◌, ◌/◌, ◌<◌, ◌≤◌, length, min};
-ghost use Rattle.cheri_model.specs.Readings.{number_of};
-ghost use Rattle.cheri_model.specs.Sweeps.{is_in_sweep};
+ghost use Rattle.cap_model.specs.results.Readings.{number_of};
+ghost use Rattle.cap_model.specs.results.Swept.{is_in_sweep};
 ghost use Rattle.tagged_mem.specs.Packed.{packed_at, IsPackedRam};
 ghost use Rattle.tagged_mem.specs.SweptTags.{cleared_between, IsSweptBetween};
 

@@ -3,7 +3,7 @@ use Rattle.std.proofs.Common.{◌≡◌, ℕ, ◌+◌, ◌<◌, ◌≤◌, ◌==
 use Rattle.std.specs.Prelude.{bit_and, codes}
 use Rattle.std.proofs.Math.ListN.{drop_of_length-le}
 use Rattle.std.proofs.lemmas.List.{append-nil}
-use Rattle.cheri_model.specs.CapValue.{CapValue}
+use Rattle.cap_model.specs.values.CapValue.{CapValue}
 use Rattle.texts.specs.Canon.{each, register_line, register_lines, joined_text}
 
 -- the text so far and that of the items from a place on stay the same when the item there is written

@@ -5,12 +5,12 @@ use Rattle.std.specs.Int.{to_le_bytes, to_be_bytes, w64}
 use Rattle.hex.specs.Hex.{encode_lower}
 use Rattle.cheri_model.specs.declared.instr.Instr.{Instr}
 use Rattle.cheri_model.specs.declared.image.HartImage.{HartImage}
-use Rattle.cheri_model.specs.PermissionNames.{permission_table, all_permissions}
-use Rattle.cheri_model.specs.Capability.{Capability, unsealed_type, sentry_type}
-use Rattle.cheri_model.specs.CapValue.{CapValue, bits_of, tag_of, parts_of}
-use Rattle.cheri_model.specs.Image.{ImageParts}
-use Rattle.cheri_model.specs.ImageForm.{is_listed}
-use Rattle.cheri_model.specs.Form.{form_of}
+use Rattle.cap_model.specs.words.PermissionNames.{permission_table, all_permissions}
+use Rattle.cap_model.specs.values.Capability.{Capability, unsealed_type, sentry_type}
+use Rattle.cap_model.specs.values.CapValue.{CapValue, bits_of, tag_of, parts_of}
+use Rattle.cheri_model.specs.runs.Image.{ImageParts}
+use Rattle.cheri_model.specs.runs.ImageForm.{is_listed}
+use Rattle.cheri_model.specs.instructions.Form.{form_of}
 use Rattle.texts.specs.Instructions.{◌+++◌, form_text}
 
 -- the texts of items, one after another

@@ -5,11 +5,11 @@ use Rattle.cheri_model.specs.declared.image.HartImage.{HartImage}
 use Rattle.cheri_model.specs.declared.image.TheConstants.{MAX_HARTS, MAX_INSTRUCTIONS}
 use Rattle.cheri_model.specs.declared.form.Form.{Form}
 use Rattle.cheri_model.specs.declared.form.Form.TheVariants.{Three, Two, Immediate, Shift, WordShift, SetBoundsImm, Upper, Load, Store, Swap, Branch, Jump, Invoke, Alone}
-use Rattle.cheri_model.specs.Form.{form_of}
-use Rattle.cheri_model.specs.Capability.{IsLawful, unsealed_type}
-use Rattle.cheri_model.specs.CapValue.{CapValue, valid, raw}
-use Rattle.cheri_model.specs.Memory.{ram_base, is_ram_size}
-use Rattle.cheri_model.specs.Image.{ImageParts}
+use Rattle.cheri_model.specs.instructions.Form.{form_of}
+use Rattle.cap_model.specs.values.Capability.{IsLawful, unsealed_type}
+use Rattle.cap_model.specs.values.CapValue.{CapValue, valid, raw}
+use Rattle.cheri_model.specs.steps.Memory.{ram_base, is_ram_size}
+use Rattle.cheri_model.specs.runs.Image.{ImageParts}
 use Rattle.listings.specs.Meaning.{listed_from, listing_limit, listing_meaning}
 
 -- any untagged word, and each lawful capability whose flag is 0

@@ -1,7 +1,7 @@
 //! Laws over listings: the functions do nothing, and their contracts are the laws.
 
 ghost use Rattle.std.specs.Prelude.{◌≡◌, ◌≤◌, ℕ, List, length, Ok};
-ghost use Rattle.cheri_model.specs.Image.{ImageParts};
+ghost use Rattle.cheri_model.specs.runs.Image.{ImageParts};
 ghost use Rattle.texts.specs.Listable.{IsListable};
 ghost use Rattle.texts.specs.Canon.{canon};
 ghost use Rattle.listings.specs.Meaning.{listing_limit, listing_meaning};

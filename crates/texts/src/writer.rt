@@ -18,9 +18,9 @@ ghost use Rattle.std.specs.Prelude.{
   false,
 };
 ghost use Rattle.hex.specs.Hex.{encode_lower};
-ghost use Rattle.cheri_model.specs.PermissionNames.{permission_table};
-ghost use Rattle.cheri_model.specs.CapValue.{parts_of};
-ghost use Rattle.cheri_model.specs.ImageForm.{is_listed};
+ghost use Rattle.cap_model.specs.words.PermissionNames.{permission_table};
+ghost use Rattle.cap_model.specs.values.CapValue.{parts_of};
+ghost use Rattle.cheri_model.specs.runs.ImageForm.{is_listed};
 ghost use Rattle.texts.specs.Listable.{ReadsBack};
 ghost use Rattle.texts.specs.Canon.{
   joined_text,

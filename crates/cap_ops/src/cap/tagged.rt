@@ -1,15 +1,15 @@
 //! Values of a tag and a word from outside, where nothing says that a capability has that word.
 
 ghost use Rattle.std.specs.Prelude.{◌≡◌, ◌+◌, ◌*◌, ◌%◌, ◌^◌, ◌<◌, ◌≤◌};
-ghost use Rattle.cheri_model.specs.Capability.{b_field, t_field};
-ghost use Rattle.cheri_model.specs.CapValue.{bits_of};
-ghost use Rattle.cheri_model.specs.EditedWords.{word_of_halves};
+ghost use Rattle.cap_model.specs.values.Capability.{b_field, t_field};
+ghost use Rattle.cap_model.specs.values.CapValue.{bits_of};
+ghost use Rattle.cap_model.specs.results.EditedWords.{word_of_halves};
 ghost use Rattle.cap_ops.specs.Tagged.{is_encoding, value_from};
 
 use super::Cap;
 use crate::fields::exclusive_or_null;
 use cap_bounds::fields;
-use cheri_model::{ADDRESS_SPACE, LAST_SEALABLE_TYPE};
+use cap_model::{ADDRESS_SPACE, LAST_SEALABLE_TYPE};
 
 impl Cap {
     /// The value of this tag and the word of these halves. A tag on a word that no capability has

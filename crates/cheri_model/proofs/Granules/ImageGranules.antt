@@ -4,10 +4,10 @@ use Rattle.std.specs.Prelude.{All, IsTrue, nat_le}
 use Rattle.std.proofs.lemmas.Bool.{and_parts}
 use Rattle.std.proofs.lemmas.Bool.Decides.{nat_tests}
 use Rattle.std.proofs.lemmas.List.Elements.{All-nil, All-cons}
-use Rattle.cheri_model.specs.CapValue.{CapValue}
-use Rattle.cheri_model.specs.Memory.{ram_base, fits}
-use Rattle.cheri_model.specs.Image.{ImageParts}
-use Rattle.cheri_model.specs.ImageForm.{is_granule, are_granules, are_sizes, is_image}
+use Rattle.cap_model.specs.values.CapValue.{CapValue}
+use Rattle.cheri_model.specs.steps.Memory.{ram_base, fits}
+use Rattle.cheri_model.specs.runs.Image.{ImageParts}
+use Rattle.cheri_model.specs.runs.ImageForm.{is_granule, are_granules, are_sizes, is_image}
 
 pub record IsPlaced (ram : ℕ) (entry : ℕ × CapValue) : Type 0 where
   pub aligned : entry.0 % 16 ≡ 0

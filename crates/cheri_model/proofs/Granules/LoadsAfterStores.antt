@@ -6,8 +6,8 @@ use Rattle.std.proofs.lemmas.Bool.Decides.{nat_tests}
 use Rattle.std.proofs.lemmas.List.{get_or-set_same, get_or-set_other}
 use Rattle.cheri_model.specs.declared.width.Width.{Width}
 use Rattle.cheri_model.specs.declared.width.Width.TheVariants.{Byte, Half, Word, Double}
-use Rattle.cheri_model.specs.CapValue.{CapValue, raw, bits_of}
-use Rattle.cheri_model.specs.Memory.{ram_base, granule_number, granule_offset, granule_at, bytes_of, fits, bytes_at, with_bytes, load_data, store_data}
+use Rattle.cap_model.specs.values.CapValue.{CapValue, raw, bits_of}
+use Rattle.cheri_model.specs.steps.Memory.{ram_base, granule_number, granule_offset, granule_at, bytes_of, fits, bytes_at, with_bytes, load_data, store_data}
 use Rattle.cheri_model.proofs.Granules.StoredBytes.{bytes_at-with_bytes_inside, bytes_at-with_bytes_below, bytes_at-with_bytes_above}
 
 -- an aligned access that lies wholly in RAM

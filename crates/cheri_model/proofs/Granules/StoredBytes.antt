@@ -2,7 +2,7 @@
 use Rattle.std.proofs.Common.{◌≡◌, ℕ, ◌+◌, ◌-◌, ◌*◌, ◌/◌, ◌%◌, ◌^◌, ◌≤◌, sym, ap, ◌∙◌, arith}
 use Rattle.std.proofs.lemmas.Nat.{pow_pos, field_of, shr-shr, shr_high, mod_low, mod_below}
 use Rattle.std.proofs.Math.Pow.{mod-mod-pow}
-use Rattle.cheri_model.specs.Memory.{bytes_at, with_bytes}
+use Rattle.cheri_model.specs.steps.Memory.{bytes_at, with_bytes}
 
 -- a word with the b bits from s on replaced by those of a number
 abbrev replaced : ℕ → ℕ → ℕ → ℕ → ℕ

@@ -6,14 +6,14 @@ use Rattle.cheri_model.specs.declared.access.Access.{Access}
 use Rattle.cheri_model.specs.declared.access.Access.TheVariants.{Load, Store, LoadCap, StoreCap, Swap}
 use Rattle.cheri_model.specs.declared.width.Width.{Width}
 use Rattle.cheri_model.specs.declared.width.Width.TheVariants.{Byte, Half, Word, Double}
-use Rattle.cheri_model.specs.CapValue.{CapValue, valid, raw, tag_of, parts_of, IsLawfulValue}
-use Rattle.cheri_model.specs.Checks.{size_of}
-use Rattle.cheri_model.specs.Hart.{following}
-use Rattle.cheri_model.specs.Memory.{bytes_of, is_in_ram, fits}
-use Rattle.cheri_model.specs.Results.{address_of, is_open, keeps_bounds, in_bounds, with_address, set_address}
-use Rattle.cheri_model.specs.SealResults.{unsealed}
-use Rattle.cheri_model.proofs.Bounds.WindowsHold.{lawful_bounds_in_window}
-use Rattle.cheri_model.proofs.Results.AddressResults.{test_of_window}
+use Rattle.cap_model.specs.values.CapValue.{CapValue, valid, raw, tag_of, parts_of, IsLawfulValue}
+use Rattle.cheri_model.specs.steps.Checks.{size_of}
+use Rattle.cheri_model.specs.steps.Hart.{following}
+use Rattle.cheri_model.specs.steps.Memory.{bytes_of, is_in_ram, fits}
+use Rattle.cap_model.specs.results.Addresses.{address_of, is_open, keeps_bounds, in_bounds, with_address, set_address}
+use Rattle.cap_model.specs.results.Seals.{unsealed}
+use Rattle.cap_model.proofs.Bounds.WindowsHold.{lawful_bounds_in_window}
+use Rattle.cap_model.proofs.Results.AddressResults.{test_of_window}
 use Rattle.cheri_model.proofs.Runs.ChecksPassed.{IsPlacedAccess}
 
 -- an address in the bounds, or at their top, modulo 2^64

@@ -2,10 +2,10 @@
 use Rattle.std.proofs.Common.{◌≡◌, ℕ, ◌%◌, ◌==◌, Bool, true, List, refl}
 use Rattle.std.specs.Prelude.{Ok, Option}
 use Rattle.cheri_model.specs.declared.access.Access.{Access}
-use Rattle.cheri_model.specs.CapValue.{CapValue, tag_of}
-use Rattle.cheri_model.specs.Memory.{is_in_ram}
-use Rattle.cheri_model.specs.Results.{in_bounds}
-use Rattle.cheri_model.specs.Checks.{first_failing, size_of, access_table, target_table, jump_table, invoke_table}
+use Rattle.cap_model.specs.values.CapValue.{CapValue, tag_of}
+use Rattle.cheri_model.specs.steps.Memory.{is_in_ram}
+use Rattle.cap_model.specs.results.Addresses.{in_bounds}
+use Rattle.cheri_model.specs.steps.Checks.{first_failing, size_of, access_table, target_table, jump_table, invoke_table}
 use Rattle.cheri_model.proofs.Runs.Fetches.{passes_at, not_false}
 
 -- an access that passed is aligned and lies wholly in RAM

@@ -12,23 +12,24 @@ use Rattle.cheri_model.specs.declared.instr.Instr.TheVariants as instr
 use Rattle.cheri_model.specs.declared.trace.Trap.{Trap}
 use Rattle.cheri_model.specs.declared.width.Width.{Width}
 use Rattle.cheri_model.specs.declared.width.Width.TheVariants.{Byte, Half, Word, Double}
-use Rattle.cheri_model.specs.CapInstructions.{CapInstruction, capability_result}
-use Rattle.cheri_model.specs.CapValue.{CapValue, valid, raw, bits_of, tag_of, parts_of}
-use Rattle.cheri_model.specs.Results.{in_bounds, with_address, address_of, clear_tag}
-use Rattle.cheri_model.specs.SealResults.{unsealed}
-use Rattle.cheri_model.specs.Hart.{HartState, null, register, word_of_integer, put, following, next, link}
-use Rattle.cheri_model.specs.Actions.{Action, Put, Load, Store, LoadCap, StoreCap, Swap, Branch, Jump, JumpThrough, Invoke, Halt, action}
-use Rattle.cheri_model.specs.HartStep.{Stepped, trapped, unless_trapped, access_check, loaded, permitted, entered, invoked_data, execute, hart_step, instruction_at}
-use Rattle.cheri_model.specs.Checks.{first_failing, fetch_table, target_table, jump_table, invoke_table}
-use Rattle.cheri_model.specs.Image.{ImageParts}
-use Rattle.cheri_model.specs.Memory.{ram_base, bytes_of, granule_number, granule_offset, granule_at, load_data, store_data, load_capability, store_capability}
-use Rattle.cheri_model.specs.Sweeps.{is_in_sweep, swept, swept_hart, swept_memory}
-use Rattle.cheri_model.specs.Machine.{MachineState, hart_at, no_hart, state_after_step, swept_state, state_after_one}
-use Rattle.cheri_model.specs.Replay.{state_after}
-use Rattle.cheri_model.specs.Authority.{EachOfHart, EachOfState}
+use Rattle.cap_model.specs.results.CapInstructions.{CapInstruction, capability_result}
+use Rattle.cap_model.specs.values.CapValue.{CapValue, valid, raw, bits_of, tag_of, parts_of}
+use Rattle.cap_model.specs.results.Addresses.{in_bounds, with_address, address_of, clear_tag}
+use Rattle.cap_model.specs.results.Seals.{unsealed}
+use Rattle.cheri_model.specs.steps.Hart.{HartState, null, register, word_of_integer, put, following, next, link}
+use Rattle.cheri_model.specs.steps.Actions.{Action, Put, Load, Store, LoadCap, StoreCap, Swap, Branch, Jump, JumpThrough, Invoke, Halt, action}
+use Rattle.cheri_model.specs.steps.HartStep.{Stepped, trapped, unless_trapped, access_check, loaded, permitted, entered, invoked_data, execute, hart_step, instruction_at}
+use Rattle.cheri_model.specs.steps.Checks.{first_failing, fetch_table, target_table, jump_table, invoke_table}
+use Rattle.cheri_model.specs.runs.Image.{ImageParts}
+use Rattle.cheri_model.specs.steps.Memory.{ram_base, bytes_of, granule_number, granule_offset, granule_at, load_data, store_data, load_capability, store_capability}
+use Rattle.cap_model.specs.results.Swept.{is_in_sweep, swept}
+use Rattle.cheri_model.specs.runs.Sweeps.{swept_hart, swept_memory}
+use Rattle.cheri_model.specs.runs.Machine.{MachineState, hart_at, no_hart, state_after_step, swept_state, state_after_one}
+use Rattle.cheri_model.specs.runs.Replay.{state_after}
+use Rattle.cheri_model.specs.runs.Authority.{EachOfHart, EachOfState}
 use Rattle.cheri_model.proofs.Runs.Fetches.{fetched_is}
 use Rattle.cheri_model.proofs.Runs.ChecksPassed.{IsPlacedAccess, access_is, target_within, IsEntered, jump_is, invoke_is}
-use Rattle.cheri_model.proofs.Results.Values.{bits_lt}
+use Rattle.cap_model.proofs.Results.Values.{bits_lt}
 use Rattle.cheri_model.proofs.Runs.Granted.{IsGood, IsGood-raw, IsGood-null, IsGood-derived, IsGood-cleared, IsGood-entry, IsGood-unsealed, IsGood-permitted, IsGood-moved, with_bytes_below}
 
 -- a data access lies within one granule

@@ -4,10 +4,10 @@ use Rattle.std.specs.Prelude.{Some, Ok, not, find, nat_lt, All, slice_index_or}
 use Rattle.std.proofs.lemmas.List.Elements.{All-nil, All-cons}
 use Rattle.std.proofs.lemmas.Bool.{false≢true}
 use Rattle.std.proofs.lemmas.Bool.Decides.{nat_tests}
-use Rattle.cheri_model.specs.Capability.{unsealed_type}
-use Rattle.cheri_model.specs.CapValue.{CapValue, tag_of, parts_of}
-use Rattle.cheri_model.specs.Results.{address_of, has_permission, in_bounds}
-use Rattle.cheri_model.specs.Checks.{CheckLine, verdict_of, first_failing, fetch_table, is_in_code, code_base}
+use Rattle.cap_model.specs.values.Capability.{unsealed_type}
+use Rattle.cap_model.specs.values.CapValue.{CapValue, tag_of, parts_of}
+use Rattle.cap_model.specs.results.Addresses.{address_of, has_permission, in_bounds}
+use Rattle.cheri_model.specs.steps.Checks.{CheckLine, verdict_of, first_failing, fetch_table, is_in_code, code_base}
 
 abbrev no_line : CheckLine
 no_line = record { fails = false; trap = record { cause = 0; reg = 0 } }

@@ -4,19 +4,20 @@ use Rattle.std.specs.Prelude.{◌⊎◌, nat_le, bit_and, if◌then◌else◌}
 use Rattle.std.proofs.lemmas.Nat.{and_assoc, and_shr, and_mod, and_le_r, pow-add, pow_pos, shr_below, mod_below}
 use Rattle.std.proofs.Math.Nat.{mul-le-mul_right}
 use Rattle.std.proofs.lemmas.Bool.{and_parts, false≢true, le-leb}
-use Rattle.cheri_model.specs.Capability.{Capability}
-use Rattle.cheri_model.specs.CapValue.{CapValue, valid, raw, tag_of, parts_of, IsLawfulValue}
-use Rattle.cheri_model.specs.CapInstructions.{CapInstruction, CClearTag, CSealEntry, UnsealedByJump, capability_result}
-use Rattle.cheri_model.specs.Derivation.{IsDerived}
-use Rattle.cheri_model.specs.Memory.{with_bytes}
-use Rattle.cheri_model.specs.Results.{address_of, clear_tag, with_address, has_permission, is_open}
-use Rattle.cheri_model.specs.SealResults.{seal_permission, is_sealable, has_type_authority, seal_entry, unsealed}
-use Rattle.cheri_model.specs.Hart.{null}
-use Rattle.cheri_model.specs.HartStep.{permitted}
-use Rattle.cheri_model.specs.Authority.{IsWithin, IsGrantedType, IsGranted, IsGrantedValue}
-use Rattle.cheri_model.proofs.Words.AddressesMoved.{moved_lawful}
-use Rattle.cheri_model.proofs.Results.Derivations.{result_lawful, result_derived}
-use Rattle.cheri_model.proofs.Bounds.WindowsHold.{lawful_bounds_in_window}
+use Rattle.cap_model.specs.values.Capability.{Capability}
+use Rattle.cap_model.specs.values.CapValue.{CapValue, valid, raw, tag_of, parts_of, IsLawfulValue}
+use Rattle.cap_model.specs.results.CapInstructions.{CapInstruction, CClearTag, CSealEntry, UnsealedByJump, capability_result}
+use Rattle.cap_model.specs.results.Derivation.{IsDerived}
+use Rattle.cheri_model.specs.steps.Memory.{with_bytes}
+use Rattle.cap_model.specs.results.Addresses.{address_of, clear_tag, with_address, has_permission, is_open}
+use Rattle.cap_model.specs.results.Seals.{seal_permission, is_sealable, has_type_authority, seal_entry, unsealed}
+use Rattle.cheri_model.specs.steps.Hart.{null}
+use Rattle.cheri_model.specs.steps.HartStep.{permitted}
+use Rattle.cap_model.specs.results.Derivation.{IsWithin}
+use Rattle.cheri_model.specs.runs.Authority.{IsGrantedType, IsGranted, IsGrantedValue}
+use Rattle.cap_model.proofs.Words.AddressesMoved.{moved_lawful}
+use Rattle.cap_model.proofs.Results.Derivations.{result_lawful, result_derived}
+use Rattle.cap_model.proofs.Bounds.WindowsHold.{lawful_bounds_in_window}
 
 -- a permission among fewer is among the more: here of Seal
 seal_among : (p q : ℕ) → bit_and p q ≡ p → p / 2 ^ 7 % 2 ≡ 1 → q / 2 ^ 7 % 2 ≡ 1

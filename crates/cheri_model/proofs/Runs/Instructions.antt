@@ -2,12 +2,12 @@
 use Rattle.std.proofs.Common.{◌≡◌, refl, ℕ, ◌%◌, ◌^◌, ◌<◌, ap, arith}
 use Rattle.cheri_model.specs.declared.instr.Instr.{Instr}
 use Rattle.cheri_model.specs.declared.instr.Instr.TheVariants.{CSetAddr}
-use Rattle.cheri_model.specs.Form.{form_of, instr_of, three_instr, two_instr, immediate_instr, shift_instr, word_shift_instr, upper_instr, load_instr, store_instr, branch_instr}
+use Rattle.cheri_model.specs.instructions.Form.{form_of, instr_of, three_instr, two_instr, immediate_instr, shift_instr, word_shift_instr, upper_instr, load_instr, store_instr, branch_instr}
 use Rattle.std.specs.Int.{cast_signed, cast_unsigned, w32, w64}
-use Rattle.cheri_model.specs.Integers.{extended_word}
-use Rattle.cheri_model.specs.Capability.{capability_at}
-use Rattle.cheri_model.specs.Hart.{word_of_integer}
-use Rattle.cheri_model.specs.Results.{address_of}
+use Rattle.cheri_model.specs.instructions.Integers.{extended_word}
+use Rattle.cap_model.specs.values.Capability.{capability_at}
+use Rattle.cheri_model.specs.steps.Hart.{word_of_integer}
+use Rattle.cap_model.specs.results.Addresses.{address_of}
 
 pub instr_of-form_of : (i : Instr) → instr_of (form_of i) ≡ i
 unfolding form_of instr_of three_instr two_instr immediate_instr shift_instr word_shift_instr upper_instr load_instr store_instr branch_instr

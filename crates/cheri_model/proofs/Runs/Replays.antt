@@ -7,9 +7,9 @@ use Rattle.cheri_model.specs.declared.operation.Op.{Op}
 use Rattle.cheri_model.specs.declared.operation.Op.TheVariants as operation
 use Rattle.cheri_model.specs.declared.operation.Event.{Event}
 use Rattle.cheri_model.specs.declared.operation.Event.TheVariants as event
-use Rattle.cheri_model.specs.Image.{ImageParts}
-use Rattle.cheri_model.specs.Machine.{MachineState, opening_state, may_take, state_after_step, entry_of, state_after_one, event_of}
-use Rattle.cheri_model.specs.Replay.{state_after, events_of, is_legal, operation_of, operations_of, replayed_state, replayed_events, IsReplay, IsBeginning, state_after_steps, entries_of_steps}
+use Rattle.cheri_model.specs.runs.Image.{ImageParts}
+use Rattle.cheri_model.specs.runs.Machine.{MachineState, opening_state, may_take, state_after_step, entry_of, state_after_one, event_of}
+use Rattle.cheri_model.specs.runs.Replay.{state_after, events_of, is_legal, operation_of, operations_of, replayed_state, replayed_events, IsReplay, IsBeginning, state_after_steps, entries_of_steps}
 
 module _ (image : ImageParts) where
   pub state_after-append : (state : MachineState) (first later : List Op) →

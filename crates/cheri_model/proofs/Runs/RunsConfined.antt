@@ -8,14 +8,14 @@ use Rattle.std.proofs.lemmas.List.Elements.{All-set, All-map, All-replicate, All
 use Rattle.cheri_model.specs.declared.instr.Instr.{Instr}
 use Rattle.cheri_model.specs.declared.operation.Op.{Op}
 use Rattle.cheri_model.specs.declared.operation.Event.{Event}
-use Rattle.cheri_model.specs.CapValue.{CapValue, valid, raw, IsLawfulValue}
-use Rattle.cheri_model.specs.Hart.{HartState, null}
-use Rattle.cheri_model.specs.HartStep.{Stepped, hart_step}
-use Rattle.cheri_model.specs.Image.{ImageParts, opening_hart, opening_memory}
-use Rattle.cheri_model.specs.Memory.{granule_number, granule_at, store_capability, IsMemory}
-use Rattle.cheri_model.specs.Machine.{MachineState, opening_state, state_after_one}
-use Rattle.cheri_model.specs.Replay.{state_after, replayed_state, operation_of, operations_of, IsReplay}
-use Rattle.cheri_model.specs.Authority.{IsGrantedValue, EachOfHart, EachOfState, IsLawfulState, IsConfined, IsConfinedTo, IsMonotone, alone, values_of_hart, values_of_image, values_in_hart, values_of_state}
+use Rattle.cap_model.specs.values.CapValue.{CapValue, valid, raw, IsLawfulValue}
+use Rattle.cheri_model.specs.steps.Hart.{HartState, null}
+use Rattle.cheri_model.specs.steps.HartStep.{Stepped, hart_step}
+use Rattle.cheri_model.specs.runs.Image.{ImageParts, opening_hart, opening_memory}
+use Rattle.cheri_model.specs.steps.Memory.{granule_number, granule_at, store_capability, IsMemory}
+use Rattle.cheri_model.specs.runs.Machine.{MachineState, opening_state, state_after_one}
+use Rattle.cheri_model.specs.runs.Replay.{state_after, replayed_state, operation_of, operations_of, IsReplay}
+use Rattle.cheri_model.specs.runs.Authority.{IsGrantedValue, EachOfHart, EachOfState, IsLawfulState, IsConfined, IsConfinedTo, IsMonotone, alone, values_of_hart, values_of_image, values_in_hart, values_of_state}
 use Rattle.cheri_model.proofs.Runs.Granted.{IsGood}
 use Rattle.cheri_model.proofs.Runs.Confined.{step_good, run_good}
 

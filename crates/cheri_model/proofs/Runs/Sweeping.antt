@@ -6,13 +6,14 @@ use Rattle.std.proofs.lemmas.Bool.{and_parts, false≢true, le-leb, lt-ltb, fals
 use Rattle.std.proofs.lemmas.Bool.Decides.{nat_tests}
 use Rattle.std.proofs.lemmas.List.Elements.{All-map, All-contains}
 use Rattle.cheri_model.specs.declared.operation.Op.{Op}
-use Rattle.cheri_model.specs.Capability.{Capability, word_of}
-use Rattle.cheri_model.specs.CapValue.{CapValue, valid, raw}
-use Rattle.cheri_model.specs.Image.{ImageParts}
-use Rattle.cheri_model.specs.Sweeps.{is_in_sweep, swept, swept_hart, swept_memory, reaches}
-use Rattle.cheri_model.specs.Machine.{MachineState, swept_state}
-use Rattle.cheri_model.specs.Replay.{state_after}
-use Rattle.cheri_model.specs.Authority.{IsGrantedValue, EachOfHart, EachOfState, IsLawfulState, values_of_state}
+use Rattle.cap_model.specs.values.Capability.{Capability, word_of}
+use Rattle.cap_model.specs.values.CapValue.{CapValue, valid, raw}
+use Rattle.cheri_model.specs.runs.Image.{ImageParts}
+use Rattle.cap_model.specs.results.Swept.{is_in_sweep, swept}
+use Rattle.cheri_model.specs.runs.Sweeps.{swept_hart, swept_memory, reaches}
+use Rattle.cheri_model.specs.runs.Machine.{MachineState, swept_state}
+use Rattle.cheri_model.specs.runs.Replay.{state_after}
+use Rattle.cheri_model.specs.runs.Authority.{IsGrantedValue, EachOfHart, EachOfState, IsLawfulState, values_of_state}
 use Rattle.cheri_model.proofs.Runs.RunsConfined.{later_confined, each_value}
 
 -- one value

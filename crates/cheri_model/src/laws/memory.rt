@@ -3,8 +3,8 @@
 
 ghost use Rattle.std.specs.Prelude.{◌≡◌, ◌≢◌, ℕ, ◌+◌, ◌*◌, ◌%◌, ◌^◌, ◌≤◌, List, false, IsTrue};
 ghost use Rattle.cheri_model.specs.declared.width.Width.{Width};
-ghost use Rattle.cheri_model.specs.CapValue.{CapValue, tag_of};
-ghost use Rattle.cheri_model.specs.Memory.{
+ghost use Rattle.cap_model.specs.values.CapValue.{CapValue, tag_of};
+ghost use Rattle.cheri_model.specs.steps.Memory.{
   bytes_of,
   granule_number,
   granule_at,

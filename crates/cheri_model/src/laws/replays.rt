@@ -1,13 +1,13 @@
 //! The laws of replays: what an order followed by another leaves, adds and is.
 
 ghost use Rattle.std.specs.Prelude.{◌≡◌, ℕ, List, ◌++◌, ◌&&◌, map, true};
-ghost use Rattle.cheri_model.specs.Image.{ImageParts};
+ghost use Rattle.cheri_model.specs.runs.Image.{ImageParts};
 ghost use Rattle.cheri_model.specs.declared.operation.Op.{Op};
 ghost use Rattle.cheri_model.specs.declared.operation.Op.TheVariants as operation;
 ghost use Rattle.cheri_model.specs.declared.operation.Event.TheVariants as event;
-ghost use Rattle.cheri_model.specs.Machine.{MachineState};
-ghost use Rattle.cheri_model.specs.Replay.{state_after, events_of, is_legal, IsBeginning};
-ghost use Rattle.cheri_model.specs.Replay.{state_after_steps, entries_of_steps};
+ghost use Rattle.cheri_model.specs.runs.Machine.{MachineState};
+ghost use Rattle.cheri_model.specs.runs.Replay.{state_after, events_of, is_legal, IsBeginning};
+ghost use Rattle.cheri_model.specs.runs.Replay.{state_after_steps, entries_of_steps};
 
 /// An order followed by another runs the second from where the first has ended: its state, its
 /// events, and whether it is legal.

@@ -5,19 +5,19 @@ ghost use Rattle.std.specs.Prelude.{◌≡◌, List, [], ◌∷◌, ◌++◌, tr
 ghost use Rattle.cheri_model.specs.declared.instr.Instr.{Instr};
 ghost use Rattle.cheri_model.specs.declared.operation.Event.{Event};
 ghost use Rattle.cheri_model.specs.declared.operation.Op.{Op};
-ghost use Rattle.cheri_model.specs.CapValue.{CapValue};
-ghost use Rattle.cheri_model.specs.Hart.{HartState};
-ghost use Rattle.cheri_model.specs.HartStep.{hart_step};
-ghost use Rattle.cheri_model.specs.Image.{ImageParts};
-ghost use Rattle.cheri_model.specs.Machine.{
+ghost use Rattle.cap_model.specs.values.CapValue.{CapValue};
+ghost use Rattle.cheri_model.specs.steps.Hart.{HartState};
+ghost use Rattle.cheri_model.specs.steps.HartStep.{hart_step};
+ghost use Rattle.cheri_model.specs.runs.Image.{ImageParts};
+ghost use Rattle.cheri_model.specs.runs.Machine.{
   MachineState,
   opening_state,
   may_take,
   event_of,
   state_after_one,
 };
-ghost use Rattle.cheri_model.specs.Replay.{IsReplay, replayed_state};
-ghost use Rattle.cheri_model.specs.Authority.{IsLawfulState, IsConfined, IsConfinedTo, alone};
+ghost use Rattle.cheri_model.specs.runs.Replay.{IsReplay, replayed_state};
+ghost use Rattle.cheri_model.specs.runs.Authority.{IsLawfulState, IsConfined, IsConfinedTo, alone};
 
 /// The empty trace with the image's opening state is a replay, and a legal operation makes a longer
 /// one.

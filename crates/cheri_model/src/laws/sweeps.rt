@@ -3,13 +3,14 @@
 
 ghost use Rattle.std.specs.Prelude.{◌≡◌, ℕ, ◌<◌, ◌≤◌, List, false};
 ghost use Rattle.cheri_model.specs.declared.operation.Op.{Op};
-ghost use Rattle.cheri_model.specs.Capability.{Capability, word_of};
-ghost use Rattle.cheri_model.specs.CapValue.{CapValue, valid, raw};
-ghost use Rattle.cheri_model.specs.Image.{ImageParts};
-ghost use Rattle.cheri_model.specs.Sweeps.{is_in_sweep, swept, reaches};
-ghost use Rattle.cheri_model.specs.Machine.{MachineState, swept_state};
-ghost use Rattle.cheri_model.specs.Replay.{state_after};
-ghost use Rattle.cheri_model.specs.Authority.{EachOfState, IsLawfulState};
+ghost use Rattle.cap_model.specs.values.Capability.{Capability, word_of};
+ghost use Rattle.cap_model.specs.values.CapValue.{CapValue, valid, raw};
+ghost use Rattle.cheri_model.specs.runs.Image.{ImageParts};
+ghost use Rattle.cap_model.specs.results.Swept.{is_in_sweep, swept};
+ghost use Rattle.cheri_model.specs.runs.Sweeps.{reaches};
+ghost use Rattle.cheri_model.specs.runs.Machine.{MachineState, swept_state};
+ghost use Rattle.cheri_model.specs.runs.Replay.{state_after};
+ghost use Rattle.cheri_model.specs.runs.Authority.{EachOfState, IsLawfulState};
 
 /// A sweep replaces a capability whose base lies in its range by its word without a tag, and no
 /// other value.

@@ -1,8 +1,8 @@
 //! The instructions with an immediate or a shift amount.
 
 ghost use Rattle.std.specs.Prelude.{◌≡◌};
-ghost use Rattle.cheri_model.specs.Actions.{action};
-ghost use Rattle.cheri_model.specs.Form.{
+ghost use Rattle.cheri_model.specs.steps.Actions.{action};
+ghost use Rattle.cheri_model.specs.instructions.Form.{
   immediate_instr,
   shift_instr,
   upper_instr,

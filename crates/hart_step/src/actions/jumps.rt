@@ -1,8 +1,8 @@
 //! The branches and CInvoke, and the addresses of targets.
 
 ghost use Rattle.std.specs.Prelude.{◌≡◌};
-ghost use Rattle.cheri_model.specs.Actions.{action, address_of_target};
-ghost use Rattle.cheri_model.specs.Form.{branch_instr};
+ghost use Rattle.cheri_model.specs.steps.Actions.{action, address_of_target};
+ghost use Rattle.cheri_model.specs.instructions.Form.{branch_instr};
 ghost use Rattle.cheri_model.specs.declared.instr.Instr.TheVariants.{CInvoke};
 ghost use Rattle.hart_step.specs.Actions.{asks};
 
@@ -14,7 +14,7 @@ use cheri_model::form::BranchOp;
 use cheri_model::{CODE_BASE, INSTRUCTION_BYTES, Reg, Target};
 
 /// The address of an instruction.
-#[tactic(auto, unfolding(cheri_model::specs::Actions::address_of_target))]
+#[tactic(auto, unfolding(cheri_model::specs::steps::Actions::address_of_target))]
 pub fn address_of_target(target: Target) -> u64
     ensures { result ≡ address_of_target target }
 {
@@ -42,7 +42,7 @@ pub fn branch_action(op: BranchOp, c1: Reg, c2: Reg, target: Target, hart: &Hart
 }
 
 /// What CInvoke asks for.
-#[tactic(auto, unfolding(cheri_model::specs::Actions::action))]
+#[tactic(auto, unfolding(cheri_model::specs::steps::Actions::action))]
 pub fn invoke_action(c1: Reg, c2: Reg, hart: &Hart) -> Action
     ensures { asks result ≡ action (CInvoke c1 c2) hart.now }
 {

@@ -1,8 +1,8 @@
 //! The loads and stores, and CJALR, which has a load's operands.
 
 ghost use Rattle.std.specs.Prelude.{◌≡◌};
-ghost use Rattle.cheri_model.specs.Actions.{action, even};
-ghost use Rattle.cheri_model.specs.Form.{load_instr, store_instr};
+ghost use Rattle.cheri_model.specs.steps.Actions.{action, even};
+ghost use Rattle.cheri_model.specs.instructions.Form.{load_instr, store_instr};
 ghost use Rattle.cheri_model.specs.declared.instr.Instr.TheVariants.{AmoSwapC};
 ghost use Rattle.hart_step.specs.Actions.{asks};
 
@@ -75,7 +75,7 @@ pub fn store_action(op: StoreOp, c2: Reg, c1: Reg, imm: i16, hart: &Hart) -> Act
 }
 
 /// What AMOSWAP.C asks for.
-#[tactic(auto, unfolding(cheri_model::specs::Actions::action))]
+#[tactic(auto, unfolding(cheri_model::specs::steps::Actions::action))]
 pub fn swap_action(cd: Reg, c2: Reg, c1: Reg, hart: &Hart) -> Action
     ensures { asks result ≡ action (AmoSwapC cd c2 c1) hart.now }
 {

@@ -1,10 +1,10 @@
 //! The instructions on two and three registers.
 
 ghost use Rattle.std.specs.Prelude.{◌≡◌, ◌%◌, ◌^◌};
-ghost use Rattle.cheri_model.specs.Actions.{action, Put};
-ghost use Rattle.cheri_model.specs.Form.{three_instr, two_instr};
-ghost use Rattle.cheri_model.specs.Hart.{word_of_integer};
-ghost use Rattle.cheri_model.specs.Readings.{number_of};
+ghost use Rattle.cheri_model.specs.steps.Actions.{action, Put};
+ghost use Rattle.cheri_model.specs.instructions.Form.{three_instr, two_instr};
+ghost use Rattle.cheri_model.specs.steps.Hart.{word_of_integer};
+ghost use Rattle.cap_model.specs.results.Readings.{number_of};
 ghost use Rattle.hart_step.specs.Actions.{asks};
 
 use crate::actions::Action;

@@ -1,7 +1,7 @@
 //! The check of an access to memory through a capability.
 
 ghost use Rattle.std.specs.Prelude.{◌≡◌, ◌+◌, ◌<◌, ◌&&◌, not, OnOk, IsTrue};
-ghost use Rattle.cheri_model.specs.Checks.{
+ghost use Rattle.cheri_model.specs.steps.Checks.{
   access_table,
   first_failing,
   is_global,
@@ -11,7 +11,7 @@ ghost use Rattle.cheri_model.specs.Checks.{
   size_of,
   stores_capability,
 };
-ghost use Rattle.cheri_model.specs.Memory.{fits, is_in_ram};
+ghost use Rattle.cheri_model.specs.steps.Memory.{fits, is_in_ram};
 
 use crate::checks::{
     check, first_failing, lacks, outside, sealed, unaligned, untagged, without_needed,
@@ -77,7 +77,7 @@ fn in_ram(ram: &Ram, from: u64, bytes: u64) -> bool
 }
 
 /// The table of the checks of an access.
-#[tactic(auto, unfolding(cheri_model::specs::Checks::access_table))]
+#[tactic(auto, unfolding(cheri_model::specs::steps::Checks::access_table))]
 fn table_verdict(
     auth: Cap,
     reg: u8,

@@ -17,10 +17,10 @@ ghost use Rattle.std.specs.Prelude.{
   Ok,
   Err,
 };
-ghost use Rattle.cheri_model.specs.CapValue.{parts_of};
-ghost use Rattle.cheri_model.specs.Checks.{first_failing, fetch_table, is_in_code};
-ghost use Rattle.cheri_model.specs.HartStep.{instruction_at};
-ghost use Rattle.cheri_model.specs.Results.{address_of, in_bounds, is_open};
+ghost use Rattle.cap_model.specs.values.CapValue.{parts_of};
+ghost use Rattle.cheri_model.specs.steps.Checks.{first_failing, fetch_table, is_in_code};
+ghost use Rattle.cheri_model.specs.steps.HartStep.{instruction_at};
+ghost use Rattle.cap_model.specs.results.Addresses.{address_of, in_bounds, is_open};
 
 use crate::checks::{check, first_failing, outside, sealed, unaligned, untagged, without};
 use cap_ops::Cap;
@@ -35,7 +35,7 @@ fn is_in_code(count: usize, addr: u64) -> bool
 }
 
 /// The first check of a fetch that fails, in a program of `count` instructions.
-#[tactic(auto, unfolding(cheri_model::specs::Checks::fetch_table))]
+#[tactic(auto, unfolding(cheri_model::specs::steps::Checks::fetch_table))]
 fn fetch_check(pcc: Cap, count: usize) -> Result<(), Trap>
     ensures { result ≡ first_failing (fetch_table pcc count) }
 {
@@ -60,7 +60,7 @@ fn instruction(program: &[Instr], number: usize) -> Instr
 
 /// The instruction at PCC, or the trap of the first check of its fetch that fails. After a fetch
 /// PCC is open and has the instruction in its bounds.
-#[tactic(auto, unfolding(cheri_model::specs::HartStep::instruction_at))]
+#[tactic(auto, unfolding(cheri_model::specs::steps::HartStep::instruction_at))]
 pub fn fetch(program: &[Instr], pcc: Cap) -> Result<Instr, Trap>
     ensures fetched { OnOk result (first_failing (fetch_table pcc (length program.now)) ≡ Ok tt) }
     ensures open { OnOk result (is_open pcc ≡ true) }

@@ -2,9 +2,9 @@
 //! what becomes PCC.
 
 ghost use Rattle.std.specs.Prelude.{◌≡◌, ◌&&◌, ◌||◌, not, OnOk, true};
-ghost use Rattle.cheri_model.specs.Capability.{unsealed_type, sentry_type};
-ghost use Rattle.cheri_model.specs.CapValue.{parts_of, tag_of};
-ghost use Rattle.cheri_model.specs.Checks.{
+ghost use Rattle.cap_model.specs.values.Capability.{unsealed_type, sentry_type};
+ghost use Rattle.cap_model.specs.values.CapValue.{parts_of, tag_of};
+ghost use Rattle.cheri_model.specs.steps.Checks.{
   check_line,
   first_failing,
   has_type,
@@ -12,15 +12,15 @@ ghost use Rattle.cheri_model.specs.Checks.{
   jump_table,
   target_table,
 };
-ghost use Rattle.cheri_model.specs.Results.{has_permission, in_bounds};
-ghost use Rattle.cheri_model.specs.SealResults.{is_sealable};
+ghost use Rattle.cap_model.specs.results.Addresses.{has_permission, in_bounds};
+ghost use Rattle.cap_model.specs.results.Seals.{is_sealable};
 
 use crate::checks::{Line, check, first_failing, outside, unaligned, untagged, without};
 use cap_ops::Cap;
 use cheri_model::permission::{CINVOKE, EXECUTE};
 use cheri_model::{INSTRUCTION_BYTES, LAST_SEALABLE_TYPE, SENTRY_TYPE, Trap, UNSEALED_TYPE};
 
-#[tactic(auto, unfolding(cheri_model::specs::Checks::target_table))]
+#[tactic(auto, unfolding(cheri_model::specs::steps::Checks::target_table))]
 fn target_verdict(pcc: Cap, target: u64) -> Result<(), Trap>
     ensures { result ≡ first_failing (target_table pcc target) }
 {
@@ -45,7 +45,7 @@ fn may_enter(through: Cap, is_entry: bool) -> bool
     number == UNSEALED_TYPE || (number == SENTRY_TYPE && is_entry)
 }
 
-#[tactic(auto, unfolding(cheri_model::specs::Checks::jump_table))]
+#[tactic(auto, unfolding(cheri_model::specs::steps::Checks::jump_table))]
 fn jump_verdict(through: Cap, reg: u8, is_entry: bool, target: u64) -> Result<(), Trap>
     ensures { result ≡ first_failing (jump_table through reg is_entry target) }
 {
@@ -90,7 +90,7 @@ fn executable(cap: Cap, reg: u8) -> Line
     check(cap.has_permission(EXECUTE), Trap::EXECUTE, reg)
 }
 
-#[tactic(auto, unfolding(cheri_model::specs::Checks::invoke_table))]
+#[tactic(auto, unfolding(cheri_model::specs::steps::Checks::invoke_table))]
 fn invoke_verdict(code: Cap, c1: u8, data_cap: Cap, c2: u8, target: u64) -> Result<(), Trap>
     ensures { result ≡ first_failing (invoke_table code c1 data_cap c2 target) }
 {

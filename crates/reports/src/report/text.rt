@@ -6,7 +6,7 @@ ghost use Rattle.std.specs.Char.{digit_char};
 ghost use Rattle.reports.specs.ReportText.{hex_text, cause_text, outcome_text, status_text};
 ghost use Rattle.reports.specs.ReportText.{type_text, value_text, word_text, parts_text};
 ghost use Rattle.reports.specs.declared.report.text.TheConstants.{MOST_DIGITS};
-ghost use Rattle.cheri_model.specs.CapValue.{parts_of};
+ghost use Rattle.cap_model.specs.values.CapValue.{parts_of};
 
 use bitflags::Flags;
 use cap_ops::Cap;

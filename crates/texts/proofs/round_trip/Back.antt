@@ -1,6 +1,6 @@
 -- A text that is the canonical listing of an image reads back.
 use Rattle.std.proofs.Common.{◌≡◌, ℕ, List, sym, subst}
-use Rattle.cheri_model.specs.Image.{ImageParts}
+use Rattle.cheri_model.specs.runs.Image.{ImageParts}
 use Rattle.texts.specs.Canon.{canon}
 use Rattle.texts.specs.Listable.{ReadsBack}
 use Rattle.texts.proofs.round_trip.Listed.{meant_is_listable}

@@ -4,8 +4,8 @@ use Rattle.std.specs.Prelude.{codes, decimal, bytes_eq, if◌then◌else◌}
 use Rattle.std.proofs.lemmas.Bool.Decides.{nat_tests}
 use Rattle.std.proofs.lemmas.List.{append-nil}
 use Rattle.std.proofs.lemmas.Slice.Eq.{bytes_eq-Decides}
-use Rattle.cheri_model.specs.Capability.{Capability, IsLawful, IsLawfulType, unsealed_type, sentry_type, last_sealable_type}
-use Rattle.cheri_model.specs.CapValue.{valid}
+use Rattle.cap_model.specs.values.Capability.{Capability, IsLawful, IsLawfulType, unsealed_type, sentry_type, last_sealable_type}
+use Rattle.cap_model.specs.values.CapValue.{valid}
 use Rattle.cap_ops.proofs.MadeAgain.{made_again}
 use Rattle.grammar.specs.declared.fault.ListingFaultKind.TheVariants.{Operand}
 use Rattle.grammar.specs.declared.operands.TypeOperand.{TypeOperand}

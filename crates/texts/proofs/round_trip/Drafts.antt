@@ -9,19 +9,19 @@ use Rattle.std.proofs.lemmas.List.{length-replicate, get_or_past}
 use Rattle.std.proofs.lemmas.List.Elements.{All-replicate, All-push, All-set, All-get_or, recursion_from_All, All-from_recursion}
 use Rattle.cheri_model.specs.declared.instr.Instr.{Instr}
 use Rattle.cheri_model.specs.declared.image.HartImage.{HartImage}
-use Rattle.cheri_model.specs.Form.{form_of}
-use Rattle.cheri_model.specs.PermissionNames.{known_permissions}
-use Rattle.cheri_model.specs.Window.{is_in_window}
-use Rattle.cheri_model.specs.EditedWords.{with_rounded_fields}
-use Rattle.cheri_model.specs.Results.{is_exact}
-use Rattle.cheri_model.specs.Capability as capability
-use Rattle.cheri_model.specs.Capability.{IsLawful, IsLawfulType, unsealed_type}
-use Rattle.cheri_model.specs.CapValue.{CapValue, valid, raw, bits_of}
-use Rattle.cheri_model.specs.Memory.{is_ram_size, cleared_memory, granule_at, granule_number, granule_offset, store_data, store_capability, fits, is_in_ram}
-use Rattle.cheri_model.proofs.Results.PermissionSets.{dropped_bits_leave_set}
-use Rattle.cheri_model.proofs.Results.Values.{result_is_lawful}
-use Rattle.cheri_model.proofs.Results.AddressResults.{window_test}
-use Rattle.cheri_model.proofs.Words.WordsBack.{word_lt}
+use Rattle.cheri_model.specs.instructions.Form.{form_of}
+use Rattle.cap_model.specs.words.PermissionNames.{known_permissions}
+use Rattle.cap_model.specs.bounds.Window.{is_in_window}
+use Rattle.cap_model.specs.results.EditedWords.{with_rounded_fields}
+use Rattle.cap_model.specs.results.Addresses.{is_exact}
+use Rattle.cap_model.specs.values.Capability as capability
+use Rattle.cap_model.specs.values.Capability.{IsLawful, IsLawfulType, unsealed_type}
+use Rattle.cap_model.specs.values.CapValue.{CapValue, valid, raw, bits_of}
+use Rattle.cheri_model.specs.steps.Memory.{is_ram_size, cleared_memory, granule_at, granule_number, granule_offset, store_data, store_capability, fits, is_in_ram}
+use Rattle.cap_model.proofs.Results.PermissionSets.{dropped_bits_leave_set}
+use Rattle.cap_model.proofs.Results.Values.{result_is_lawful}
+use Rattle.cap_model.proofs.Results.AddressResults.{window_test}
+use Rattle.cap_model.proofs.Words.WordsBack.{word_lt}
 use Rattle.cheri_model.proofs.Runs.Granted.{with_bytes_below}
 use Rattle.cap_ops.specs.Making.{made, capability_with}
 use Rattle.cap_ops.specs.declared.making.MakeFault.{MakeFault}

@@ -4,8 +4,8 @@ use Rattle.std.specs.Prelude.{slice_set}
 use Rattle.std.proofs.Math.Nat.{div-eq_of_lt, mod-eq_of_lt, mul_assoc, add-mul, mul-le-mul_right}
 use Rattle.std.proofs.Math.Pow.{pow-add}
 use Rattle.std.proofs.lemmas.List.{get_or_at, set_at}
-use Rattle.cheri_model.specs.CapValue.{CapValue, raw}
-use Rattle.cheri_model.specs.Memory.{ram_base, granule_number, granule_offset, granule_at, with_bytes, store_data, store_capability}
+use Rattle.cap_model.specs.values.CapValue.{CapValue, raw}
+use Rattle.cheri_model.specs.steps.Memory.{ram_base, granule_number, granule_offset, granule_at, with_bytes, store_data, store_capability}
 use Rattle.listings.specs.Draft.{stored_bytes}
 use Rattle.texts.proofs.round_trip.Bytes.{AllBytes, le_value, granule_bytes, granule_are_bytes, granule_value}
 

@@ -16,10 +16,10 @@ use Rattle.cheri_model.specs.declared.form.UpperOp.TheVariants as upper_op
 use Rattle.cheri_model.specs.declared.form.LoadOp.TheVariants as load_op
 use Rattle.cheri_model.specs.declared.form.StoreOp.TheVariants as store_op
 use Rattle.cheri_model.specs.declared.form.BranchOp.TheVariants as branch_op
-use Rattle.cheri_model.specs.Form.{form_of, instr_of, three_instr, two_instr, immediate_instr, shift_instr, word_shift_instr, upper_instr, load_instr, store_instr, branch_instr}
-use Rattle.cheri_model.specs.CapValue.{CapValue, raw}
-use Rattle.cheri_model.specs.Memory.{ram_base}
-use Rattle.cheri_model.specs.Image.{ImageParts}
+use Rattle.cheri_model.specs.instructions.Form.{form_of, instr_of, three_instr, two_instr, immediate_instr, shift_instr, word_shift_instr, upper_instr, load_instr, store_instr, branch_instr}
+use Rattle.cap_model.specs.values.CapValue.{CapValue, raw}
+use Rattle.cheri_model.specs.steps.Memory.{ram_base}
+use Rattle.cheri_model.specs.runs.Image.{ImageParts}
 use Rattle.listings.specs.declared.fault.ListingFault.{ListingFault}
 use Rattle.grammar.specs.declared.fault.ListingFaultKind.{ListingFaultKind}
 use Rattle.grammar.specs.declared.fault.ListingFaultKind.TheVariants as kind

@@ -4,9 +4,9 @@ use Rattle.std.specs.Prelude.{codes, replicate}
 use Rattle.std.specs.List.{AllByRecursion}
 use Rattle.std.proofs.lemmas.Bool.Decides.{nat_tests}
 use Rattle.std.proofs.lemmas.List.{length-replicate}
-use Rattle.cheri_model.specs.Capability.{Capability, IsLawful}
-use Rattle.cheri_model.specs.CapValue.{CapValue, valid, raw}
-use Rattle.cheri_model.specs.Memory.{ram_base, is_in_ram, fits}
+use Rattle.cap_model.specs.values.Capability.{Capability, IsLawful}
+use Rattle.cap_model.specs.values.CapValue.{CapValue, valid, raw}
+use Rattle.cheri_model.specs.steps.Memory.{ram_base, is_in_ram, fits}
 use Rattle.grammar.specs.Tokens.{is_blank}
 use Rattle.listings.specs.Draft.{DraftParts, no_registers}
 use Rattle.listings.specs.Meaning.{listed_from}

@@ -9,10 +9,10 @@ use Rattle.std.proofs.lemmas.List.{append-nil}
 use Rattle.std.proofs.lemmas.List.Splits.{slice_split_at, slice_split_none}
 use Rattle.std.proofs.lemmas.Nat.Bits.{bit_at_and, bit_at_or, bit_at-zero, bit_at-lt, and_pow, same_from_bits}
 use Rattle.bitflags.specs.Sets.{find_row}
-use Rattle.cheri_model.specs.declared.perms.Perms.{Perms}
-use Rattle.cheri_model.specs.PermissionNames.{permission_table, all_permissions}
-use Rattle.cheri_model.specs.Capability.{IsPermissionSet}
-use Rattle.cheri_model.proofs.Results.PermissionSets.{set_drops_nothing}
+use Rattle.cap_model.specs.declared.perms.Perms.{Perms}
+use Rattle.cap_model.specs.words.PermissionNames.{permission_table, all_permissions}
+use Rattle.cap_model.specs.values.Capability.{IsPermissionSet}
+use Rattle.cap_model.proofs.Results.PermissionSets.{set_drops_nothing}
 use Rattle.grammar.specs.Tokens.{is_blank, is_filled}
 use Rattle.grammar.specs.Permissions.{permission_named, set_of, with_named, joined_names, permissions_of}
 use Rattle.texts.specs.Canon.{joined_text, perms_text}

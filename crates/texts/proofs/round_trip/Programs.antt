@@ -9,11 +9,11 @@ use Rattle.std.proofs.lemmas.Bool.{cases_lt}
 use Rattle.std.proofs.Common.{inl, inr}
 use Rattle.cheri_model.specs.declared.instr.Instr.{Instr}
 use Rattle.cheri_model.specs.declared.image.HartImage.{HartImage}
-use Rattle.cheri_model.specs.Form.{form_of, instr_of}
+use Rattle.cheri_model.specs.instructions.Form.{form_of, instr_of}
 use Rattle.cheri_model.proofs.Runs.Instructions.{instr_of-form_of}
-use Rattle.cheri_model.specs.Capability as capability
-use Rattle.cheri_model.specs.Capability.{IsLawful, unsealed_type}
-use Rattle.cheri_model.specs.CapValue.{CapValue, valid, raw}
+use Rattle.cap_model.specs.values.Capability as capability
+use Rattle.cap_model.specs.values.Capability.{IsLawful, unsealed_type}
+use Rattle.cap_model.specs.values.CapValue.{CapValue, valid, raw}
 use Rattle.grammar.specs.declared.mnemonics.Mnemonic.{Mnemonic}
 use Rattle.grammar.specs.Tokens.{is_blank, token_at}
 use Rattle.grammar.specs.Mnemonics.{is_instruction}

@@ -5,10 +5,10 @@ use Rattle.std.specs.List.{AllByRecursion}
 use Rattle.std.proofs.lemmas.Bool.Decides.{nat_tests}
 use Rattle.std.proofs.lemmas.List.{get_or_at, set_at, get_or-set_other}
 use Rattle.cheri_model.specs.declared.image.HartImage.{HartImage}
-use Rattle.cheri_model.specs.Capability as capability
-use Rattle.cheri_model.specs.Capability.{IsLawful}
-use Rattle.cheri_model.specs.CapValue.{CapValue, valid, raw}
-use Rattle.cheri_model.specs.ImageForm.{is_listed}
+use Rattle.cap_model.specs.values.Capability as capability
+use Rattle.cap_model.specs.values.Capability.{IsLawful}
+use Rattle.cap_model.specs.values.CapValue.{CapValue, valid, raw}
+use Rattle.cheri_model.specs.runs.ImageForm.{is_listed}
 use Rattle.listings.specs.declared.draft.Setting.{Setting}
 use Rattle.listings.specs.declared.draft.Setting.TheVariants.{Word}
 use Rattle.grammar.specs.Tokens.{is_blank}

@@ -3,11 +3,11 @@ use Rattle.std.proofs.Common.{◌≡◌, ℕ, ◌-◌, ◌^◌, ◌<◌, ◌==�
 use Rattle.std.specs.Prelude.{codes, decimal, slice_index_or, slice_set}
 use Rattle.std.proofs.lemmas.Bool.Decides.{nat_tests}
 use Rattle.cheri_model.specs.declared.form.Form.{Form}
-use Rattle.cheri_model.specs.Form.{instr_of}
-use Rattle.cheri_model.specs.Capability.{IsLawful, unsealed_type, sentry_type}
-use Rattle.cheri_model.specs.Capability as capability
-use Rattle.cheri_model.specs.CapValue.{CapValue, valid}
-use Rattle.cheri_model.specs.Memory.{cleared_memory, is_ram_size, is_in_ram, fits, store_capability}
+use Rattle.cheri_model.specs.instructions.Form.{instr_of}
+use Rattle.cap_model.specs.values.Capability.{IsLawful, unsealed_type, sentry_type}
+use Rattle.cap_model.specs.values.Capability as capability
+use Rattle.cap_model.specs.values.CapValue.{CapValue, valid}
+use Rattle.cheri_model.specs.steps.Memory.{cleared_memory, is_ram_size, is_in_ram, fits, store_capability}
 use Rattle.grammar.specs.declared.directives.Directive.TheVariants as directive
 use Rattle.grammar.specs.declared.operands.TypeOperand.TheVariants.{Unsealed}
 use Rattle.listings.specs.declared.draft.Setting.{Setting}

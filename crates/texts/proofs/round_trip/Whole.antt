@@ -3,9 +3,9 @@ use Rattle.std.proofs.Common.{◌≡◌, ℕ, ◌+◌, ◌*◌, ◌/◌, ◌^◌
 use Rattle.std.specs.Prelude.{codes, decimal, replicate}
 use Rattle.std.proofs.lemmas.Bool.Decides.{nat_tests}
 use Rattle.std.proofs.lemmas.List.{append-nil}
-use Rattle.cheri_model.specs.CapValue.{raw}
-use Rattle.cheri_model.specs.Memory.{ram_base, cleared_memory, is_ram_size}
-use Rattle.cheri_model.specs.Image.{ImageParts}
+use Rattle.cap_model.specs.values.CapValue.{raw}
+use Rattle.cheri_model.specs.steps.Memory.{ram_base, cleared_memory, is_ram_size}
+use Rattle.cheri_model.specs.runs.Image.{ImageParts}
 use Rattle.grammar.specs.Tokens.{is_blank, tokens_of}
 use Rattle.grammar.specs.Lines.{lines_of}
 use Rattle.grammar.specs.Labels.{PlaceParts, places_of, instruction_lines}

@@ -1,7 +1,7 @@
 -- In either branch the exponent of the widened range is the rounding's, so its ends are the rounding's too.
 use Rattle.std.proofs.Common.{◌≡◌, ◌+◌, ◌-◌, ◌^◌, ◌<◌, ◌≤◌, ◌∙◌, arith}
 use Rattle.std.proofs.lemmas.Nat.{one_shl}
-use Rattle.cheri_model.specs.Numbers.{round_down, round_up}
+use Rattle.cap_model.specs.bounds.Numbers.{round_down, round_up}
 use Rattle.cap_bounds.proofs.RoundedParts.{tight_exponent, next_exponent, widened_base, widened_top}
 use Rattle.cap_bounds.proofs.rounding.round_long.Goals as goal
 

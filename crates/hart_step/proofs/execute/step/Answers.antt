@@ -1,6 +1,6 @@
 use Rattle.std.proofs.Common.{arith}
 use Rattle.std.proofs.lemmas.Grind.{common_steps}
-use Rattle.cheri_model.specs.HartStep.{hart_step, trapped}
+use Rattle.cheri_model.specs.steps.HartStep.{hart_step, trapped}
 use Rattle.cheri_model.proofs.Runs.RunsConfined.{left_confined}
 use Rattle.hart_step.proofs.execute.step.Goals as goal
 

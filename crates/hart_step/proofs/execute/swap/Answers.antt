@@ -1,6 +1,6 @@
 use Rattle.std.proofs.Common.{arith}
 use Rattle.std.proofs.lemmas.Grind.{common_steps}
-use Rattle.cheri_model.specs.HartStep.{execute, permitted}
+use Rattle.cheri_model.specs.steps.HartStep.{execute, permitted}
 use Rattle.hart_step.proofs.execute.swap.Goals as goal
 
 pub returns-in-Ok : goal.returns-in-Ok

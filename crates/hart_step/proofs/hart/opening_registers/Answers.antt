@@ -2,8 +2,8 @@
 use Rattle.std.proofs.Common.{◌∷◌, replicate, refl, arith, lit<}
 use Rattle.std.proofs.lemmas.List.{same_lists}
 use Rattle.std.proofs.lemmas.List.Elements.{All-replicate}
-use Rattle.cheri_model.specs.CapValue.{IsLawfulValue}
-use Rattle.cheri_model.specs.Hart.{null}
+use Rattle.cap_model.specs.values.CapValue.{IsLawfulValue}
+use Rattle.cheri_model.specs.steps.Hart.{null}
 use Rattle.hart_step.proofs.OpenedHarts.{same_first}
 use Rattle.hart_step.proofs.hart.opening_registers.Goals as goal
 

@@ -1,8 +1,8 @@
 -- the registers so far are those of the image behind c0
 use Rattle.std.proofs.Common.{◌≡◌, ℕ, ◌+◌, ◌<◌, ◌∷◌, length, get_or}
 use Rattle.std.specs.Prelude.{All}
-use Rattle.cheri_model.specs.CapValue.{CapValue, IsLawfulValue}
-use Rattle.cheri_model.specs.Hart.{null}
+use Rattle.cap_model.specs.values.CapValue.{CapValue, IsLawfulValue}
+use Rattle.cheri_model.specs.steps.Hart.{null}
 use Rattle.hart_step.proofs.hart.opening_registers.Given as goal
 
 abbrev pub invariant-loop-i : goal.invariant-loop-i

@@ -1,7 +1,7 @@
 use Rattle.std.proofs.Common.{arith, ap, sym, ◌∙◌}
 use Rattle.std.proofs.lemmas.List.Edits.{map_over_more}
-use Rattle.cheri_model.specs.Readings.{number_of}
-use Rattle.cheri_model.specs.Sweeps.{is_in_sweep, swept}
+use Rattle.cap_model.specs.results.Readings.{number_of}
+use Rattle.cap_model.specs.results.Swept.{is_in_sweep, swept}
 use Rattle.hart_step.proofs.SweptHarts.{register_ahead, register_more}
 use Rattle.hart_step.proofs.hart.sweep_registers.Goals as goal
 

@@ -1,7 +1,7 @@
 -- the registers so far are swept, and the tags that this cleared are counted
 use Rattle.std.proofs.Common.{◌≡◌, ◌++◌, map, take, drop}
 use Rattle.std.specs.Prelude.{count_by}
-use Rattle.cheri_model.specs.Sweeps.{is_in_sweep, swept}
+use Rattle.cap_model.specs.results.Swept.{is_in_sweep, swept}
 use Rattle.hart_step.proofs.hart.sweep_registers.Given as goal
 
 abbrev pub invariant-loop-value : goal.invariant-loop-value

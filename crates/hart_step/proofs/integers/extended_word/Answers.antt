@@ -1,6 +1,6 @@
 use Rattle.std.proofs.Common.{arith}
 use Rattle.std.proofs.lemmas.Grind.{common_steps}
-use Rattle.cheri_model.specs.Integers.{extended_word}
+use Rattle.cheri_model.specs.instructions.Integers.{extended_word}
 use Rattle.hart_step.proofs.integers.extended_word.Goals as goal
 
 pub returns : goal.returns

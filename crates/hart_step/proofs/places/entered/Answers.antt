@@ -1,7 +1,7 @@
 -- A jump goes through a tagged capability, which unsealed is open with the same bounds.
 use Rattle.std.proofs.Common.{true, sym, subst}
-use Rattle.cheri_model.specs.CapValue.{CapValue}
-use Rattle.cheri_model.specs.Results.{is_open, in_bounds}
+use Rattle.cap_model.specs.values.CapValue.{CapValue}
+use Rattle.cap_model.specs.results.Addresses.{is_open, in_bounds}
 use Rattle.cheri_model.proofs.Runs.Advances.{unsealed_is_open, in_bounds-unsealed}
 use Rattle.hart_step.proofs.places.entered.Goals as goal
 

@@ -1,6 +1,6 @@
 -- PCC keeps its tag four bytes on, so what CSetAddr gives is PCC with that address.
 use Rattle.std.proofs.Common.{◌≡◌, ◌+◌, ◌%◌, ◌^◌, ap, ◌∙◌}
-use Rattle.cheri_model.specs.Results.{set_address}
+use Rattle.cap_model.specs.results.Addresses.{set_address}
 use Rattle.cheri_model.proofs.Runs.Advances.{following_is}
 use Rattle.hart_step.proofs.places.following.Goals as goal
 

@@ -1,6 +1,6 @@
 use Rattle.std.proofs.Common.{arith}
 use Rattle.std.proofs.lemmas.Grind.{common_steps}
-use Rattle.cheri_model.specs.Hart.{link}
+use Rattle.cheri_model.specs.steps.Hart.{link}
 use Rattle.hart_step.proofs.places.link.Goals as goal
 
 pub returns : goal.returns

@@ -1,5 +1,5 @@
 use Rattle.std.proofs.Common.{◌<◌, ◌≤◌, ◌∙◌, length, arith}
-use Rattle.cheri_model.specs.Memory.{granule_at}
+use Rattle.cheri_model.specs.steps.Memory.{granule_at}
 use Rattle.listings.proofs.GranuleLemmas.{listed_step, listed_end}
 use Rattle.listings.proofs.granules.listed_granules.Goals as goal
 

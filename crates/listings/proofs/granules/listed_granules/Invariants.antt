@@ -1,5 +1,5 @@
 use Rattle.std.proofs.Common.{◌≡◌, ◌+◌, ◌*◌, ◌++◌, drop}
-use Rattle.cheri_model.specs.Memory.{ram_base}
+use Rattle.cheri_model.specs.steps.Memory.{ram_base}
 use Rattle.listings.specs.Meaning.{listed_from}
 use Rattle.listings.proofs.granules.listed_granules.Given as goal
 

@@ -1,6 +1,6 @@
 -- What the step leaves and answers is the definition's.
 use Rattle.std.proofs.Common.{sym, ap, ◌∙◌}
-use Rattle.cheri_model.specs.Results.{address_of}
+use Rattle.cap_model.specs.results.Addresses.{address_of}
 use Rattle.machine.proofs.cores.step_hart.Goals as goal
 
 pub returns : goal.returns

@@ -1,7 +1,7 @@
 -- The share that is drawn counts its hart's entries, and so does its ledger, which was empty.
 use Rattle.std.proofs.Common.{◌≡◌, ◌+◌, ap, ◌∙◌, arith}
 use Rattle.std.specs.Prelude.{slice_index, slice_set}
-use Rattle.cheri_model.specs.Replay.{step_count}
+use Rattle.cheri_model.specs.runs.Replay.{step_count}
 use Rattle.machine.specs.Shares.{ShareParts}
 use Rattle.machine.proofs.machines.draw_share.Goals as goal
 

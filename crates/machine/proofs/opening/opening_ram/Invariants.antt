@@ -1,7 +1,7 @@
 -- the granules so far are stored, and memory keeps its size
 use Rattle.std.proofs.Common.{◌≡◌, ◌*◌, length, take}
 use Rattle.std.specs.Prelude.{fold}
-use Rattle.cheri_model.specs.Memory.{cleared_memory, store_capability}
+use Rattle.cheri_model.specs.steps.Memory.{cleared_memory, store_capability}
 use Rattle.machine.proofs.opening.opening_ram.Given as goal
 
 abbrev pub invariant-loop-addr : goal.invariant-loop-addr

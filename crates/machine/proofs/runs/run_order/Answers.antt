@@ -2,7 +2,7 @@
 use Rattle.std.proofs.Common.{ap, ◌∙◌}
 use Rattle.std.specs.Prelude.{None}
 use Rattle.cheri_model.specs.declared.operation.Op.TheVariants as operation
-use Rattle.cheri_model.specs.Replay.{operations_of}
+use Rattle.cheri_model.specs.runs.Replay.{operations_of}
 use Rattle.machine.specs.Cores.{CoreParts, core_after}
 use Rattle.machine.proofs.RunLemmas.{taken_more, run_of, whole_order}
 use Rattle.machine.proofs.runs.run_order.Goals as goal

@@ -1,6 +1,6 @@
 -- the order so far was taken, by the machine of the image
 use Rattle.std.proofs.Common.{◌≡◌, take}
-use Rattle.cheri_model.specs.Replay.{operations_of}
+use Rattle.cheri_model.specs.runs.Replay.{operations_of}
 use Rattle.machine.specs.Cores.{IsCore}
 use Rattle.machine.proofs.runs.run_order.Given as goal
 

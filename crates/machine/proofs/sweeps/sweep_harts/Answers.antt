@@ -2,7 +2,7 @@
 use Rattle.std.proofs.Common.{arith, ap, sym, ◌∙◌}
 use Rattle.std.proofs.lemmas.List.Edits.{map_over_more}
 use Rattle.std.proofs.lemmas.List.Sums.{sum_by_more}
-use Rattle.cheri_model.specs.Sweeps.{swept_hart, cleared_in_hart}
+use Rattle.cheri_model.specs.runs.Sweeps.{swept_hart, cleared_in_hart}
 use Rattle.machine.proofs.SweepLemmas.{hart_ahead}
 use Rattle.machine.proofs.sweeps.sweep_harts.Goals as goal
 

@@ -1,6 +1,6 @@
 -- the harts so far are swept and their tags counted, and the others are as they were
 use Rattle.std.proofs.Common.{◌≡◌, ◌≤◌, ◌*◌, ◌++◌, map, take, drop, sum_by}
-use Rattle.cheri_model.specs.Sweeps.{swept_hart, cleared_in_hart}
+use Rattle.cheri_model.specs.runs.Sweeps.{swept_hart, cleared_in_hart}
 use Rattle.machine.proofs.sweeps.sweep_harts.Given as goal
 
 abbrev pub invariant-loop-hart : goal.invariant-loop-hart

@@ -1,5 +1,5 @@
 use Rattle.std.proofs.Common.{◌<◌, ◌≤◌, length, arith}
-use Rattle.cheri_model.specs.Memory.{granule_at}
+use Rattle.cheri_model.specs.steps.Memory.{granule_at}
 use Rattle.serde_json.proofs.Views.{view-Object}
 use Rattle.reports.proofs.JsonLemmas.{granule_put, granules_end}
 use Rattle.reports.proofs.json.granules_json.Goals as goal

@@ -1,5 +1,5 @@
 use Rattle.std.proofs.Common.{◌<◌, ◌≤◌, length, arith, ◌∙◌}
-use Rattle.cheri_model.specs.Memory.{granule_at}
+use Rattle.cheri_model.specs.steps.Memory.{granule_at}
 use Rattle.reports.proofs.SinkLemmas.{no_failure}
 use Rattle.reports.proofs.ReportParts.{item_takes, item_stops, items_end}
 use Rattle.reports.specs.Report.{granule_line}

@@ -1,4 +1,4 @@
-use Rattle.cheri_model.specs.PermissionNames.{permission_table}
+use Rattle.cap_model.specs.words.PermissionNames.{permission_table}
 use Rattle.texts.proofs.WriterLemmas.{name_step, name_end}
 use Rattle.texts.proofs.writer.write_names.Goals as goal
 

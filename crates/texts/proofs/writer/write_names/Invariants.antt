@@ -1,6 +1,6 @@
 -- The names so far, followed by those of the other permissions, are those of all.
 use Rattle.std.proofs.Common.{◌≡◌, ◌++◌, false, map, drop, string_bytes}
-use Rattle.cheri_model.specs.PermissionNames.{permission_table}
+use Rattle.cap_model.specs.words.PermissionNames.{permission_table}
 use Rattle.texts.specs.Canon.{joined_text}
 use Rattle.texts.proofs.writer.write_names.Given as goal
 

@@ -1,5 +1,5 @@
 use Rattle.std.proofs.Common.{◌≡◌, Ok, Err, sym, ◌∙◌}
-use Rattle.cheri_model.specs.FieldResults.{set_flags}
+use Rattle.cap_model.specs.results.Fields.{set_flags}
 use Rattle.cap_ops.proofs.BuiltAgain.{not_built, not_made, built}
 use Rattle.cap_ops.proofs.cap.Cap.build.Goals as goal
 

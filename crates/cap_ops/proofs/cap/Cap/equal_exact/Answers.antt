@@ -1,6 +1,6 @@
 use Rattle.std.proofs.Common.{arith}
 use Rattle.std.proofs.lemmas.Grind.{common_steps}
-use Rattle.cheri_model.specs.Readings.{is_equal_exact}
+use Rattle.cap_model.specs.results.Readings.{is_equal_exact}
 use Rattle.cap_ops.proofs.cap.Cap.equal_exact.Goals as goal
 
 pub returns-then-not-same_tag : goal.returns-then-not-same_tag

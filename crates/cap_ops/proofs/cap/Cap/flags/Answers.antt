@@ -1,6 +1,6 @@
 use Rattle.std.proofs.Common.{arith}
 use Rattle.std.proofs.lemmas.Grind.{common_steps}
-use Rattle.cheri_model.specs.Capability.{capability_at}
+use Rattle.cap_model.specs.values.Capability.{capability_at}
 use Rattle.cap_ops.proofs.cap.Cap.flags.Goals as goal
 
 pub returns : goal.returns

@@ -1,5 +1,5 @@
 use Rattle.std.proofs.Common.{◌≡◌, true, ◌∙◌, sym, arith}
-use Rattle.cheri_model.specs.Results.{is_open}
+use Rattle.cap_model.specs.results.Addresses.{is_open}
 use Rattle.cap_ops.proofs.Exactness.{keeps_tag_test}
 use Rattle.cap_ops.proofs.Unpacking.{keeps_tag_inside}
 use Rattle.cap_ops.proofs.cap.Cap.keeps_tag_at.Goals as goal

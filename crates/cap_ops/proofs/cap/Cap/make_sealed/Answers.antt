@@ -1,8 +1,8 @@
 use Rattle.std.proofs.Common.{◌≡◌, ◌+◌, ◌^◌, ◌≤◌, true, arith, ap, sym, ◌∙◌, Ok}
 use Rattle.std.proofs.lemmas.Bool.{false≢true}
-use Rattle.cheri_model.specs.PermissionNames.{known_permissions}
-use Rattle.cheri_model.specs.Results.{is_exact}
-use Rattle.cheri_model.proofs.Results.PermissionSets.{dropped_bits_leave_set}
+use Rattle.cap_model.specs.words.PermissionNames.{known_permissions}
+use Rattle.cap_model.specs.results.Addresses.{is_exact}
+use Rattle.cap_model.proofs.Results.PermissionSets.{dropped_bits_leave_set}
 use Rattle.cap_ops.proofs.Makings.{makeable, made_window, made_result, made-past_end, made-inexact, made-unrepresentable, made-ok}
 use Rattle.cap_ops.proofs.cap.Cap.make_sealed.Goals as goal
 

@@ -1,6 +1,6 @@
 use Rattle.std.proofs.Common.{arith}
 use Rattle.std.proofs.lemmas.Grind.{common_steps}
-use Rattle.cheri_model.specs.Readings.{offset_of}
+use Rattle.cap_model.specs.results.Readings.{offset_of}
 use Rattle.cap_ops.proofs.cap.Cap.offset.Goals as goal
 
 pub returns : goal.returns

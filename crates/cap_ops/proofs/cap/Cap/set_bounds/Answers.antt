@@ -1,6 +1,6 @@
 use Rattle.std.proofs.Common.{arith, ◌∙◌}
-use Rattle.cheri_model.proofs.Results.AddressResults.{set_bounds-result}
-use Rattle.cheri_model.specs.Results.{address_of}
+use Rattle.cap_model.proofs.Results.AddressResults.{set_bounds-result}
+use Rattle.cap_model.specs.results.Addresses.{address_of}
 use Rattle.cap_ops.proofs.Made.{rounded_word, made_tagged, made_value}
 use Rattle.cap_ops.proofs.cap.Cap.set_bounds.Goals as goal
 

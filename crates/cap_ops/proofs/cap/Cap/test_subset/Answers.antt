@@ -1,6 +1,6 @@
 use Rattle.std.proofs.Common.{arith}
 use Rattle.std.proofs.lemmas.Grind.{common_steps}
-use Rattle.cheri_model.specs.Readings.{is_subset}
+use Rattle.cap_model.specs.results.Readings.{is_subset}
 use Rattle.cap_ops.proofs.cap.Cap.test_subset.Goals as goal
 
 pub returns-then-not-same_tag : goal.returns-then-not-same_tag

@@ -1,5 +1,5 @@
 use Rattle.std.proofs.Common.{◌∙◌}
-use Rattle.cheri_model.proofs.Results.FieldResultsMade.{unseal-result}
+use Rattle.cap_model.proofs.Results.FieldResultsMade.{unseal-result}
 use Rattle.cap_ops.proofs.Made.{upper_word, made_tagged, made_value}
 use Rattle.cap_ops.proofs.cap.Cap.unseal.Goals as goal
 

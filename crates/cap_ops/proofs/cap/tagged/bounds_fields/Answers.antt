@@ -1,5 +1,5 @@
 use Rattle.std.proofs.Common.{arith, ◌/◌, ◌%◌}
-use Rattle.cheri_model.specs.Capability.{b_field, t_field}
+use Rattle.cap_model.specs.values.Capability.{b_field, t_field}
 use Rattle.cap_ops.proofs.Encodings.{part_at_most}
 use Rattle.cap_ops.proofs.cap.tagged.bounds_fields.Goals as goal
 

@@ -1,6 +1,6 @@
 -- The granule of the store has a word without a tag.
 use Rattle.std.proofs.Common.{ap}
-use Rattle.cheri_model.specs.CapValue.{tag_of}
+use Rattle.cap_model.specs.values.CapValue.{tag_of}
 use Rattle.cheri_model.proofs.Granules.LoadsAfterStores.{granule_at-store_data, granule_at-store_data_other}
 use Rattle.cheri_model.proofs.laws.memory.data_stores_clear_one_tag.Goals as goal
 

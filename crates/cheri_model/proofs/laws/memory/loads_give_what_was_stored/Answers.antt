@@ -1,6 +1,6 @@
 -- A load looks at one granule, and there at the bytes stored or at others.
 use Rattle.std.proofs.Common.{◌≡◌, ℕ, ◌%◌, ◌*◌, ◌/◌, ◌^◌, ◌∙◌, arith, refl}
-use Rattle.cheri_model.specs.Memory.{bytes_of, bytes_at}
+use Rattle.cheri_model.specs.steps.Memory.{bytes_of, bytes_at}
 use Rattle.cheri_model.proofs.Granules.LoadsAfterStores.{load_data-store_data, load_data-store_data_above, load_data-store_data_below}
 use Rattle.cheri_model.proofs.laws.memory.loads_give_what_was_stored.Goals as goal
 

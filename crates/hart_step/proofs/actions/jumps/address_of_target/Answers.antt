@@ -1,6 +1,6 @@
 use Rattle.std.proofs.Common.{arith}
 use Rattle.std.proofs.lemmas.Grind.{common_steps}
-use Rattle.cheri_model.specs.Actions.{address_of_target}
+use Rattle.cheri_model.specs.steps.Actions.{address_of_target}
 use Rattle.hart_step.proofs.actions.jumps.address_of_target.Goals as goal
 
 pub returns : goal.returns

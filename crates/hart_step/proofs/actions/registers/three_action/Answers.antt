@@ -1,7 +1,7 @@
 use Rattle.std.proofs.Common.{arith}
 use Rattle.std.proofs.lemmas.Grind.{common_steps}
-use Rattle.cheri_model.specs.Actions.{action}
-use Rattle.cheri_model.specs.Form.{three_instr}
+use Rattle.cheri_model.specs.steps.Actions.{action}
+use Rattle.cheri_model.specs.instructions.Form.{three_instr}
 use Rattle.hart_step.proofs.actions.registers.three_action.Goals as goal
 
 pub returns-in-Slt : goal.returns-in-Slt

@@ -1,10 +1,10 @@
 -- The code's table is the definition's, line by line.
 use Rattle.std.proofs.Common.{◌≡◌, ℕ, ◌%◌, ◌==◌, Bool, ◌&&◌, not, refl, ap, ◌∙◌}
-use Rattle.cheri_model.specs.declared.permission.TheConstants as permission
+use Rattle.cap_model.specs.declared.permission.TheConstants as permission
 use Rattle.cheri_model.specs.declared.trace.TheConstants.Trap as cause
-use Rattle.cheri_model.specs.Checks.{access_table, check_line, first_failing}
-use Rattle.cheri_model.specs.Memory.{is_in_ram}
-use Rattle.cheri_model.specs.Results.{has_permission, in_bounds}
+use Rattle.cheri_model.specs.steps.Checks.{access_table, check_line, first_failing}
+use Rattle.cheri_model.specs.steps.Memory.{is_in_ram}
+use Rattle.cap_model.specs.results.Addresses.{has_permission, in_bounds}
 use Rattle.hart_step.proofs.Verdicts.{cons_same}
 use Rattle.hart_step.proofs.checks.access.table_verdict.Goals as goal
 

@@ -1,6 +1,6 @@
 -- A fetch that passed its check found PCC at an instruction, so its number is in the program.
 use Rattle.std.proofs.Common.{length, refl, sym, arith}
-use Rattle.cheri_model.specs.Results.{address_of}
+use Rattle.cap_model.specs.results.Addresses.{address_of}
 use Rattle.cheri_model.proofs.Runs.Fetches.{fetched_is, from_code}
 use Rattle.hart_step.proofs.checks.fetch.fetch.Goals as goal
 

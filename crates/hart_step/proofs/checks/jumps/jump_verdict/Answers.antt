@@ -1,6 +1,6 @@
 use Rattle.std.proofs.Common.{arith}
 use Rattle.std.proofs.lemmas.Grind.{common_steps}
-use Rattle.cheri_model.specs.Checks.{jump_table}
+use Rattle.cheri_model.specs.steps.Checks.{jump_table}
 use Rattle.hart_step.proofs.checks.jumps.jump_verdict.Goals as goal
 
 pub returns : goal.returns

@@ -1,6 +1,6 @@
 use Rattle.std.proofs.Common.{arith}
 use Rattle.std.proofs.lemmas.Grind.{common_steps}
-use Rattle.cheri_model.specs.Hart.{put}
+use Rattle.cheri_model.specs.steps.Hart.{put}
 use Rattle.hart_step.proofs.hart.Hart.put.Goals as goal
 
 pub returns-then-number-ne0-clause-value : goal.returns-then-number-ne0-clause-value

@@ -1,6 +1,6 @@
 use Rattle.std.proofs.Common.{arith}
 use Rattle.std.proofs.lemmas.Grind.{common_steps}
-use Rattle.cheri_model.specs.Hart.{register}
+use Rattle.cheri_model.specs.steps.Hart.{register}
 use Rattle.hart_step.proofs.hart.Hart.register.Goals as goal
 
 pub returns-clause-value : goal.returns-clause-value

@@ -1,6 +1,6 @@
 use Rattle.std.proofs.Common.{ap, arith, length, sym, ◌∙◌}
-use Rattle.cheri_model.specs.Hart.{HartState}
-use Rattle.cheri_model.specs.Sweeps.{swept_hart}
+use Rattle.cheri_model.specs.steps.Hart.{HartState}
+use Rattle.cheri_model.specs.runs.Sweeps.{swept_hart}
 use Rattle.hart_step.proofs.SweptHarts.{hart_swept, hart_counted, hart_few}
 use Rattle.hart_step.proofs.hart.Hart.sweep.Goals as goal
 

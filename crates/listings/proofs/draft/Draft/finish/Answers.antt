@@ -1,7 +1,7 @@
 use Rattle.std.proofs.Common.{◌≡◌, ◌==◌, ◌∙◌, false, length, sym, subst, ap, arith}
 use Rattle.std.specs.Prelude.{ok_or}
 use Rattle.std.proofs.lemmas.Bool.Decides.{nat_tests}
-use Rattle.cheri_model.specs.Memory.{IsMemory}
+use Rattle.cheri_model.specs.steps.Memory.{IsMemory}
 use Rattle.tagged_mem.proofs.PackedRam.{IsMemory-unpacked}
 use Rattle.grammar.specs.declared.fault.ListingFaultKind.TheVariants.{Size}
 use Rattle.listings.specs.Meaning.{whole_fault}

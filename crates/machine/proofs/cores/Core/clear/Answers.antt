@@ -2,7 +2,7 @@
 use Rattle.std.proofs.Common.{◌+◌, length, map, ap, ◌∙◌, arith}
 use Rattle.std.specs.Prelude.{sum_by}
 use Rattle.std.proofs.lemmas.List.{with_items_is}
-use Rattle.cheri_model.specs.Sweeps.{swept_hart, cleared_in_hart}
+use Rattle.cheri_model.specs.runs.Sweeps.{swept_hart, cleared_in_hart}
 use Rattle.machine.proofs.CoreLemmas.{can_sweep, cleared_core}
 use Rattle.machine.proofs.SweepLemmas.{granules_cleared, harts_are_few}
 use Rattle.machine.proofs.cores.Core.clear.Goals as goal

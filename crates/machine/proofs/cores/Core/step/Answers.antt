@@ -2,7 +2,7 @@
 use Rattle.std.proofs.Common.{sym, ap, ◌∙◌}
 use Rattle.std.specs.Prelude.{Ok}
 use Rattle.cheri_model.specs.declared.operation.Op.TheVariants as operation
-use Rattle.cheri_model.specs.Machine.{entry_of}
+use Rattle.cheri_model.specs.runs.Machine.{entry_of}
 use Rattle.machine.specs.Cores.{answered_step, applied, core_after, unless_refused, unless_kept}
 use Rattle.machine.proofs.CoreLemmas.{core_confined, core_monotone}
 use Rattle.machine.proofs.cores.Core.step.Goals as goal

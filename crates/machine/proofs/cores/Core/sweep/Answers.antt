@@ -2,7 +2,7 @@
 use Rattle.std.proofs.Common.{sym, ap, ◌∙◌}
 use Rattle.std.specs.Prelude.{Ok}
 use Rattle.cheri_model.specs.declared.operation.Op.TheVariants as operation
-use Rattle.cheri_model.specs.Machine.{event_of}
+use Rattle.cheri_model.specs.runs.Machine.{event_of}
 use Rattle.machine.specs.Cores.{answered, applied, core_after, unless_refused, unless_kept}
 use Rattle.machine.proofs.CoreLemmas.{core_confined, core_monotone}
 use Rattle.machine.proofs.SweepLemmas.{none_left, state_swept}

@@ -1,7 +1,7 @@
 -- The share at this place has counted the entries of its hart.
 use Rattle.std.proofs.Common.{rules, ◌≡◌, ℕ, ◌<◌, List, length, sym, ap, subst, ◌∙◌}
 use Rattle.std.specs.Prelude.{slice_index, slice_set}
-use Rattle.cheri_model.specs.Replay.{step_count}
+use Rattle.cheri_model.specs.runs.Replay.{step_count}
 use Rattle.machine.specs.Shares.{ShareParts}
 use Rattle.machine.proofs.ShareLemmas.{audited_more, set_read}
 use Rattle.machine.proofs.machines.Machine.audited.Goals as goal

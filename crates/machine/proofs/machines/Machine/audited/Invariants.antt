@@ -1,7 +1,7 @@
 -- the shares so far have counted the entries of their harts
 use Rattle.std.proofs.Common.{◌≡◌, ℕ, ◌<◌}
 use Rattle.std.specs.Prelude.{slice_index_or}
-use Rattle.cheri_model.specs.Replay.{step_count}
+use Rattle.cheri_model.specs.runs.Replay.{step_count}
 use Rattle.machine.specs.Shares.{ShareParts}
 use Rattle.machine.proofs.machines.Machine.audited.Given as goal
 

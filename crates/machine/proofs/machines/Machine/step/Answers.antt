@@ -1,9 +1,9 @@
 -- A step that is taken is counted for its hart, and a share's hart is one of the machine's.
 use Rattle.std.proofs.Common.{◌≡◌, refl, sym, ap, length, ◌∙◌}
 use Rattle.std.specs.Prelude.{None}
-use Rattle.cheri_model.specs.Image.{ImageParts}
+use Rattle.cheri_model.specs.runs.Image.{ImageParts}
 use Rattle.cheri_model.specs.declared.operation.Op.TheVariants as operation
-use Rattle.cheri_model.specs.Machine.{entry_of}
+use Rattle.cheri_model.specs.runs.Machine.{entry_of}
 use Rattle.machine.specs.Cores.{CoreParts, applied, core_after, refused}
 use Rattle.machine.proofs.CoreLemmas.{hart_is_there}
 use Rattle.machine.proofs.CopyLemmas.{applied_after, ends_with_step, refused_for_another, refused_step_answered, taken_step_answered}

@@ -3,7 +3,7 @@ use Rattle.std.proofs.Common.{◌≡◌, sym, ap, ◌∙◌}
 use Rattle.std.specs.Prelude.{None}
 use Rattle.cheri_model.specs.declared.operation.Op.TheVariants as operation
 use Rattle.cheri_model.specs.declared.operation.Event.TheVariants as event
-use Rattle.cheri_model.specs.Machine.{cleared}
+use Rattle.cheri_model.specs.runs.Machine.{cleared}
 use Rattle.machine.specs.Cores.{CoreParts, applied, core_after, refused}
 use Rattle.machine.proofs.CopyLemmas.{after_some, applied_after, refused_answered, refused_for_another, taken_answered}
 use Rattle.machine.proofs.ShareLemmas.{counted_still}

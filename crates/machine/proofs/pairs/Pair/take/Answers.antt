@@ -2,7 +2,7 @@
 use Rattle.std.proofs.Common.{[], ◌∷◌, ◌++◌, List, ◌≡◌, sym, ap, ◌∙◌, drop, fold}
 use Rattle.std.specs.Prelude.{None}
 use Rattle.cheri_model.specs.declared.operation.Op.{Op}
-use Rattle.cheri_model.specs.Replay.{operations_of}
+use Rattle.cheri_model.specs.runs.Replay.{operations_of}
 use Rattle.machine.specs.Copies.{shown_after}
 use Rattle.machine.specs.Cores.{CoreParts, core_after, refused}
 use Rattle.machine.specs.Names.{order_named}

@@ -2,7 +2,7 @@
 use Rattle.std.proofs.Common.{◌≡◌, ◌∷◌, [], ◌++◌, List, sym, ap, ◌∙◌}
 use Rattle.std.specs.Prelude.{None}
 use Rattle.cheri_model.specs.declared.operation.Op.{Op}
-use Rattle.cheri_model.specs.Replay.{operations_of}
+use Rattle.cheri_model.specs.runs.Replay.{operations_of}
 use Rattle.machine.specs.Cores.{CoreParts, core_after, refused}
 use Rattle.machine.specs.Stages.{core_at}
 use Rattle.machine.proofs.CoreLemmas.{operations_after}

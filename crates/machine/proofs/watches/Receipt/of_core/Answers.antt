@@ -1,6 +1,6 @@
 -- All of a core's order gives its trace.
 use Rattle.std.proofs.Common.{length, sym, ap, ◌∙◌}
-use Rattle.cheri_model.specs.Replay.{replayed_events}
+use Rattle.cheri_model.specs.runs.Replay.{replayed_events}
 use Rattle.machine.proofs.CopyLemmas.{length-operations_of, trace_of_core}
 use Rattle.machine.proofs.watches.Receipt.of_core.Goals as goal
 

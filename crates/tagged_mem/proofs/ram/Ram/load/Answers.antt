@@ -1,5 +1,5 @@
 use Rattle.std.proofs.Common.{◌≡◌, length, rules, arith}
-use Rattle.cheri_model.specs.Memory.{granule_number, load_data}
+use Rattle.cheri_model.specs.steps.Memory.{granule_number, load_data}
 use Rattle.tagged_mem.proofs.PackedRam.{below_is, place_is, data_inside, granule_inside, data_loaded}
 use Rattle.tagged_mem.proofs.ram.Ram.load.Goals as goal
 

@@ -1,6 +1,6 @@
 use Rattle.std.proofs.Common.{arith}
 use Rattle.std.proofs.lemmas.Grind.{common_steps}
-use Rattle.cheri_model.specs.Memory.{load_capability}
+use Rattle.cheri_model.specs.steps.Memory.{load_capability}
 use Rattle.tagged_mem.proofs.ram.Ram.load_cap.Goals as goal
 
 pub returns-clause-value : goal.returns-clause-value

@@ -1,5 +1,5 @@
 use Rattle.std.proofs.Common.{◌≡◌, length, rules, arith}
-use Rattle.cheri_model.specs.Memory.{granule_number, store_data}
+use Rattle.cheri_model.specs.steps.Memory.{granule_number, store_data}
 use Rattle.tagged_mem.proofs.PackedBytes.{length-with_number}
 use Rattle.tagged_mem.proofs.PackedRam.{place_is, kept_whole, data_packed, data_stored, below_is, data_inside, granule_inside}
 use Rattle.tagged_mem.proofs.ram.Ram.store.Goals as goal

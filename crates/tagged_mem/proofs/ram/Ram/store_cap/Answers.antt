@@ -1,5 +1,5 @@
 use Rattle.std.proofs.Common.{◌≡◌, ◌-◌, ◌*◌, length, rules, arith, ◌∙◌}
-use Rattle.cheri_model.specs.Memory.{granule_number, store_capability}
+use Rattle.cheri_model.specs.steps.Memory.{granule_number, store_capability}
 use Rattle.tagged_mem.proofs.PackedBytes.{length-with_number}
 use Rattle.tagged_mem.proofs.PackedRam.{kept_whole, capability_packed, capability_stored, below_is, granule_aligned, granule_inside}
 use Rattle.tagged_mem.proofs.ram.Ram.store_cap.Goals as goal

@@ -1,5 +1,0 @@
-use Rattle.cheri_model.proofs.Results.Derivations.{result_derived}
-use Rattle.cheri_model.proofs.laws.results.results_are_derived.Goals as goal
-
-pub returns : goal.returns
-returns c = result_derived

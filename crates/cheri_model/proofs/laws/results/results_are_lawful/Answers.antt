@@ -1,5 +1,0 @@
-use Rattle.cheri_model.proofs.Results.Derivations.{result_lawful}
-use Rattle.cheri_model.proofs.laws.results.results_are_lawful.Goals as goal
-
-pub returns : goal.returns
-returns c = result_lawful

@@ -1,6 +1,0 @@
--- By the round trip.
-use Rattle.cheri_model.proofs.Words.WordsBack.{same_from_word}
-use Rattle.cheri_model.proofs.laws.words.lawful_words_differ.Goals as goal
-
-pub returns : goal.returns
-returns c = same_from_word

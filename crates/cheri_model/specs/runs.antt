@@ -1,0 +1,8 @@
+-- Runs: images, machines, replays, sweeps and authority.
+pub mod Image
+pub mod ImageForm
+pub mod SameImages
+pub mod Sweeps
+pub mod Machine
+pub mod Replay
+pub mod Authority
