@@ -36,6 +36,7 @@ use crate::fault::ListingFaultKind;
 use crate::numerals::{at_most, number_of_digits};
 use crate::tokens::first_token;
 use cheri_model::Target;
+use cheri_model::names::is_instruction;
 use std::alloc::{AllocError, AllocFailed, Global};
 use std::collections::HashMap;
 
