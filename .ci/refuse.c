@@ -47,15 +47,18 @@ static int is_refused(const char *call) {
     return 1;
 }
 
-__attribute__((destructor)) static void end(void) {
+// The programs end by this call, after they have given all back.
+void _exit(int status) {
     const char *left = getenv("LEFT");
     char text[32];
-    if (left == NULL)
-        return;
-    int file = (int)syscall(SYS_openat, AT_FDCWD, left, O_CREAT | O_WRONLY | O_TRUNC, 0666);
-    int size = snprintf(text, sizeof text, "%ld\n", atomic_load(&blocks));
-    syscall(SYS_write, file, text, size);
-    syscall(SYS_close, file);
+    if (left != NULL) {
+        int file = (int)syscall(SYS_openat, AT_FDCWD, left, O_CREAT | O_WRONLY | O_TRUNC, 0666);
+        int size = snprintf(text, sizeof text, "%ld\n", atomic_load(&blocks));
+        syscall(SYS_write, file, text, size);
+        syscall(SYS_close, file);
+    }
+    for (;;)
+        syscall(SYS_exit_group, status);
 }
 
 static void *no_memory(void) {
