@@ -186,7 +186,8 @@ fn refused_simulate(rt: HostRuntime) -> Result<(), Fail> {
 fn is_out_of_memory(fault: SimFault) -> bool {
     match fault {
         SimFault::Listing(fault) => fault.kind.number() == LISTING_NO_MEMORY,
-        SimFault::Order(fault) => fault.kind == OrderFaultKind::NoMemory,
+        // a simulation reads its order without memory
+        SimFault::Order(_) => false,
         SimFault::Boot(fault) => fault == BootFault::NoMemory,
         SimFault::Report(ReportFault::Write | ReportFault::NoMemory) => true,
     }

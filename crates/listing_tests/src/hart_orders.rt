@@ -3,7 +3,8 @@
 mod lengths;
 mod sweeps;
 
-use orders::read_order;
+use cheri_model::Op;
+use orders::{judge_order, read_order};
 use std::alloc::Global;
 use std::test::Fail;
 
@@ -37,6 +38,18 @@ fn orders_and_their_faults(rt: HostRuntime) -> Result<(), Fail> {
         let got = answer(rt.alloc(), text)?;
         assert_eq!(rt; got.as_str(), want);
     }
+    Ok(())
+}
+
+/// The operations of a judged order come one by one, past its blanks, and then none.
+#[test]
+fn judged_orders_are_read_one_by_one(rt: HostRuntime) -> Result<(), Fail> {
+    let mut order = judge_order(b"order 2\n 3\n[1,0x2] 0 \n").ok().ok_or("a good order")?;
+    for want in [Op::Step(3), Op::Sweep { lo: 1, hi: 2 }, Op::Step(0)] {
+        assert!(rt; order.next() == Some(want));
+    }
+    assert!(rt; order.next() == None);
+    assert!(rt; order.next() == None);
     Ok(())
 }
 
