@@ -129,10 +129,10 @@ fn lines(report: &[u8], from: usize, count: usize) -> Option<&str> {
     let mut end = 0;
     for (number, line) in text.split_inclusive('\n').enumerate() {
         if number < from {
-            start += line.len();
+            start = line.len().saturating_add(start);
         }
         if number < from + count {
-            end += line.len();
+            end = line.len().saturating_add(end);
         }
     }
     text.get(start..end)
@@ -211,11 +211,14 @@ fn swept<J: Naming, R: Wait + Abort>(
     Ok(())
 }
 
+/// Sweeps a new machine of the first listing.
+fn sweep_a_machine(rt: &(impl Wait + Abort), alloc: Global, is_watched: bool) -> Result<(), Fail> {
+    let core = first_core(rt, alloc, 3);
+    swept::<Brand, _>(rt, alloc, core, Blanks::new(), is_watched)
+}
+
 #[test]
 fn machines_are_swept_watched_or_not(rt: HostRuntime) -> Result<(), Fail> {
-    for is_watched in [false, true] {
-        let core = first_core(&rt, rt.alloc(), 3);
-        swept::<Brand, _>(&rt, rt.alloc(), core, Blanks::new(), is_watched)?;
-    }
-    Ok(())
+    sweep_a_machine(&rt, rt.alloc(), false)?;
+    sweep_a_machine(&rt, rt.alloc(), true)
 }
