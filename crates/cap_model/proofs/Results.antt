@@ -5,3 +5,4 @@ pub mod AddressResults
 pub mod FieldResultsMade
 pub mod Rebuildings
 pub mod Derivations
+pub mod ReasonTables

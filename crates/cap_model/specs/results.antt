@@ -8,3 +8,4 @@ pub mod Rebuilt
 pub mod Swept
 pub mod CapInstructions
 pub mod Derivation
+pub mod Reasons

@@ -44,7 +44,9 @@ fn orders_and_their_faults(rt: HostRuntime) -> Result<(), Fail> {
 /// The operations of a judged order come one by one, past its blanks, and then none.
 #[test]
 fn judged_orders_are_read_one_by_one(rt: HostRuntime) -> Result<(), Fail> {
-    let mut order = judge_order(b"order 2\n 3\n[1,0x2] 0 \n").ok().ok_or("a good order")?;
+    let mut order = judge_order(b"order 2\n 3\n[1,0x2] 0 \n")
+        .ok()
+        .ok_or("a good order")?;
     for want in [Op::Step(3), Op::Sweep { lo: 1, hi: 2 }, Op::Step(0)] {
         assert!(rt; order.next() == Some(want));
     }

@@ -1,11 +1,13 @@
 //! Laws on the results of capability instructions, said once for all of them.
 
-ghost use Rattle.std.specs.Prelude.{◌≡◌, true};
+ghost use Rattle.std.specs.Prelude.{◌≡◌, Bool, Contains, List, Some, true};
+ghost use Rattle.cap_model.specs.declared.reason.Reason.{Reason};
 ghost use Rattle.cap_model.specs.results.Derivation.{IsWithin};
 ghost use Rattle.cap_model.specs.values.Capability.{Capability, IsLawful, unsealed_type};
 ghost use Rattle.cap_model.specs.values.CapValue.{CapValue, valid, tag_of, parts_of, IsLawfulValue};
 ghost use Rattle.cap_model.specs.results.CapInstructions.{CapInstruction, capability_result};
 ghost use Rattle.cap_model.specs.results.Derivation.{IsDerived};
+ghost use Rattle.cap_model.specs.results.Reasons.{first_reason, no_reason, reasons};
 ghost use Rattle.cap_model.specs.results.Rebuilt.{build};
 ghost use Rattle.cap_model.specs.results.Addresses.{is_open, clear_tag};
 
@@ -22,6 +24,18 @@ pub fn results_are_derived()
     ensures { (i : CapInstruction) (v w : CapValue) → IsLawfulValue v →
         tag_of (capability_result i v w) ≡ true →
         IsDerived (capability_result i v w) v w }
+{}
+
+/// A result is tagged exactly where no line of its instruction's table of reasons holds.
+pub fn tags_are_kept_without_reasons()
+    ensures { (i : CapInstruction) (v w : CapValue) → IsLawfulValue v →
+        tag_of (capability_result i v w) ≡ no_reason (reasons i v w) }
+{}
+
+/// The reason that a table tells is that of a line which holds.
+pub fn told_reasons_hold()
+    ensures { (table : List (Bool × Reason)) (reason : Reason) →
+        first_reason table ≡ Some reason → Contains table (true, reason) }
 {}
 
 /// An unsealed capability within an open authority is rebuilt under it from its word, which needs
