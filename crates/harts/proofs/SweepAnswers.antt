@@ -15,7 +15,7 @@ use Rattle.machine.specs.Cores.{CoreParts, answered, refused, unless_refused}
 abbrev Answer : Type 0
 Answer = Result Event StepFault
 
-pub records_sweep : (lo hi count : ℕ) (result : Answer) → IfOk result (λ e. e ≡ event.Sweep lo hi count) →
+pub records_sweep : (lo hi count : ℕ) (result : Answer) → IfOk result (λ e. e ≡ event.Sweep count lo hi) →
     IfOk result (λ e. operation_of e ≡ operation.Sweep lo hi)
 records_sweep lo hi count (Ok e) is = ap operation_of is
 records_sweep lo hi count (Err fault) is = is

@@ -186,12 +186,12 @@ pub cleared_core : (core seen : CoreParts) (lo hi count : ℕ) (harts : List Har
     core ≡ seen → IsCore core → refused seen (operation.Sweep lo hi) ≡ None →
     harts ≡ map (swept_hart lo hi) core.state.harts → memory ≡ swept_memory lo hi core.state.memory →
     count ≡ sum_by (cleared_in_hart lo hi) core.state.harts + cleared_in_memory lo hi core.state.memory →
-    Cleared core seen lo hi (event.Sweep lo hi count) harts memory
+    Cleared core seen lo hi (event.Sweep count lo hi) harts memory
 unfolding core_after event_of state_after_one swept_state cleared
 cleared_core core seen lo hi count harts memory view is none of_harts of_memory counted =
     let can = can_sweep core seen lo hi view none in
-    let added : event.Sweep lo hi count ≡ event_of core.image core.state (operation.Sweep lo hi) = ap (event.Sweep lo hi) counted in
-    let left : parts_of_core core.image core.limit (core.trace ++ event.Sweep lo hi count ∷ []) harts memory ≡ core_after core (operation.Sweep lo hi) =
+    let added : event.Sweep count lo hi ≡ event_of core.image core.state (operation.Sweep lo hi) = ap (λ n. event.Sweep n lo hi) counted in
+    let left : parts_of_core core.image core.limit (core.trace ++ event.Sweep count lo hi ∷ []) harts memory ≡ core_after core (operation.Sweep lo hi) =
     (λ i. record {
       image = core.image;
       limit = core.limit;

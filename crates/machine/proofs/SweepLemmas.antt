@@ -39,7 +39,7 @@ granules_cleared lo hi memory = count_by-le-length (is_in_sweep lo hi) memory
 
 -- a core after a sweep that was not refused
 module _ (core after : CoreParts) (lo hi : ℕ) (is : after ≡ core_after core (operation.Sweep lo hi)) where
-  pub ends_with_sweep : after.trace ≡ core.trace ++ event.Sweep lo hi (cleared lo hi core.state) ∷ []
+  pub ends_with_sweep : after.trace ≡ core.trace ++ event.Sweep (cleared lo hi core.state) lo hi ∷ []
   unfolding core_after event_of
   ends_with_sweep = ap (λ (k : CoreParts). k.trace) is
 

@@ -123,7 +123,7 @@ outcome_no_float hart pc (outcome.Trap trap) = refl
 entry_no_float : (e : Event) → has_float (entry_data e) ≡ false
 unfolding entry_data
 entry_no_float (event.Step entry) = outcome_no_float entry.hart (hex_text 16 entry.pc) entry.outcome
-entry_no_float (event.Sweep lo hi cleared) = refl
+entry_no_float (event.Sweep cleared lo hi) = refl
 
 status_no_float : (pcc regs : Data) (s : Status) → has_float pcc ≡ false → has_float regs ≡ false
     → has_float (status_data pcc regs s) ≡ false

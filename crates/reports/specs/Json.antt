@@ -62,7 +62,7 @@ sweep_data lo hi cleared = object
 -- an event of the trace
 unfoldable pub entry_data : Event → Data
 entry_data (event.Step entry) = outcome_data (count entry.hart) (string (hex_text 16 entry.pc)) entry.outcome
-entry_data (event.Sweep lo hi cleared) = sweep_data (hex_text 16 lo) (hex_text 17 hi) cleared
+entry_data (event.Sweep cleared lo hi) = sweep_data (hex_text 16 lo) (hex_text 17 hi) cleared
 
 -- the members with one more, unless its value is an untagged 0
 abbrev pub put_listed : List ℕ → CapValue → Members → Members

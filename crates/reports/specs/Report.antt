@@ -25,7 +25,7 @@ numbered text number (item ∷ rest) = text number item ++ numbered text (number
 
 abbrev pub is_sweep : Event → Bool
 is_sweep (event.Step entry) = false
-is_sweep (event.Sweep lo hi cleared) = true
+is_sweep (event.Sweep cleared lo hi) = true
 
 -- the version of a report: 2 where the trace has a sweep
 unfoldable pub version_of : List Event → ℕ
@@ -54,7 +54,7 @@ unfoldable pub entry_line : ℕ → Event → List ℕ
 entry_line place (event.Step entry) =
     line (decimal place +++ codes " hart=" +++ decimal entry.hart +++ codes " pc=" +++ hex_text 16 entry.pc
     +++ codes " " +++ outcome_text entry.outcome)
-entry_line place (event.Sweep lo hi cleared) =
+entry_line place (event.Sweep cleared lo hi) =
     line (decimal place +++ codes " sweep lo=" +++ hex_text 16 lo +++ codes " hi=" +++ hex_text 17 hi
     +++ codes " cleared=" +++ decimal cleared)
 

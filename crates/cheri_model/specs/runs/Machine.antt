@@ -81,4 +81,4 @@ state_after_one image state (operation.Sweep lo hi) = swept_state lo hi state
 -- the event that an operation adds to the trace
 unfoldable pub event_of : ImageParts → MachineState → Op → Event
 event_of image state (operation.Step number) = event.Step (entry_of image state number)
-event_of image state (operation.Sweep lo hi) = event.Sweep lo hi (cleared lo hi state)
+event_of image state (operation.Sweep lo hi) = event.Sweep (cleared lo hi state) lo hi

@@ -48,7 +48,7 @@ entries_of_steps image state (number ∷ numbers) =
 -- the operation that an event records: a step of its hart, or a sweep of its range
 abbrev pub operation_of : Event → Op
 operation_of (event.Step entry) = operation.Step entry.hart
-operation_of (event.Sweep lo hi count) = operation.Sweep lo hi
+operation_of (event.Sweep count lo hi) = operation.Sweep lo hi
 
 -- the operations of a trace
 unfoldable pub operations_of : List Event → List Op
@@ -57,7 +57,7 @@ operations_of trace = map operation_of trace
 -- the step count of a hart: how many events of a trace are its own steps
 abbrev pub is_step_of : ℕ → Event → Bool
 is_step_of hart (event.Step entry) = entry.hart == hart
-is_step_of hart (event.Sweep lo hi count) = false
+is_step_of hart (event.Sweep count lo hi) = false
 
 unfoldable pub step_count : List Event → ℕ → ℕ
 step_count trace hart = count_by (is_step_of hart) trace

@@ -52,7 +52,7 @@ pub returns-clause-event : goal.returns-clause-event
 returns-clause-event g c =
     let core = c.args.self.now in
     let op = operation.Sweep c.args.lo c.args.hi in
-    c.newest.ensures core.trace (event.Sweep c.args.lo c.args.hi (cleared c.args.lo c.args.hi core.state))
+    c.newest.ensures core.trace (event.Sweep (cleared c.args.lo c.args.hi core.state) c.args.lo c.args.hi)
     (ends_with_sweep core c.core-2.result.now c.args.lo c.args.hi
     (c.core-2.ensures.core ∙ (c.in-Ok.ensures.ok ∙ ap (λ (k : CoreParts). core_after k op) c.self.view_is)))
 
