@@ -45,6 +45,7 @@ impl<'a> Model for JudgedOrder<'a> {
 
 impl<'a> JudgedOrder<'a> {
     /// The next operation, until none is left.
+    #[inline(always)]
     pub fn next(&mut self) -> Option<Op>
         ensures next { MatchOption result ((self.old ≡ []) × (self.new ≡ []))
             (λ operation. self.old ≡ operation ∷ self.new) }
@@ -62,7 +63,7 @@ impl<'a> JudgedOrder<'a> {
 }
 
 /// The token at a place of a text that is good from there on.
-#[inline]
+#[inline(always)]
 fn good_token(text: &[u8], place: usize) -> (Option<Op>, usize)
     requires inside { place < length text.now }
     requires good { IsOk (from_place text.now place) }

@@ -48,8 +48,9 @@ pub(crate) fn body_start(text: &[u8]) -> usize
     if is_version_2(text) { HEADER.len() } else { 0 }
 }
 
-/// The token at a place: the operation that it asks for, if any, and the place after it.
-#[inline]
+/// The token at a place: the operation that it asks for, if any, and the place after it. Inlined,
+/// since its answer has 80 bytes, which a call would write and its caller copy for each byte.
+#[inline(always)]
 pub(crate) fn token_at(text: &[u8], place: usize) -> Result<(Option<Op>, usize), OrderFault>
     requires { place < length text.now }
     ensures token { result ≡ token_at text.now place (slice_index text.now place) }
