@@ -139,7 +139,7 @@ impl Core {
     pub fn sweep(&mut self, lo: u64, hi: u128) -> Result<Event, StepFault>
         ensures answered { result ≡ answered self.old (Op.Sweep lo hi) }
         ensures event { IfOk result (λ event.
-            event ≡ Event.Sweep lo hi (cleared lo hi self.old.state)) }
+            event ≡ Event.Sweep (cleared lo hi self.old.state) lo hi) }
         ensures swept { OnOk result (self.new.state ≡ swept_state lo hi self.old.state) }
         ensures none_left { OnOk result
             (EachOfState (λ v. is_in_sweep lo hi v ≡ false) self.new.state) }

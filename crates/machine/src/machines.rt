@@ -109,7 +109,7 @@ impl<J: Naming> Machine<J> {
         ensures memory { result ≡ Err StepFault.NoMemory
             → refused self.old (Op.Sweep lo hi) ≡ None }
         ensures event { IfOk result (λ event.
-            event ≡ Event.Sweep lo hi (cleared lo hi self.old.state)) }
+            event ≡ Event.Sweep (cleared lo hi self.old.state) lo hi) }
         ensures swept { OnOk result (self.new.state ≡ swept_state lo hi self.old.state) }
         ensures none_left { OnOk result
             (EachOfState (λ v. is_in_sweep lo hi v ≡ false) self.new.state) }

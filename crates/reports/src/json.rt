@@ -74,7 +74,7 @@ fn step_json(alloc: Global, entry: &Entry) -> Result<Value, NoMemory>
 /// A sweep.
 #[tactic(auto, unfolding(crate::specs::Json::entry_data))]
 fn sweep_json(alloc: Global, lo: u64, hi: u128, cleared: u32) -> Result<Value, NoMemory>
-    ensures { IfOk result (λ v. data_of v ≡ entry_data (Event.Sweep lo hi cleared)) }
+    ensures { IfOk result (λ v. data_of v ≡ entry_data (Event.Sweep cleared lo hi)) }
 {
     let lo = HexWord(lo).to_string(alloc)?;
     let hi = Hex::of_top(hi).to_string(alloc)?;

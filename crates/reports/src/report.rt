@@ -99,7 +99,7 @@ fn write_sweep(
     cleared: u32,
 ) -> Result<(), NoMemory>
     ensures { OnOk result (string_bytes out.new
-        ≡ string_bytes out.old ++ entry_line place (Event.Sweep lo hi cleared)) }
+        ≡ string_bytes out.old ++ entry_line place (Event.Sweep cleared lo hi)) }
 {
     let (lo, hi) = (HexWord(lo), Hex::of_top(hi));
     writeln!(out, "{place} sweep lo={lo} hi={hi} cleared={cleared}")?;
