@@ -25,7 +25,8 @@ length-rows_of width numbers (suc n) =
     omega arith
 
 -- row i among the first n
-get_or-rows_of : (width : ℕ) (numbers : List ℕ) (n i : ℕ) → i < n → get_or (rows_of width numbers n) i [] ≡ row_at width numbers i
+get_or-rows_of : (width : ℕ) (numbers : List ℕ) (n i : ℕ) → i < n →
+    get_or (rows_of width numbers n) i [] ≡ row_at width numbers i
 unfolding rows_of
 get_or-rows_of width numbers zero i below = absurd (omega arith)
 get_or-rows_of width numbers (suc n) i below =
@@ -33,7 +34,8 @@ get_or-rows_of width numbers (suc n) i below =
     elim (cases_lt i n) [
       | inl before ↦
           let within : i < length (rows_of width numbers n) = omega arith in
-          get_or_append_left (rows_of width numbers n) (row_at width numbers n ∷ []) [] i within ∙ get_or-rows_of width numbers n i before
+          get_or_append_left (rows_of width numbers n) (row_at width numbers n ∷ []) [] i within
+              ∙ get_or-rows_of width numbers n i before
       | inr after ↦
           let last : i ≡ length (rows_of width numbers n) = omega arith in
           let same : i ≡ n = omega arith in
@@ -42,38 +44,46 @@ get_or-rows_of width numbers (suc n) i below =
           ∙ ap (row_at width numbers) (sym same)
     ]
 
-pub slice_get-rows_of : (width : ℕ) (numbers : List ℕ) (n i : ℕ) → i < n → slice_get (rows_of width numbers n) i ≡ Some (row_at width numbers i)
+pub slice_get-rows_of : (width : ℕ) (numbers : List ℕ) (n i : ℕ) → i < n →
+    slice_get (rows_of width numbers n) i ≡ Some (row_at width numbers i)
 slice_get-rows_of width numbers n i below =
     let within : i < length (rows_of width numbers n) = omega (arith, length-rows_of width numbers n) in
-    slice_get-get_or (rows_of width numbers n) i [] within ∙ ap (λ row. Some row) (get_or-rows_of width numbers n i below)
+    slice_get-get_or (rows_of width numbers n) i [] within ∙ ap (λ row. Some row)
+        (get_or-rows_of width numbers n i below)
 
 -- what is among the rows under a number is the row there
-pub row_number : (width : ℕ) (numbers : List ℕ) (n i : ℕ) (row : List ℕ) → slice_get (rows_of width numbers n) i ≡ Some row → i < n
+pub row_number : (width : ℕ) (numbers : List ℕ) (n i : ℕ) (row : List ℕ) →
+    slice_get (rows_of width numbers n) i ≡ Some row → i < n
 row_number width numbers n i row found =
     omega (arith, length-rows_of width numbers n, slice_get_within (rows_of width numbers n) i row found)
 
-pub row_found : (width : ℕ) (numbers : List ℕ) (n i : ℕ) (row : List ℕ) → slice_get (rows_of width numbers n) i ≡ Some row → row_at width numbers i ≡ row
+pub row_found : (width : ℕ) (numbers : List ℕ) (n i : ℕ) (row : List ℕ) →
+    slice_get (rows_of width numbers n) i ≡ Some row → row_at width numbers i ≡ row
 row_found width numbers n i row found =
     same_Some (row_at width numbers i) row
     (sym (slice_get-rows_of width numbers n i (row_number width numbers n i row found)) ∙ found)
 
 -- numbers after a row don't change it
-pub row_at-append : (width : ℕ) (numbers more : List ℕ) (i : ℕ) → (i + 1) * width ≤ length numbers → row_at width (numbers ++ more) i ≡ row_at width numbers i
+pub row_at-append : (width : ℕ) (numbers more : List ℕ) (i : ℕ) → (i + 1) * width ≤ length numbers →
+    row_at width (numbers ++ more) i ≡ row_at width numbers i
 row_at-append width numbers more i ends =
     let e = row_begins i width in
     let begins : i * width ≤ length numbers = omega arith in
     let left : width ≤ length (drop (i * width) numbers) = omega (arith, length-drop (i * width) numbers) in
-    ap (take width) (drop-append-le (i * width) numbers more begins) ∙ take-append-le width (drop (i * width) numbers) more left
+    ap (take width) (drop-append-le (i * width) numbers more begins)
+        ∙ take-append-le width (drop (i * width) numbers) more left
 
 -- the row that was added
-pub row_at-last : (width : ℕ) (numbers row : List ℕ) (n : ℕ) → length numbers ≡ n * width → length row ≡ width → row_at width (numbers ++ row) n ≡ row
+pub row_at-last : (width : ℕ) (numbers row : List ℕ) (n : ℕ) → length numbers ≡ n * width → length row ≡ width →
+    row_at width (numbers ++ row) n ≡ row
 row_at-last width numbers row n whole wide =
     ap (λ k. take width (drop k (numbers ++ row))) (sym whole)
     ∙ ap (take width) (drop-append_seam numbers row)
     ∙ ap (λ k. take k row) (sym wide)
     ∙ take-length row
 
-rows_of-append : (width : ℕ) (numbers more : List ℕ) (n : ℕ) → n * width ≤ length numbers → rows_of width (numbers ++ more) n ≡ rows_of width numbers n
+rows_of-append : (width : ℕ) (numbers more : List ℕ) (n : ℕ) → n * width ≤ length numbers →
+    rows_of width (numbers ++ more) n ≡ rows_of width numbers n
 unfolding rows_of
 rows_of-append width numbers more zero ends = refl
 rows_of-append width numbers more (suc n) ends =
@@ -90,13 +100,16 @@ pub rows_of-more : (width : ℕ) (numbers row : List ℕ) (n : ℕ) → length n
 unfolding rows_of
 rows_of-more width numbers row n whole wide =
     let e : n + 1 ≡ suc n = omega arith in
-    let rest : rows_of width (numbers ++ row) n ≡ rows_of width numbers n = rows_of-append width numbers row n (omega arith) in
+    let rest : rows_of width (numbers ++ row) n ≡ rows_of width numbers n = rows_of-append width numbers row n
+        (omega arith) in
     let last = row_at-last width numbers row n whole wide in
     rw e (cc)
 
 -- of distinct rows no two numbers have the same
-pub rows_distinct : (width : ℕ) (numbers : List ℕ) (n : ℕ) → ((i k : ℕ) → i < k → k < n → row_at width numbers i ≢ row_at width numbers k) →
-    (i k : ℕ) (row : List ℕ) → slice_get (rows_of width numbers n) i ≡ Some row → slice_get (rows_of width numbers n) k ≡ Some row → i ≡ k
+pub rows_distinct : (width : ℕ) (numbers : List ℕ) (n : ℕ) → ((i k : ℕ) → i < k → k < n →
+    row_at width numbers i ≢ row_at width numbers k) →
+    (i k : ℕ) (row : List ℕ) → slice_get (rows_of width numbers n) i ≡ Some row →
+        slice_get (rows_of width numbers n) k ≡ Some row → i ≡ k
 rows_distinct width numbers n distinct i k row first second =
     let same : row_at width numbers i ≡ row_at width numbers k =
     row_found width numbers n i row first ∙ sym (row_found width numbers n k row second) in
@@ -117,7 +130,8 @@ no_row width numbers n i past =
     slice_get_past (rows_of width numbers n) i end
 
 -- a row that is there is as wide as all
-pub row_wide : (width : ℕ) (numbers : List ℕ) (n i : ℕ) (row : List ℕ) → length numbers ≡ n * width → slice_get (rows_of width numbers n) i ≡ Some row →
+pub row_wide : (width : ℕ) (numbers : List ℕ) (n i : ℕ) (row : List ℕ) → length numbers ≡ n * width →
+    slice_get (rows_of width numbers n) i ≡ Some row →
     length row ≡ width
 row_wide width numbers n i row whole found =
     let ends = row_ends i n width (row_number width numbers n i row found) in
@@ -137,6 +151,7 @@ rows_interned width numbers row n whole wide =
     let below : n < n + 1 = omega arith in
     let last = row_at-last width numbers row n whole wide in
     let here = slice_get-rows_of width (numbers ++ row) (n + 1) n below ∙ ap (λ r. Some r) last in
-    let same : record_of width (rows_of width (numbers ++ row) (n + 1)) ≡ record_of width (rows_of width numbers n ++ row ∷ []) =
+    let same : record_of width (rows_of width (numbers ++ row) (n + 1)) ≡ record_of width
+        (rows_of width numbers n ++ row ∷ []) =
     ap (record_of width) more in
     (here, inr (same, sym (length-rows_of width numbers n)))
