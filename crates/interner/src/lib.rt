@@ -1,0 +1,11 @@
+//! Rows of numbers, each kept once, under a number of its own. A row is found by its hash and told
+//! from every other by all of its numbers.
+#![tactic(auto)]
+
+mod chains;
+mod hashes;
+mod table;
+#[cfg(test)]
+mod tests;
+
+pub use table::Interner;
