@@ -131,7 +131,7 @@ fn lines(report: &[u8], from: usize, count: usize) -> Option<&str> {
         if number < from {
             start = line.len().saturating_add(start);
         }
-        if number < from + count {
+        if number < from.saturating_add(count) {
             end = line.len().saturating_add(end);
         }
     }
