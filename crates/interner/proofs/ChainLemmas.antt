@@ -25,14 +25,17 @@ chain_none bucket heads links empty = record {
 pub chain_more : (bucket : ℕ → ℕ) (heads links heads_after links_after : List ℕ) (n : ℕ) →
     IsChained bucket heads links n →
     slice_index heads_after (bucket n) ≡ n + 1 → ((b : ℕ) → b ≢ bucket n →
-        slice_index heads_after b ≡ slice_index heads b) →
+    slice_index heads_after b ≡ slice_index heads b) →
     slice_index links_after n ≡ slice_index heads (bucket n) → ((k : ℕ) → k < n →
-        slice_index links_after k ≡ slice_index links k) →
+    slice_index links_after k ≡ slice_index links k) →
     IsChained bucket heads_after links_after (n + 1)
 chain_more bucket heads links heads_after links_after n chained first others link rest =
     let old : (i : ℕ) → i < n + 1 → bucket i ≢ bucket n → i < n =
-    λ i below apart. elim (cases_lt i n) [ inl h ↦ h | inr h ↦ let e : i ≡ n = omega arith in absurd (apart
-        (ap bucket e)) ] in
+    λ i below apart. elim (cases_lt i n) [
+      | inl h ↦ h
+      | inr h ↦ let e : i ≡ n = omega arith in absurd (apart
+          (ap bucket e))
+    ] in
     record {
       head_passes_none = λ i below. elim (cases_eq (bucket i) (bucket n)) [
         | inl e ↦ rw e (rw first below)
@@ -76,22 +79,22 @@ pub chain_set : (bucket : ℕ → ℕ) (heads links : List ℕ) (n : ℕ) → Is
     IsChained bucket (slice_set heads (bucket n) (n + 1)) (slice_set links n (slice_index heads (bucket n))) (n + 1)
 chain_set bucket heads links n chained there room =
     chain_more bucket heads links (slice_set heads (bucket n) (n + 1)) (slice_set links n (slice_index heads
-        (bucket n))) n chained
+    (bucket n))) n chained
     (get_or-set_same heads (bucket n) (n + 1) 0 there)
     (λ b apart. get_or-set_other heads (bucket n) b (n + 1) 0 apart)
     (get_or-set_same links n (slice_index heads (bucket n)) 0 room)
     (λ k below. let apart : k ≢ n = λ e. omega arith in get_or-set_other links n k (slice_index heads
-        (bucket n)) 0 apart)
+    (bucket n)) 0 apart)
 
 -- a row is linked after all links
 pub chain_push : (bucket : ℕ → ℕ) (heads links : List ℕ) → IsChained bucket heads links (length links) →
     bucket (length links) < length heads →
     IsChained bucket (slice_set heads (bucket (length links)) (length links + 1)) (links ++ slice_index heads
-        (bucket (length links)) ∷ []) (length links + 1)
+    (bucket (length links)) ∷ []) (length links + 1)
 chain_push bucket heads links chained there =
     let n = length links in
     chain_more bucket heads links (slice_set heads (bucket n) (n + 1)) (links ++ slice_index heads
-        (bucket n) ∷ []) n chained
+    (bucket n) ∷ []) n chained
     (get_or-set_same heads (bucket n) (n + 1) 0 there)
     (λ b apart. get_or-set_other heads (bucket n) b (n + 1) 0 apart)
     (get_or-append_seam links (slice_index heads (bucket n)) [] 0)
@@ -120,7 +123,7 @@ chain_like bucket other heads links n same chained = record {
 pub interner_grown : (width : ℕ) (numbers links heads links_after heads_after : List ℕ) →
     IsInterner width numbers links heads →
     IsChained (bucket_at width numbers (length heads_after)) heads_after links_after (length links) →
-        length links_after ≡ length links →
+    length links_after ≡ length links →
     length heads_after ≤ 2 ^ 32 → IsInterner width numbers links_after heads_after
 interner_grown width numbers links heads links_after heads_after before chained same few_buckets = record {
   whole = rw same before.whole;
@@ -134,7 +137,7 @@ interner_grown width numbers links heads links_after heads_after before chained 
 pub interner_more : (width : ℕ) (numbers links heads row : List ℕ) → IsInterner width numbers links heads →
     length row ≡ width →
     bucket_of row (length heads) < length heads → length links + 1 < 2 ^ 32 → ((i : ℕ) → i < length links →
-        row_at width numbers i ≢ row) →
+    row_at width numbers i ≢ row) →
     IsInterner width (numbers ++ row) (links ++ slice_index heads (bucket_of row (length heads)) ∷ [])
     (slice_set heads (bucket_of row (length heads)) (length links + 1))
 interner_more width numbers links heads row before wide there few absent =
@@ -147,7 +150,7 @@ interner_more width numbers links heads row before wide there few absent =
     let last : row_at width (numbers ++ row) n ≡ row = row_at-last width numbers row n before.whole wide in
     let here : bucket_at width (numbers ++ row) (length heads) n ≡ b = ap (λ r. bucket_of r (length heads)) last in
     let chained = chain_like (bucket_at width numbers (length heads)) (bucket_at width (numbers ++ row)
-        (length heads)) heads links n
+    (length heads)) heads links n
     (λ i below. ap (λ r. bucket_of r (length heads)) (sym (old i below))) before.chained in
     record {
       whole = length-append numbers row ∙ rw (count, row_begins n width, before.whole, wide) refl;

@@ -35,7 +35,7 @@ get_or-rows_of width numbers (suc n) i below =
       | inl before ↦
           let within : i < length (rows_of width numbers n) = omega arith in
           get_or_append_left (rows_of width numbers n) (row_at width numbers n ∷ []) [] i within
-              ∙ get_or-rows_of width numbers n i before
+          ∙ get_or-rows_of width numbers n i before
       | inr after ↦
           let last : i ≡ length (rows_of width numbers n) = omega arith in
           let same : i ≡ n = omega arith in
@@ -49,7 +49,7 @@ pub slice_get-rows_of : (width : ℕ) (numbers : List ℕ) (n i : ℕ) → i < n
 slice_get-rows_of width numbers n i below =
     let within : i < length (rows_of width numbers n) = omega (arith, length-rows_of width numbers n) in
     slice_get-get_or (rows_of width numbers n) i [] within ∙ ap (λ row. Some row)
-        (get_or-rows_of width numbers n i below)
+    (get_or-rows_of width numbers n i below)
 
 -- what is among the rows under a number is the row there
 pub row_number : (width : ℕ) (numbers : List ℕ) (n i : ℕ) (row : List ℕ) →
@@ -71,7 +71,7 @@ row_at-append width numbers more i ends =
     let begins : i * width ≤ length numbers = omega arith in
     let left : width ≤ length (drop (i * width) numbers) = omega (arith, length-drop (i * width) numbers) in
     ap (take width) (drop-append-le (i * width) numbers more begins)
-        ∙ take-append-le width (drop (i * width) numbers) more left
+    ∙ take-append-le width (drop (i * width) numbers) more left
 
 -- the row that was added
 pub row_at-last : (width : ℕ) (numbers row : List ℕ) (n : ℕ) → length numbers ≡ n * width → length row ≡ width →
@@ -101,7 +101,7 @@ unfolding rows_of
 rows_of-more width numbers row n whole wide =
     let e : n + 1 ≡ suc n = omega arith in
     let rest : rows_of width (numbers ++ row) n ≡ rows_of width numbers n = rows_of-append width numbers row n
-        (omega arith) in
+    (omega arith) in
     let last = row_at-last width numbers row n whole wide in
     rw e (cc)
 
@@ -109,7 +109,7 @@ rows_of-more width numbers row n whole wide =
 pub rows_distinct : (width : ℕ) (numbers : List ℕ) (n : ℕ) → ((i k : ℕ) → i < k → k < n →
     row_at width numbers i ≢ row_at width numbers k) →
     (i k : ℕ) (row : List ℕ) → slice_get (rows_of width numbers n) i ≡ Some row →
-        slice_get (rows_of width numbers n) k ≡ Some row → i ≡ k
+    slice_get (rows_of width numbers n) k ≡ Some row → i ≡ k
 rows_distinct width numbers n distinct i k row first second =
     let same : row_at width numbers i ≡ row_at width numbers k =
     row_found width numbers n i row first ∙ sym (row_found width numbers n k row second) in
@@ -152,6 +152,6 @@ rows_interned width numbers row n whole wide =
     let last = row_at-last width numbers row n whole wide in
     let here = slice_get-rows_of width (numbers ++ row) (n + 1) n below ∙ ap (λ r. Some r) last in
     let same : record_of width (rows_of width (numbers ++ row) (n + 1)) ≡ record_of width
-        (rows_of width numbers n ++ row ∷ []) =
+    (rows_of width numbers n ++ row ∷ []) =
     ap (record_of width) more in
     (here, inr (same, sym (length-rows_of width numbers n)))

@@ -6,9 +6,9 @@ pub returns-clause-count : goal.returns-clause-count
 returns-clause-count c =
     let count : c.len.result ≡ length c.self.inside.links.items = search rules in
     rw (← c.self.view_is) (count ∙ sym (length-rows_of c.self.inside.width c.self.inside.numbers.items
-        (length c.self.inside.links.items)))
+    (length c.self.inside.links.items)))
 
 pub returns-clause-distinct : goal.returns-clause-distinct
 returns-clause-distinct c =
     rw (← c.self.view_is) (rows_distinct c.self.inside.width c.self.inside.numbers.items
-        (length c.self.inside.links.items) c.self.invariant.distinct)
+    (length c.self.inside.links.items) c.self.invariant.distinct)

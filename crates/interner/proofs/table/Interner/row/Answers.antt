@@ -7,11 +7,11 @@ pub returns-then-number-len : goal.returns-then-number-len
 returns-then-number-len c =
     let past : length c.self.inside.links.items ≤ c.args.number = omega arith in
     rw (← c.self.view_is) (sym (no_row c.self.inside.width c.self.inside.numbers.items
-        (length c.self.inside.links.items) c.args.number past))
+    (length c.self.inside.links.items) c.args.number past))
 
 pub returns : goal.returns
 returns c =
     let below : c.args.number < length c.self.inside.links.items = omega arith in
     rw (← c.self.view_is) (ap (λ row. Some row) (rw (← c.as_slice.ensures.value) c.row_at.ensures)
     ∙ sym (slice_get-rows_of c.self.inside.width c.self.inside.numbers.items
-        (length c.self.inside.links.items) c.args.number below))
+    (length c.self.inside.links.items) c.args.number below))
