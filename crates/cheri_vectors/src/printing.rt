@@ -51,7 +51,8 @@ fn push_head(out: &mut String) -> Result<(), AllocError>
 
 /// Appends the rows of null and of each single bit.
 fn push_bit_rows(out: &mut String) -> Result<(), AllocError>
-    ensures { OnOk result (string_bytes out.new ≡ string_bytes out.old ++ rows_below bit_row BIT_ROWS) }
+    ensures { OnOk result (string_bytes out.new
+        ≡ string_bytes out.old ++ rows_below bit_row BIT_ROWS) }
 {
     for n in 0..BIT_ROWS {
         push_bit_row(out, n)?;
@@ -61,7 +62,8 @@ fn push_bit_rows(out: &mut String) -> Result<(), AllocError>
 
 /// Appends the rows of words with bounds at the quarters.
 fn push_corner_rows(out: &mut String) -> Result<(), AllocError>
-    ensures { OnOk result (string_bytes out.new ≡ string_bytes out.old ++ rows_below corner_row CORNER_ROWS) }
+    ensures { OnOk result (string_bytes out.new
+        ≡ string_bytes out.old ++ rows_below corner_row CORNER_ROWS) }
 {
     for n in 0..CORNER_ROWS {
         push_corner_row(out, n)?;
@@ -71,7 +73,8 @@ fn push_corner_rows(out: &mut String) -> Result<(), AllocError>
 
 /// Appends the rows of lengths at powers of 2.
 fn push_power_rows(out: &mut String) -> Result<(), AllocError>
-    ensures { OnOk result (string_bytes out.new ≡ string_bytes out.old ++ rows_below power_row POWER_ROWS) }
+    ensures { OnOk result (string_bytes out.new
+        ≡ string_bytes out.old ++ rows_below power_row POWER_ROWS) }
 {
     for n in 0..POWER_ROWS {
         push_power_row(out, n)?;
@@ -81,7 +84,8 @@ fn push_power_rows(out: &mut String) -> Result<(), AllocError>
 
 /// Appends the rows of ranges at the ends of an exponent.
 fn push_corner_range_rows(out: &mut String) -> Result<(), AllocError>
-    ensures { OnOk result (string_bytes out.new ≡ string_bytes out.old ++ rows_below corner_range_row CORNER_RANGE_ROWS) }
+    ensures { OnOk result (string_bytes out.new
+        ≡ string_bytes out.old ++ rows_below corner_range_row CORNER_RANGE_ROWS) }
 {
     for n in 0..CORNER_RANGE_ROWS {
         push_corner_range_row(out, n)?;
@@ -91,7 +95,8 @@ fn push_corner_range_rows(out: &mut String) -> Result<(), AllocError>
 
 /// Appends the rows of addresses.
 fn push_address_rows(out: &mut String) -> Result<(), AllocError>
-    ensures { OnOk result (string_bytes out.new ≡ string_bytes out.old ++ rows_below address_row ADDRESS_ROWS) }
+    ensures { OnOk result (string_bytes out.new
+        ≡ string_bytes out.old ++ rows_below address_row ADDRESS_ROWS) }
 {
     for n in 0..ADDRESS_ROWS {
         push_address_row(out, n)?;
@@ -101,7 +106,8 @@ fn push_address_rows(out: &mut String) -> Result<(), AllocError>
 
 /// Appends the rows of values.
 fn push_value_rows(out: &mut String) -> Result<(), AllocError>
-    ensures { OnOk result (string_bytes out.new ≡ string_bytes out.old ++ rows_below value_row VALUE_ROWS) }
+    ensures { OnOk result (string_bytes out.new
+        ≡ string_bytes out.old ++ rows_below value_row VALUE_ROWS) }
 {
     for n in 0..VALUE_ROWS {
         push_value_row(out, n)?;

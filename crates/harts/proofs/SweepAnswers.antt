@@ -23,7 +23,7 @@ records_sweep lo hi count (Err fault) is = is
 module _ (core : CoreParts) (lo hi : ℕ) (result : Answer)
     (answer : result ≢ Err NoMemory → result ≡ answered core (operation.Sweep lo hi))
     (memory : result ≡ Err NoMemory → refused core (operation.Sweep lo hi) ≡ None) where
-  -- another refusal than for want of memory is the core's
+  -- a refusal other than `NoMemory` is the core's
   refusal_is : (fault : StepFault) → fault ≢ NoMemory → result ≡ Err fault → refused core (operation.Sweep lo hi) ≡ Some fault
   unfolding answered
   refusal_is fault other is =

@@ -1,7 +1,7 @@
 //! Races: one worker for each hart of an image, in threads of their own.
 
-ghost use Rattle.std.specs.Prelude.{◌≡◌, ◌≢◌, ◌↔◌, [], length, map, All, false, IfOk, Ok, Err, vec_len};
-ghost use Rattle.std.specs.Prelude.{MatchResult};
+ghost use Rattle.std.specs.Prelude.{◌≡◌, ◌≢◌, ◌↔◌, [], length, map, All, false, IfOk, Ok, Err};
+ghost use Rattle.std.specs.Prelude.{MatchResult, vec_len};
 ghost use Rattle.cheri_model.specs.runs.Replay.{IsReplay};
 ghost use Rattle.machine.specs.Cores.{is_limit};
 ghost use Rattle.harts.specs.Reports.{AreReports, KeepsTurns};

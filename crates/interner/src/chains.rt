@@ -42,7 +42,8 @@ fn chain_all(numbers: &[u32], width: usize, heads: &mut Vec<u32>, links: &mut Ve
     requires some_buckets { 0 < length heads.old.items }
     requires few_buckets { length heads.old.items ≤ 2 ^ 32 }
     requires empty { (b : ℕ) → slice_index heads.old.items b ≡ 0 }
-    ensures chained { IsChained (bucket_at width numbers.now (length heads.old.items)) heads.new.items links.new.items (length links.old.items) }
+    ensures chained { IsChained (bucket_at width numbers.now (length heads.old.items))
+        heads.new.items links.new.items (length links.old.items) }
     ensures buckets { length heads.new.items ≡ length heads.old.items }
     ensures rows { length links.new.items ≡ length links.old.items }
 {
@@ -90,7 +91,8 @@ pub fn add(
     requires wide { length row.now ≡ width }
     requires some_buckets { 0 < length heads.old.items }
     requires few { length links.old.items + 1 < 2 ^ 32 }
-    requires absent { (i : ℕ) → i < length links.old.items → row_at width numbers.old.items i ≢ row.now }
+    requires absent { (i : ℕ) → i < length links.old.items →
+        row_at width numbers.old.items i ≢ row.now }
     ensures after { IsInterner width numbers.new.items links.new.items heads.new.items }
     ensures one_row { OnOk result (length links.new.items ≡ length links.old.items + 1) }
     ensures numbers { OnOk result (numbers.new.items ≡ numbers.old.items ++ row.now) }

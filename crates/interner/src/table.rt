@@ -43,7 +43,10 @@ impl Model for Interner {
 
     ghost Value = { Rows };
 
-    ghost view = { λ a. record { width = a.width; rows = rows_of a.width a.numbers.items (length a.links.items) } };
+    ghost view = { λ a. record {
+      width = a.width;
+      rows = rows_of a.width a.numbers.items (length a.links.items);
+    } };
 
     ghost invariant = { λ a. IsInterner a.width a.numbers.items a.links.items a.heads.items };
 }
