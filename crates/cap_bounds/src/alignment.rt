@@ -15,8 +15,8 @@ pub fn crrl(len: u64) -> u64
     (rounded.top % (1 << 64)) as u64
 }
 
-/// CRAM: the mask that aligns a base for a length that `crrl` gives: 2^64 less the granule of that
-/// length.
+/// CRAM: the mask that aligns a base for a length that `crrl` gives: 2^64 less the alignment of
+/// that length.
 #[tactic(auto, using(crate::proofs::AtZero::alignment_masks))]
 pub fn cram(len: u64) -> u64
     ensures { result ≡ alignment_mask len }

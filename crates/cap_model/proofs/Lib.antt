@@ -3,3 +3,4 @@ pub mod Rounding
 pub mod Bounds
 pub mod Words
 pub mod Results
+pub mod Rulesets

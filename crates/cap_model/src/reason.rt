@@ -49,6 +49,6 @@ pub enum Reason {
     BaseAboveTop,
     /// The word has a permission that the source lacks.
     MorePermissions,
-    /// The word's bounds are no multiples of their length's granule.
+    /// The word's bounds are no multiples of their length's alignment.
     NotAligned,
 }

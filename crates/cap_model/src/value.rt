@@ -23,7 +23,8 @@ pub struct Value {
 }
 
 impl Model for Value {
-    ghost use Rattle.cap_model.specs.values.CapValue.{CapValue, IsTaggedWord, bits_of, tag_of, value_at};
+    ghost use Rattle.cap_model.specs.values.CapValue.{CapValue, IsTaggedWord};
+    ghost use Rattle.cap_model.specs.values.CapValue.{bits_of, tag_of, value_at};
     ghost use Rattle.cap_model.specs.values.ValueFacts.{bits_of-value_at, tag_of-value_at};
 
     ghost Value = { CapValue };

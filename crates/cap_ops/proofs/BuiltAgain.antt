@@ -2,7 +2,7 @@
 use Rattle.std.proofs.Common.{◌≡◌, ℕ, ◌+◌, ◌-◌, ◌/◌, ◌%◌, ◌^◌, ◌≤◌, ◌==◌, ◌&&◌, Bool, true, false, Ok, Err, inl, inr, arith, refl, ap, sym, ◌∙◌, leb-true, eqb-true}
 use Rattle.std.specs.Prelude.{nat_le, Result}
 use Rattle.std.proofs.lemmas.Bool.{and_parts, cases_Bool, false≢true, false_from_ne_true}
-use Rattle.cap_model.specs.bounds.Lengths.{granule}
+use Rattle.cap_model.specs.bounds.Lengths.{alignment}
 use Rattle.cap_model.specs.bounds.Window.{is_in_window}
 use Rattle.cap_model.specs.bounds.Rounding.{rounded_base}
 use Rattle.cap_model.specs.words.Fields.{word_reserved}
@@ -92,12 +92,12 @@ module _ (authority v : CapValue) where
         | inr rounded ↦ (let refused = made-inexact (base_of v) (top_of v - base_of v) (parts_of v).addr (permissions_of v) unsealed_type below rounded in cc)
       ]
 
-      base_fits : base_of v % granule (top_of v - base_of v) ≡ 0
+      base_fits : base_of v % alignment (top_of v - base_of v) ≡ 0
       base_fits =
           let both = and_parts (rounded_base (base_of v) (top_of v - base_of v) == base_of v) _ exact in
           exact_base_fits (base_of v) (top_of v - base_of v) length_fits (eqb-true _ _ both.0) (eqb-true _ _ both.1)
 
-      top_fits : top_of v % granule (top_of v - base_of v) ≡ 0
+      top_fits : top_of v % alignment (top_of v - base_of v) ≡ 0
       top_fits =
           let both = and_parts (rounded_base (base_of v) (top_of v - base_of v) == base_of v) _ exact in
           let end : base_of v + (top_of v - base_of v) ≡ top_of v = omega (arith, ordered) in

@@ -4,7 +4,7 @@ use Rattle.std.specs.Prelude.{nat_le, nat_lt, IsTrue, ◌↔◌}
 use Rattle.std.proofs.lemmas.Bool.{and_parts, le-leb, cases_Bool, cases_lt, false≢true, false_from_ne_true}
 use Rattle.std.proofs.lemmas.Nat.{pow-add, pow_pos, div-add-mod'}
 use Rattle.std.proofs.Math.Nat.{div-lt_iff_lt-mul}
-use Rattle.cap_model.specs.bounds.Lengths.{exponent, internal_exponent, granule}
+use Rattle.cap_model.specs.bounds.Lengths.{exponent, internal_exponent, alignment}
 use Rattle.cap_model.specs.bounds.Window.{IsInWindow, is_in_window}
 use Rattle.cap_model.specs.words.Fields.{with_null_fields, field_of_perms, word_perms, word_reserved, word_flag, word_otype, word_ie, word_exponent}
 use Rattle.cap_model.specs.words.RawBounds.{raw_base}
@@ -19,7 +19,7 @@ use Rattle.cap_model.proofs.Words.WordsBack.{upper_has_fields, has_its_fields, e
 use Rattle.cap_model.proofs.Words.AddressesMoved.{encoding_upper, moved_lawful, moved_upper}
 use Rattle.cap_model.proofs.Bounds.WindowsHold.{in_bounds_in_window}
 use Rattle.cap_model.proofs.Bounds.WindowsEnd.{same_base_in_window}
-use Rattle.cap_model.proofs.Rounding.Exponents.{exponent_small, exponent_between, exponent_top, exponent_bottom_from_12, internal_exponent_small, internal_exponent_long, granule_small, granule_long}
+use Rattle.cap_model.proofs.Rounding.Exponents.{exponent_small, exponent_between, exponent_top, exponent_bottom_from_12, internal_exponent_small, internal_exponent_long, alignment_small, alignment_long}
 use Rattle.cap_model.proofs.Results.Rebuildings.{eqb-of, flag_lt}
 use Rattle.cap_model.proofs.Results.Values.{bits_lt, perms_known}
 use Rattle.cap_model.proofs.Results.AddressResults.{window_test, test_of_window}
@@ -45,14 +45,14 @@ one_times n p one positive =
 pub record HasLength (len ie e : ℕ) : Type 0 where
   pub exponent_is : exponent len ≡ e
   pub internal : internal_exponent len ≡ ie
-  pub granule_is : granule len ≡ 2 ^ (ie * (e + 3))
+  pub alignment_is : alignment len ≡ 2 ^ (ie * (e + 3))
 
 short_length : (len ie e : ℕ) → ie ≡ 0 → e ≡ 0 → len / 2 ^ (e + 12) ≡ ie → HasLength len ie e
 short_length len ie e none small same =
     let divided : len / 2 ^ 12 ≡ 0 = rw (none, small) at same in
     let short : len < 2 ^ 12 = omega arith in
     rw (none, small)
-    (record { exponent_is = exponent_small len (omega arith); internal = internal_exponent_small len short; granule_is = granule_small len short })
+    (record { exponent_is = exponent_small len (omega arith); internal = internal_exponent_small len short; alignment_is = alignment_small len short })
 
 long_length : (len ie e : ℕ) → ie ≡ 1 → e ≤ 52 → len / 2 ^ (e + 12) ≡ ie → HasLength len ie e
 long_length len ie e one most same =
@@ -61,7 +61,7 @@ long_length len ie e one most same =
     let long : 2 ^ 12 ≤ len = omega (arith, fits.0, pow-add 2 e 12, pow_pos e) in
     let is : exponent len ≡ e = exponent_between len e (omega arith) fits.0 (omega (arith, fits.1)) in
     rw one
-    (record { exponent_is = is; internal = internal_exponent_long len long; granule_is = granule_long len long ∙ rw is (ap (λ n. 2 ^ n) (omega arith)) })
+    (record { exponent_is = is; internal = internal_exponent_long len long; alignment_is = alignment_long len long ∙ rw is (ap (λ n. 2 ^ n) (omega arith)) })
 
 pub length_of_fields : (len ie e : ℕ) → ie < 2 → e ≤ 52 → (ie ≡ 0 → e ≡ 0) → len / 2 ^ (e + 12) ≡ ie → HasLength len ie e
 length_of_fields len ie e low most external same = elim (cases_lt ie 1) [
@@ -80,11 +80,11 @@ fields_of_length len fits = elim (cases_lt len (2 ^ 12)) [
       (quotient_of_one len (2 ^ (exponent len + 12)) (pow_pos (exponent len + 12)) (exponent_bottom_from_12 len long) (omega arith)))
 ]
 
--- the granule of a length, by its IE and E
-pub granule_of_length : (len : ℕ) → granule len ≡ 2 ^ (internal_exponent len * (exponent len + 3))
-granule_of_length len = elim (cases_lt len (2 ^ 12)) [
-  | inl short ↦ (let none : 0 * (exponent len + 3) ≡ 0 = omega arith in rw (internal_exponent_small len short, granule_small len short, none) refl)
-  | inr long ↦ (let one : 1 * (exponent len + 3) ≡ exponent len + 3 = omega arith in rw (internal_exponent_long len long, granule_long len long, one) refl)
+-- the alignment of a length, by its IE and E
+pub alignment_of_length : (len : ℕ) → alignment len ≡ 2 ^ (internal_exponent len * (exponent len + 3))
+alignment_of_length len = elim (cases_lt len (2 ^ 12)) [
+  | inl short ↦ (let none : 0 * (exponent len + 3) ≡ 0 = omega arith in rw (internal_exponent_small len short, alignment_small len short, none) refl)
+  | inr long ↦ (let one : 1 * (exponent len + 3) ≡ exponent len + 3 = omega arith in rw (internal_exponent_long len long, alignment_long len long, one) refl)
 ]
 
 -- the types that capabilities have, as a test and as a fact
@@ -169,8 +169,8 @@ module _ (word : ℕ) (below : word < 2 ^ 128) (says : WordSaysItself word) wher
         base_below = (base_of_any_word word);
         ordered = says.ordered;
         top_at_most = says.top_at_most;
-        base_fits = rw said_length.granule_is says.base_fits;
-        top_fits = rw said_length.granule_is says.top_fits;
+        base_fits = rw said_length.alignment_is says.base_fits;
+        top_fits = rw said_length.alignment_is says.top_fits;
         addr_below = (base_of_any_word word);
         in_window = rw same at window;
       }
@@ -234,8 +234,8 @@ module _ (word : ℕ) (h : IsEncoding word) where
         ordered = h.lawful.ordered;
         top_at_most = h.lawful.top_at_most;
         length = rw (own_upper, its.exponent, its.ie) (fields_of_length _ fits);
-        base_fits = rw (own_upper, its.exponent, its.ie, ← granule_of_length ((capability_at word).top - (capability_at word).base)) h.lawful.base_fits;
-        top_fits = rw (own_upper, its.exponent, its.ie, ← granule_of_length ((capability_at word).top - (capability_at word).base)) h.lawful.top_fits;
+        base_fits = rw (own_upper, its.exponent, its.ie, ← alignment_of_length ((capability_at word).top - (capability_at word).base)) h.lawful.base_fits;
+        top_fits = rw (own_upper, its.exponent, its.ie, ← alignment_of_length ((capability_at word).top - (capability_at word).base)) h.lawful.top_fits;
         fields = rw (own_upper, its.exponent, its.ie) own_fields;
       }
 
@@ -263,7 +263,7 @@ passed_encoding word below t =
     let three = and_parts (is_lawful_type c.otype && nat_le c.base c.top && nat_le c.top (2 ^ 64)) _ four.0 in
     let two = and_parts (is_lawful_type c.otype && nat_le c.base c.top) _ three.0 in
     let one = and_parts (is_lawful_type c.otype) _ two.0 in
-    let aligned = and_parts (c.base % granule (c.top - c.base) == 0) _ three.1 in
+    let aligned = and_parts (c.base % alignment (c.top - c.base) == 0) _ three.1 in
     record {
       lawful = record {
         perms = perms_known (raw word) below;

@@ -1,6 +1,6 @@
 -- A lawful capability with flag 0 is what is made of its own parts.
 use Rattle.std.proofs.Common.{◌≡◌, ◌+◌, ◌-◌, ◌%◌, ◌^◌, ◌≤◌, true, Ok, arith, refl, ap, sym, ◌∙◌}
-use Rattle.cap_model.specs.bounds.Lengths.{granule}
+use Rattle.cap_model.specs.bounds.Lengths.{alignment}
 use Rattle.cap_model.specs.bounds.Rounding.{rounded_base, rounded_top}
 use Rattle.cap_model.specs.words.PermissionNames.{known_permissions}
 use Rattle.cap_model.specs.values.Capability.{Capability, IsLawful}
@@ -20,7 +20,7 @@ module _ (c : Capability) (h : IsLawful c) where
   length_fits : c.top - c.base ≤ 2 ^ 64
   length_fits = omega (arith, h.top_at_most)
 
-  top_fits : (c.base + (c.top - c.base)) % granule (c.top - c.base) ≡ 0
+  top_fits : (c.base + (c.top - c.base)) % alignment (c.top - c.base) ≡ 0
   top_fits = rw ends h.top_fits
 
   -- lawful bounds are not rounded

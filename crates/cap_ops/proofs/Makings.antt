@@ -2,7 +2,7 @@
 use Rattle.std.proofs.Common.{◌≡◌, ℕ, ◌+◌, ◌-◌, ◌^◌, ◌<◌, ◌≤◌, true, false, ◌==◌, ◌↔◌, Ok, Err, arith, refl, ap, ◌∙◌, eqb-true, lt-ltb, le-ltb, subst}
 use Rattle.std.proofs.lemmas.Bool.{and_parts, false_from_ne_true}
 use Rattle.cap_model.specs.bounds.Numbers.{first_from}
-use Rattle.cap_model.specs.bounds.Lengths.{exponent, internal_exponent, granule}
+use Rattle.cap_model.specs.bounds.Lengths.{exponent, internal_exponent, alignment}
 use Rattle.cap_model.specs.bounds.Window.{IsInWindow, is_in_window}
 use Rattle.cap_model.specs.bounds.Rounding.{rounded_base, rounded_top}
 use Rattle.cap_model.specs.words.RawBounds.{raw_base, raw_top}
@@ -176,7 +176,7 @@ made-ok base len addr perms otype h exact inside =
 
 -- the root capability
 root_lawful : (perms : ℕ) → IsPermissionSet perms → IsLawful (capability_with 0 (2 ^ 64) 0 perms unsealed_type)
-unfolding granule exponent first_from IsInWindow
+unfolding alignment exponent first_from IsInWindow
 root_lawful perms known = record {
   perms = known;
   flag = omega arith;

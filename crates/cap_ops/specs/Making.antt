@@ -19,8 +19,8 @@ abbrev pub capability_with : ℕ → ℕ → ℕ → ℕ → ℕ → Capability
 capability_with base len addr perms otype =
     record { base = base; top = base + len; addr = addr; perms = perms; flag = 0; otype = otype }
 
--- The answer to these parts: the first refusal that holds, else the valid capability with just these bounds. Bits
--- that no permission has are dropped.
+-- The answer to these parts: the first refusal that holds, else the valid capability with just
+-- these bounds. Bits that no permission has are dropped.
 unfoldable pub made : ℕ → ℕ → ℕ → ℕ → ℕ → Result CapValue MakeFault
 made base len addr perms otype =
     if nat_lt (2 ^ 64) (base + len) then Err PastEnd

@@ -2,10 +2,11 @@
 use Rattle.std.specs.Prelude.{◌≡◌, ℕ, ◌%◌, ◌^◌, Bool}
 use Rattle.cap_model.specs.values.CapValue.{CapValue, IsLawfulValue, bits_of, tag_of}
 use Rattle.cap_model.specs.words.Fields.{field_of_perms}
-use Rattle.cap_model.specs.results.Readings.{base_of, top_of, high_of, flags_of, object_type_of, permissions_of}
+use Rattle.cap_model.specs.results.Readings.{base_of, top_of, high_of, flags_of, object_type_of}
+use Rattle.cap_model.specs.results.Readings.{permissions_of}
 
--- the value is lawful, and these are its tag t, the halves u and a of its word, and the bounds and fields that the
--- word is decoded to
+-- the value is lawful, and these are its tag t, the halves u and a of its word, and the bounds and
+-- fields that the word is decoded to
 pub record IsUnpacked (v : CapValue) (t : Bool) (u a low high o p f : ℕ) : Type 0 where
   pub lawful : IsLawfulValue v
   pub tag : tag_of v ≡ t

@@ -2,7 +2,9 @@
 use Rattle.cheri_model.specs.steps.Actions.{Action}
 use Rattle.cheri_model.specs.steps.Actions as asked
 use Rattle.hart_step.specs.declared.actions.Action.{Action as Asking}
-use Rattle.hart_step.specs.declared.actions.Action.TheVariants.{Put, Load, Store, LoadCap, StoreCap, Swap, Branch, Jump, JumpThrough, Invoke, Halt}
+use Rattle.hart_step.specs.declared.actions.Action.TheVariants.{Put, Load, Store, LoadCap, StoreCap}
+use Rattle.hart_step.specs.declared.actions.Action.TheVariants.{Swap, Branch, Jump, JumpThrough}
+use Rattle.hart_step.specs.declared.actions.Action.TheVariants.{Invoke, Halt}
 
 abbrev pub asks : Asking → Action
 asks (Put cd value) = asked.Put cd value

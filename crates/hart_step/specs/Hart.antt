@@ -1,4 +1,5 @@
--- What every hart of the machine keeps: 32 registers, of which c0 is null, and lawful values in all of them.
+-- What every hart of the machine keeps: 32 registers, of which c0 is null, and lawful values in all
+-- of them.
 use Rattle.std.specs.Prelude.{◌≡◌, List, length, slice_index_or, All}
 use Rattle.cap_model.specs.values.CapValue.{CapValue, IsLawfulValue}
 use Rattle.cheri_model.specs.steps.Hart.{null}

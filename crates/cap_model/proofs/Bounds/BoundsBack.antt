@@ -99,7 +99,7 @@ uncorrected_from upper e base top a n size says base_whole top_whole ordered nea
     let sum : start_of (2 ^ e) (base / 2 ^ e) a + (2 ^ 11 + base / 2 ^ e % 2 ^ 11 + l) * 2 ^ e ≡ top + n * size = omega arith in
     rw (says.exponent, says.b, says.t, region_start_is e (base / 2 ^ e) a, region_offset_is e (base / 2 ^ e) (top / 2 ^ e) l more (omega arith), sum)
 
--- a length of fewer than 2^13 granules of the exponent is below 2^63, up to exponent 50
+-- a length of fewer than 2^13 steps of the exponent is below 2^63, up to exponent 50
 length_below : (e b t : ℕ) → e < 51 → t < b + 2 ^ 13 → t * 2 ^ e < b * 2 ^ e + 2 ^ 63
 length_below e b t h p =
     let most : 2 ^ e ≤ 2 ^ 50 = powers e 50 (omega arith) in

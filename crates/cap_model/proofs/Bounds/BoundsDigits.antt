@@ -3,7 +3,7 @@ use Rattle.std.specs.Prelude.{◌≡◌, ℕ, ◌+◌, ◌-◌, ◌*◌, ◌/◌
 use Rattle.std.proofs.Common.{arith, inl, inr, ap, ◌∙◌, le_of_mul-le-mul_right, lt_of_mul-lt-mul_right}
 use Rattle.std.proofs.lemmas.Nat.{pow_pos, pow-add, div-add-mod', div-mul-add}
 use Rattle.std.proofs.lemmas.Bool.{cases_lt, lt-ltb, le-ltb}
-use Rattle.cap_model.specs.bounds.Lengths.{exponent, internal_exponent, granule}
+use Rattle.cap_model.specs.bounds.Lengths.{exponent, internal_exponent, alignment}
 use Rattle.cap_model.specs.values.Capability.{Capability, IsLawful}
 use Rattle.cap_model.proofs.Rounding.Exponents.{exponent_small, exponent_top, exponent_at_most}
 use Rattle.cap_model.proofs.Rounding.Exponents.{exponent_bottom_from_12}
@@ -75,16 +75,16 @@ digits_long e base top k p q r b t long short =
 
 -- lawful bounds have digits, at the exponent and the IE of their length
 pub has_digits : (c : Capability) → IsLawful c → HasDigits (internal_exponent (c.top - c.base)) (exponent (c.top - c.base)) c.base c.top
-unfolding internal_exponent granule
+unfolding internal_exponent alignment
 has_digits c h = elim (cases_lt (c.top - c.base) (2 ^ 12)) [
   | inl short ↦
       rw (lt-ltb (c.top - c.base) (2 ^ 12) short, exponent_small (c.top - c.base) (omega arith))
       (digits_short c.base c.top h.base_below h.ordered h.top_at_most short)
   | inr long ↦
-      let granule_is = le-ltb (c.top - c.base) (2 ^ 12) long in
-      let base_multiple = rw granule_is at h.base_fits in
-      let top_multiple = rw granule_is at h.top_fits in
-      rw granule_is
+      let alignment_is = le-ltb (c.top - c.base) (2 ^ 12) long in
+      let base_multiple = rw alignment_is at h.base_fits in
+      let top_multiple = rw alignment_is at h.top_fits in
+      rw alignment_is
       (digits_long (exponent (c.top - c.base)) c.base c.top (exponent_at_most (c.top - c.base) (omega arith))
       h.base_below h.ordered h.top_at_most base_multiple top_multiple
       (exponent_bottom_from_12 (c.top - c.base) long) (exponent_top (c.top - c.base) (omega arith)))

@@ -1,4 +1,4 @@
--- Bounds that any word says are multiples of their length's granule, where the base is at most the top and the top
+-- Bounds that any word says are multiples of their length's alignment, where the base is at most the top and the top
 -- at most 2^64. Over 2^E the base is x and the top l steps further on.
 use Rattle.std.specs.Prelude.{◌≡◌, ℕ, ◌+◌, ◌-◌, ◌*◌, ◌/◌, ◌%◌, ◌^◌, ◌<◌, ◌≤◌, ◌==◌, nat_lt, if◌then◌else◌, true}
 use Rattle.std.proofs.Common.{arith, inl, inr, ap, refl, mul-le-mul_right}
@@ -11,7 +11,7 @@ use Rattle.cap_model.specs.words.RawBounds.{region_floor, region_start, region_o
 use Rattle.cap_model.specs.results.Rebuilt.{are_aligned}
 use Rattle.cap_model.proofs.Bounds.RegionStarts.{region_start_greatest}
 use Rattle.cap_model.proofs.Bounds.BoundsBack.{powers}
-use Rattle.cap_model.proofs.Rounding.Exponents.{granule_small, exponent_least, granule_power, granule_bits}
+use Rattle.cap_model.proofs.Rounding.Exponents.{alignment_small, exponent_least, alignment_power, alignment_bits}
 use Rattle.cap_model.proofs.Rounding.Multiples.{multiple_of_lower_power, multiple_sum, multiple_rest}
 use Rattle.cap_model.proofs.Words.RawWords.{word_exponent_at_most, word_b_lt, word_t_lt, raw_base_lt}
 
@@ -123,15 +123,15 @@ equal a b e = rw e (grind arith)
 aligned_where_short : (e base top : ℕ) → base % 2 ^ (e + 3) ≡ 0 → top % 2 ^ (e + 3) ≡ 0 → top - base < 2 ^ (e + 13) → are_aligned base top ≡ true
 aligned_where_short e base top base_multiple top_multiple short =
     let least = exponent_least (top - base) e short in
-    let bits : granule_bits (top - base) ≤ e + 3 =
+    let bits : alignment_bits (top - base) ≤ e + 3 =
     cond_both (nat_lt (top - base) (2 ^ 12)) 0 (exponent (top - base) + 3) (λ x. x ≤ e + 3) (λ _. omega arith) (λ _. omega arith) in
-    let base_fits = multiple_of_lower_power (granule_bits (top - base)) (e + 3) base bits base_multiple in
-    let top_fits = multiple_of_lower_power (granule_bits (top - base)) (e + 3) top bits top_multiple in
-    rw (granule_power (top - base), equal _ _ base_fits, equal _ _ top_fits) refl
+    let base_fits = multiple_of_lower_power (alignment_bits (top - base)) (e + 3) base bits base_multiple in
+    let top_fits = multiple_of_lower_power (alignment_bits (top - base)) (e + 3) top bits top_multiple in
+    rw (alignment_power (top - base), equal _ _ base_fits, equal _ _ top_fits) refl
 
 aligned_where_tiny : (base top : ℕ) → top - base < 2 ^ 12 → are_aligned base top ≡ true
 aligned_where_tiny base top tiny =
-    rw (granule_small (top - base) tiny, equal (base % 1) 0 (omega arith), equal (top % 1) 0 (omega arith)) refl
+    rw (alignment_small (top - base) tiny, equal (base % 1) 0 (omega arith), equal (top % 1) 0 (omega arith)) refl
 
 -- up to exponent 50 the correction leaves the top where it is above the base
 corrected_near : (e base t n : ℕ) → e < 51 → base ≤ t → base < 2 ^ 64 → t < base + 2 ^ 63 → corrected_top e base ((t + n * 2 ^ 64) % 2 ^ 65) ≡ t

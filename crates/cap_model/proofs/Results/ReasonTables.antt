@@ -4,7 +4,7 @@ use Rattle.std.proofs.Common.{arith, refl, ap, ◌∙◌, cond, suc}
 use Rattle.std.specs.Option.{option_map}
 use Rattle.std.proofs.lemmas.Bool.Decides.{nat_tests}
 use Rattle.cap_model.specs.declared.reason.Reason.{Reason}
-use Rattle.cap_model.specs.bounds.Lengths.{granule}
+use Rattle.cap_model.specs.bounds.Lengths.{alignment}
 use Rattle.cap_model.specs.words.Fields.{word_reserved}
 use Rattle.cap_model.specs.values.Capability.{Capability, IsLawfulType, unsealed_type, sentry_type}
 use Rattle.cap_model.specs.values.CapValue.{CapValue, valid, raw, tag_of, parts_of, bits_of, tagged_where, IsLawfulValue}
@@ -88,8 +88,8 @@ tag_kept CBuildCap v w lawful =
     (nat_le (base_of v) (base_of w)) (nat_le (top_of w) (top_of v))
     (bit_and (permissions_of w) (permissions_of v) == permissions_of w)
     (word_reserved (bits_of w / 2 ^ 64) == 0) (nat_le (base_of w) (top_of w))
-    ((base_of w % granule (top_of w - base_of w) == 0)
-    && ((top_of w % granule (top_of w - base_of w) == 0) && keeps_bounds w (address_of w)))))
+    ((base_of w % alignment (top_of w - base_of w) == 0)
+    && ((top_of w % alignment (top_of w - base_of w) == 0) && keeps_bounds w (address_of w)))))
 tag_kept UnsealedByJump v w lawful = simp lines refl
 
 -- the reason that is told stands in a line that holds

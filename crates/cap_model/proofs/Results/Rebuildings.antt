@@ -2,7 +2,7 @@
 use Rattle.std.specs.Prelude.{◌≡◌, ℕ, ◌-◌, ◌/◌, ◌%◌, ◌^◌, ◌<◌, ◌≤◌, ◌==◌, nat_le, Bool, true, false, ◌&&◌, bit_and}
 use Rattle.std.proofs.Common.{arith, refl, leb-true, eqb-true}
 use Rattle.std.proofs.lemmas.Bool.{and_parts, le-leb}
-use Rattle.cap_model.specs.bounds.Lengths.{granule}
+use Rattle.cap_model.specs.bounds.Lengths.{alignment}
 use Rattle.cap_model.specs.bounds.Window.{IsInWindow}
 use Rattle.cap_model.specs.words.Fields.{word_reserved, word_flag}
 use Rattle.cap_model.specs.values.Capability.{Capability, IsLawful, unsealed_type, capability_at}
@@ -25,8 +25,8 @@ pub record CanBuild (authority v : CapValue) : Type 0 where
   pub perms : bit_and (parts_of v).perms (parts_of authority).perms ≡ (parts_of v).perms
   pub reserved : word_reserved (bits_of v / 2 ^ 64) ≡ 0
   pub ordered : (parts_of v).base ≤ (parts_of v).top
-  pub base_fits : (parts_of v).base % granule ((parts_of v).top - (parts_of v).base) ≡ 0
-  pub top_fits : (parts_of v).top % granule ((parts_of v).top - (parts_of v).base) ≡ 0
+  pub base_fits : (parts_of v).base % alignment ((parts_of v).top - (parts_of v).base) ≡ 0
+  pub top_fits : (parts_of v).top % alignment ((parts_of v).top - (parts_of v).base) ≡ 0
   pub in_window : IsInWindow (parts_of v).base ((parts_of v).top - (parts_of v).base) (parts_of v).addr
 
 pub can_build : (authority v : CapValue) → (is_open authority && lies_in (parts_of authority) (parts_of v) && is_buildable v) ≡ true →
@@ -40,7 +40,7 @@ can_build authority v t =
     let said = and_parts ((word_reserved (bits_of v / 2 ^ 64) == 0) && nat_le (parts_of v).base (parts_of v).top && are_aligned (parts_of v).base (parts_of v).top) _ all.1 in
     let some = and_parts ((word_reserved (bits_of v / 2 ^ 64) == 0) && nat_le (parts_of v).base (parts_of v).top) _ said.0 in
     let first = and_parts (word_reserved (bits_of v / 2 ^ 64) == 0) _ some.0 in
-    let aligned = and_parts ((parts_of v).base % granule ((parts_of v).top - (parts_of v).base) == 0) _ some.1 in
+    let aligned = and_parts ((parts_of v).base % alignment ((parts_of v).top - (parts_of v).base) == 0) _ some.1 in
     record {
       opened = allowed.0;
       base = leb-true _ _ bounds.0;

@@ -1,11 +1,11 @@
--- The exponent and the granule of a length: that the exponent is the one that the length calls for, and how
+-- The exponent and the alignment of a length: that the exponent is the one that the length calls for, and how
 -- both grow with the length.
 use Rattle.std.proofs.Common.{◌≡◌, ℕ, ◌+◌, ◌*◌, ◌/◌, ◌^◌, ◌<◌, ◌≤◌, Bool, nat_lt, refl, inl, inr, arith, zero, suc, le_trans, lit<, if◌then◌else◌, lt-ltb, le-ltb, ltb-true, ltb-false}
 use Rattle.std.proofs.lemmas.Bool.{cases_lt}
 use Rattle.std.proofs.lemmas.Nat.{pow-add}
 use Rattle.std.proofs.Math.Nat.{pow-le-pow_right, two-pow-succ}
 use Rattle.cap_model.specs.bounds.Numbers.{first_from}
-use Rattle.cap_model.specs.bounds.Lengths.{exponent, internal_exponent, granule}
+use Rattle.cap_model.specs.bounds.Lengths.{exponent, internal_exponent, alignment}
 use Rattle.cap_model.proofs.Rounding.Searches.{first_from_before, first_from_least, first_from_passes, first_from_is}
 
 -- the least of the exponents 0 to 63 at which a length, which may hang on it, is below 2^(e+13)
@@ -87,7 +87,7 @@ exponent_digits len (suc d) fits top bottom =
     (omega (arith, pow-add 2 (suc d) 12, two-pow-succ d))
     (omega (arith, pow-add 2 (suc d) 13))
 
--- the internal exponent bit, and the granule, below 2^12 and from there on
+-- the internal exponent bit, and the alignment, below 2^12 and from there on
 pub internal_exponent_small : (len : ℕ) → len < 2 ^ 12 → internal_exponent len ≡ 0
 unfolding internal_exponent
 internal_exponent_small len small = rw (lt-ltb len (2 ^ 12) small) refl
@@ -96,35 +96,35 @@ pub internal_exponent_long : (len : ℕ) → 2 ^ 12 ≤ len → internal_exponen
 unfolding internal_exponent
 internal_exponent_long len long = rw (le-ltb len (2 ^ 12) long) refl
 
-pub granule_small : (len : ℕ) → len < 2 ^ 12 → granule len ≡ 1
-unfolding granule
-granule_small len small = rw (lt-ltb len (2 ^ 12) small) refl
+pub alignment_small : (len : ℕ) → len < 2 ^ 12 → alignment len ≡ 1
+unfolding alignment
+alignment_small len small = rw (lt-ltb len (2 ^ 12) small) refl
 
-pub granule_long : (len : ℕ) → 2 ^ 12 ≤ len → granule len ≡ 2 ^ (exponent len + 3)
-unfolding granule
-granule_long len long = rw (le-ltb len (2 ^ 12) long) refl
+pub alignment_long : (len : ℕ) → 2 ^ 12 ≤ len → alignment len ≡ 2 ^ (exponent len + 3)
+unfolding alignment
+alignment_long len long = rw (le-ltb len (2 ^ 12) long) refl
 
--- the granule is a power of 2, with this exponent
-abbrev pub granule_bits : ℕ → ℕ
-granule_bits len = if nat_lt len (2 ^ 12) then 0 else exponent len + 3
+-- the alignment is a power of 2, with this exponent
+abbrev pub alignment_bits : ℕ → ℕ
+alignment_bits len = if nat_lt len (2 ^ 12) then 0 else exponent len + 3
 
-pub granule_bits_long : (len : ℕ) → 2 ^ 12 ≤ len → granule_bits len ≡ exponent len + 3
-granule_bits_long len long = rw (le-ltb len (2 ^ 12) long) refl
+pub alignment_bits_long : (len : ℕ) → 2 ^ 12 ≤ len → alignment_bits len ≡ exponent len + 3
+alignment_bits_long len long = rw (le-ltb len (2 ^ 12) long) refl
 
-pub granule_power : (len : ℕ) → granule len ≡ 2 ^ granule_bits len
-granule_power len =
+pub alignment_power : (len : ℕ) → alignment len ≡ 2 ^ alignment_bits len
+alignment_power len =
     elim (cases_lt len (2 ^ 12)) [
-      | inl small ↦ rw (lt-ltb len (2 ^ 12) small) (granule_small len small)
-      | inr long ↦ rw (le-ltb len (2 ^ 12) long) (granule_long len long)
+      | inl small ↦ rw (lt-ltb len (2 ^ 12) small) (alignment_small len small)
+      | inr long ↦ rw (le-ltb len (2 ^ 12) long) (alignment_long len long)
     ]
 
-pub granule_is_power : (len : ℕ) → (n : ℕ) × (granule len ≡ 2 ^ n)
-granule_is_power len = (granule_bits len, granule_power len)
+pub alignment_is_power : (len : ℕ) → (n : ℕ) × (alignment len ≡ 2 ^ n)
+alignment_is_power len = (alignment_bits len, alignment_power len)
 
--- where the exponent of a length lies, and what its granule is
+-- where the exponent of a length lies, and what its alignment is
 pub ruleset exponent_laws = (exponent_small, exponent_bottom, exponent_top, exponent_greatest, exponent_at_most)
 
-pub ruleset granule_laws = (granule_small, granule_long, granule_is_power)
+pub ruleset alignment_laws = (alignment_small, alignment_long, alignment_is_power)
 
 -- the internal exponent bit on either side of 2^12
 pub ruleset internal_exponent_laws = (internal_exponent_small, internal_exponent_long)

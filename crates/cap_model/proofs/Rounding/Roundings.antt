@@ -5,9 +5,9 @@ use Rattle.std.proofs.lemmas.Bool.{cases_lt}
 use Rattle.std.proofs.lemmas.Nat.{pow_pos}
 use Rattle.std.proofs.Math.Nat.{pow-le-pow_right}
 use Rattle.cap_model.specs.bounds.Numbers.{round_down, round_up}
-use Rattle.cap_model.specs.bounds.Lengths.{exponent, internal_exponent, granule}
-use Rattle.cap_model.specs.bounds.Rounding.{rounding_exponent, rounding_granule, rounded_base, rounded_top}
-use Rattle.cap_model.proofs.Rounding.Exponents.{least_fit, least_fit_least, least_fit_before, least_fit_fits, exponent_between, exponent_small, internal_exponent_small, internal_exponent_long, granule_small, granule_long}
+use Rattle.cap_model.specs.bounds.Lengths.{exponent, internal_exponent, alignment}
+use Rattle.cap_model.specs.bounds.Rounding.{rounding_exponent, rounding_alignment, rounded_base, rounded_top}
+use Rattle.cap_model.proofs.Rounding.Exponents.{least_fit, least_fit_least, least_fit_before, least_fit_fits, exponent_between, exponent_small, internal_exponent_small, internal_exponent_long, alignment_small, alignment_long}
 use Rattle.cap_model.proofs.Rounding.Multiples.{round_down_at_most, round_up_at_least, round_down_near, round_up_near, round_down_coarser, round_up_coarser, round_down_multiple, round_up_multiple, round_up_least, multiple_of_lower_power}
 
 -- the length of the range made wider to multiples of 2^(e+3)
@@ -35,13 +35,13 @@ pub rounding_exponent_long : (base len : ℕ) → 2 ^ 12 ≤ len → rounding_ex
 unfolding rounding_exponent
 rounding_exponent_long base len long = rw (le-ltb len (2 ^ 12) long) refl
 
-pub rounding_granule_small : (base len : ℕ) → len < 2 ^ 12 → rounding_granule base len ≡ 1
-unfolding rounding_granule
-rounding_granule_small base len small = rw (lt-ltb len (2 ^ 12) small) refl
+pub rounding_alignment_small : (base len : ℕ) → len < 2 ^ 12 → rounding_alignment base len ≡ 1
+unfolding rounding_alignment
+rounding_alignment_small base len small = rw (lt-ltb len (2 ^ 12) small) refl
 
-pub rounding_granule_long : (base len : ℕ) → 2 ^ 12 ≤ len → rounding_granule base len ≡ 2 ^ (rounding_exponent base len + 3)
-unfolding rounding_granule
-rounding_granule_long base len long = rw (le-ltb len (2 ^ 12) long) refl
+pub rounding_alignment_long : (base len : ℕ) → 2 ^ 12 ≤ len → rounding_alignment base len ≡ 2 ^ (rounding_exponent base len + 3)
+unfolding rounding_alignment
+rounding_alignment_long base len long = rw (le-ltb len (2 ^ 12) long) refl
 
 -- what both ends are rounded to is a power of 2, with this exponent
 abbrev pub rounding_bits : ℕ → ℕ → ℕ
@@ -53,20 +53,20 @@ rounding_bits_small base len small = rw (lt-ltb len (2 ^ 12) small) refl
 pub rounding_bits_long : (base len : ℕ) → 2 ^ 12 ≤ len → rounding_bits base len ≡ rounding_exponent base len + 3
 rounding_bits_long base len long = rw (le-ltb len (2 ^ 12) long) refl
 
-pub rounding_granule_power : (base len : ℕ) → rounding_granule base len ≡ 2 ^ rounding_bits base len
-rounding_granule_power base len =
+pub rounding_alignment_power : (base len : ℕ) → rounding_alignment base len ≡ 2 ^ rounding_bits base len
+rounding_alignment_power base len =
     elim (cases_lt len (2 ^ 12)) [
-      | inl small ↦ rw (lt-ltb len (2 ^ 12) small) (rounding_granule_small base len small)
-      | inr long ↦ rw (le-ltb len (2 ^ 12) long) (rounding_granule_long base len long)
+      | inl small ↦ rw (lt-ltb len (2 ^ 12) small) (rounding_alignment_small base len small)
+      | inr long ↦ rw (le-ltb len (2 ^ 12) long) (rounding_alignment_long base len long)
     ]
 
 pub rounded_base_is : (base len : ℕ) → rounded_base base len ≡ round_down (2 ^ rounding_bits base len) base
 unfolding rounded_base
-rounded_base_is base len = rw (rounding_granule_power base len) refl
+rounded_base_is base len = rw (rounding_alignment_power base len) refl
 
 pub rounded_top_is : (base len : ℕ) → rounded_top base len ≡ round_up (2 ^ rounding_bits base len) (base + len)
 unfolding rounded_top
-rounded_top_is base len = rw (rounding_granule_power base len) refl
+rounded_top_is base len = rw (rounding_alignment_power base len) refl
 
 -- the rounding holds the requested range
 pub rounded_base_at_most : (base len : ℕ) → rounded_base base len ≤ base
@@ -133,7 +133,7 @@ rounded_length_bottom base len long =
     rw (rounded_length_long base len long, rounding_exponent_long base len long) (widened_length_from base len _ long refl)
 
 -- the rounded length has the rounding's exponent, the requested length's internal exponent bit, and the
--- rounding's granule
+-- rounding's alignment
 pub exponent_of_rounding : (base len : ℕ) → len ≤ 2 ^ 64 → exponent (rounded_length base len) ≡ rounding_exponent base len
 exponent_of_rounding base len fits =
     elim (cases_lt len (2 ^ 12)) [
@@ -152,11 +152,11 @@ internal_exponent_of_rounding base len =
       | inr long ↦ internal_exponent_long _ (rounded_length_kept_long base len long) ∙ sym (internal_exponent_long len long)
     ]
 
-pub granule_of_rounding : (base len : ℕ) → len ≤ 2 ^ 64 → granule (rounded_length base len) ≡ rounding_granule base len
-granule_of_rounding base len fits =
+pub alignment_of_rounding : (base len : ℕ) → len ≤ 2 ^ 64 → alignment (rounded_length base len) ≡ rounding_alignment base len
+alignment_of_rounding base len fits =
     elim (cases_lt len (2 ^ 12)) [
-      | inl small ↦ granule_small _ (omega (arith, rounded_length_small base len small)) ∙ sym (rounding_granule_small base len small)
-      | inr long ↦ rw (granule_long (rounded_length base len) (rounded_length_kept_long base len long), exponent_of_rounding base len fits) (sym (rounding_granule_long base len long))
+      | inl small ↦ alignment_small _ (omega (arith, rounded_length_small base len small)) ∙ sym (rounding_alignment_small base len small)
+      | inr long ↦ rw (alignment_long (rounded_length base len) (rounded_length_kept_long base len long), exponent_of_rounding base len fits) (sym (rounding_alignment_long base len long))
     ]
 
 pub rounding_bits_at_most : (base len : ℕ) → len ≤ 2 ^ 64 → rounding_bits base len ≤ 55
@@ -166,15 +166,15 @@ rounding_bits_at_most base len fits =
       | inr long ↦ omega (arith, rounding_bits_long base len long, rounding_exponent_at_most base len fits)
     ]
 
--- both ends are multiples of the granule of the rounded length
-pub rounded_base_multiple : (base len : ℕ) → len ≤ 2 ^ 64 → rounded_base base len % granule (rounded_length base len) ≡ 0
+-- both ends are multiples of the alignment of the rounded length
+pub rounded_base_multiple : (base len : ℕ) → len ≤ 2 ^ 64 → rounded_base base len % alignment (rounded_length base len) ≡ 0
 rounded_base_multiple base len fits =
-    rw (granule_of_rounding base len fits, rounding_granule_power base len, rounded_base_is base len)
+    rw (alignment_of_rounding base len fits, rounding_alignment_power base len, rounded_base_is base len)
     (round_down_multiple (2 ^ rounding_bits base len) base (pow_pos (rounding_bits base len)))
 
-pub rounded_top_multiple : (base len : ℕ) → len ≤ 2 ^ 64 → rounded_top base len % granule (rounded_length base len) ≡ 0
+pub rounded_top_multiple : (base len : ℕ) → len ≤ 2 ^ 64 → rounded_top base len % alignment (rounded_length base len) ≡ 0
 rounded_top_multiple base len fits =
-    rw (granule_of_rounding base len fits, rounding_granule_power base len, rounded_top_is base len)
+    rw (alignment_of_rounding base len fits, rounding_alignment_power base len, rounded_top_is base len)
     (round_up_multiple (2 ^ rounding_bits base len) (base + len) (pow_pos (rounding_bits base len)))
 
 -- a range that ends by 2^64 is rounded to one that does
@@ -186,7 +186,7 @@ rounded_top_below base len fits within =
     (multiple_of_lower_power bits 64 (2 ^ 64) (omega (arith, rounding_bits_at_most base len fits)) refl) within)
 
 -- what the rounded length has of the requested one and of the rounding
-pub ruleset rounded_length_laws = (exponent_of_rounding, internal_exponent_of_rounding, granule_of_rounding, rounded_length_bottom, rounded_length_top)
+pub ruleset rounded_length_laws = (exponent_of_rounding, internal_exponent_of_rounding, alignment_of_rounding, rounded_length_bottom, rounded_length_top)
 
 -- that the rounding is bounds that a capability can have
 pub ruleset rounded_bounds_laws = (rounded_base_below, rounding_ordered, rounded_top_below, rounded_base_multiple, rounded_top_multiple)

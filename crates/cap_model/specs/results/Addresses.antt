@@ -1,15 +1,17 @@
--- The results of capability instructions on addresses and bounds, as functions of values (CHERI ISA v9,
--- "capability instructions"; what is this project's own is said at the definition). Each gives a tagged
--- capability where a condition holds, and else the same edited word without a tag. The other results are in
--- `Fields`, `Seals` and `Readings`.
+-- The results of capability instructions on addresses and bounds, as functions of values (CHERI ISA
+-- v9, "capability instructions"; what is this project's own is said at the definition). Each gives
+-- a tagged capability where a condition holds, and else the same edited word without a tag. The
+-- other results are in `Fields`, `Seals` and `Readings`.
 use Rattle.std.specs.Prelude.{ℕ, ◌+◌, ◌-◌, ◌/◌, ◌%◌, ◌^◌, ◌==◌, nat_le, min, Bool, ◌&&◌}
 use Rattle.cap_model.specs.bounds.Window.{is_in_window}
 use Rattle.cap_model.specs.bounds.Rounding.{rounded_base, rounded_top}
 use Rattle.cap_model.specs.values.Capability.{Capability, unsealed_type}
-use Rattle.cap_model.specs.values.CapValue.{CapValue, valid, raw, bits_of, tag_of, parts_of, tagged_where}
+use Rattle.cap_model.specs.values.CapValue.{CapValue, valid, raw, bits_of, tag_of, parts_of}
+use Rattle.cap_model.specs.values.CapValue.{tagged_where}
 use Rattle.cap_model.specs.results.EditedWords.{word_with_address, with_rounded_bounds}
 
--- a register read as an integer gives its address; an integer is written as an untagged word of that address
+-- a register read as an integer gives its address; an integer is written as an untagged word of
+-- that address
 unfoldable pub address_of : CapValue → ℕ
 address_of v = (parts_of v).addr
 
@@ -42,11 +44,12 @@ moved v = v
 abbrev pub clear_tag : CapValue → CapValue
 clear_tag v = raw (bits_of v)
 
--- CSetAddr: another address. The tag stays exactly where the bounds do (the exact test is this project's own; the
--- standard lets an implementation keep fewer tags).
+-- CSetAddr: another address. The tag stays exactly where the bounds do (the exact test is this
+-- project's own; the standard lets an implementation keep fewer tags).
 unfoldable pub set_address : CapValue → ℕ → CapValue
 set_address v a =
-    tagged_where (is_open v && keeps_bounds v a) (record (parts_of v) { addr = a }) (word_with_address (bits_of v) a)
+    tagged_where (is_open v && keeps_bounds v a)
+    (record (parts_of v) { addr = a }) (word_with_address (bits_of v) a)
 
 -- CIncOffset: the address raised by an offset, modulo 2^64; the tag as in CSetAddr
 unfoldable pub inc_offset : CapValue → ℕ → CapValue
@@ -55,9 +58,13 @@ inc_offset v offset = set_address v ((address_of v + offset) % 2 ^ 64)
 -- a value's parts with the bounds of the rounding of its address and a length
 abbrev pub with_bounds_of_rounding : CapValue → ℕ → Capability
 with_bounds_of_rounding v len =
-    record (parts_of v) { base = rounded_base (address_of v) len; top = rounded_top (address_of v) len }
+    record (parts_of v) {
+      base = rounded_base (address_of v) len;
+      top = rounded_top (address_of v) len;
+    }
 
--- CSetBounds: the bounds become the rounding of the address and the length, where these lie in the old bounds
+-- CSetBounds: the bounds become the rounding of the address and the length, where these lie in the
+-- old bounds
 unfoldable pub set_bounds : CapValue → ℕ → CapValue
 set_bounds v len =
     tagged_where (is_open v && in_bounds v (address_of v) len) (with_bounds_of_rounding v len)

@@ -1,8 +1,10 @@
--- The capability instructions on two registers, c1 and c2, with the value that each writes (CHERI ISA version 9, the
--- instructions' own pages). An immediate form is the register form with the immediate, as an integer, in place of c2.
--- The last is no instruction by itself: it is the unsealing that a jump does.
+-- The capability instructions on two registers, c1 and c2, with the value that each writes (CHERI
+-- ISA version 9, the instructions' own pages). An immediate form is the register form with the
+-- immediate, as an integer, in place of c2. The last is no instruction by itself: it is the
+-- unsealing that a jump does.
 use Rattle.cap_model.specs.values.CapValue.{CapValue}
-use Rattle.cap_model.specs.results.Addresses.{address_of, moved, clear_tag, set_address, inc_offset, set_bounds, set_bounds_exact}
+use Rattle.cap_model.specs.results.Addresses.{address_of, moved, clear_tag, set_address, inc_offset}
+use Rattle.cap_model.specs.results.Addresses.{set_bounds, set_bounds_exact}
 use Rattle.cap_model.specs.results.Fields.{and_perm, set_flags, set_high}
 use Rattle.cap_model.specs.results.Seals.{seal, unseal, seal_entry, unsealed}
 use Rattle.cap_model.specs.results.Rebuilt.{build}

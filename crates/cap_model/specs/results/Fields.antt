@@ -1,4 +1,5 @@
--- The results of instructions that replace one field of a capability (CHERI ISA v9, "capability instructions").
+-- The results of instructions that replace one field of a capability (CHERI ISA v9, "capability
+-- instructions").
 use Rattle.std.specs.Prelude.{ℕ, ◌/◌, ◌%◌, ◌^◌, bit_and}
 use Rattle.cap_model.specs.values.CapValue.{CapValue, raw, bits_of, parts_of, tagged_where}
 use Rattle.cap_model.specs.results.EditedWords.{with_perms, with_flag, word_with_upper}

@@ -1,7 +1,8 @@
--- The integers that instructions read off a value, tagged or not, and its comparisons (CHERI ISA v9,
--- "capability instructions"). CGetAddr is `address_of` and CGetLen is `length_of`, in `Addresses`; CGetTag is
--- `tag_of`.
-use Rattle.std.specs.Prelude.{ℕ, ◌+◌, ◌-◌, ◌/◌, ◌%◌, ◌^◌, ◌==◌, nat_le, nat_lt, Bool, true, false, not, ◌&&◌, bit_and, if◌then◌else◌}
+-- The integers that instructions read off a value, tagged or not, and its comparisons (CHERI ISA
+-- v9, "capability instructions"). CGetAddr is `address_of` and CGetLen is `length_of`, in
+-- `Addresses`; CGetTag is `tag_of`.
+use Rattle.std.specs.Prelude.{ℕ, ◌+◌, ◌-◌, ◌/◌, ◌%◌, ◌^◌, ◌==◌, nat_le, nat_lt, Bool, true, false}
+use Rattle.std.specs.Prelude.{not, ◌&&◌, bit_and, if◌then◌else◌}
 use Rattle.cap_model.specs.values.Capability.{Capability, unsealed_type, last_sealable_type}
 use Rattle.cap_model.specs.values.CapValue.{CapValue, bits_of, tag_of, parts_of}
 
@@ -18,10 +19,12 @@ permissions_of v = (parts_of v).perms
 abbrev pub object_type_of : CapValue → ℕ
 object_type_of v = (parts_of v).otype
 
--- CGetType: a type above the sealable ones is sign-extended from 18 bits (as in the standard, so that unsealed is -1)
+-- CGetType: a type above the sealable ones is sign-extended from 18 bits (as in the standard, so
+-- that unsealed is -1)
 unfoldable pub type_number_of : CapValue → ℕ
 type_number_of v =
-    if nat_lt last_sealable_type (object_type_of v) then 2 ^ 64 - 2 ^ 18 + object_type_of v else object_type_of v
+    if nat_lt last_sealable_type (object_type_of v) then 2 ^ 64 - 2 ^ 18 + object_type_of v
+    else object_type_of v
 
 -- CGetBase
 abbrev pub base_of : CapValue → ℕ
@@ -55,8 +58,8 @@ abbrev pub same_tag : Bool → Bool → Bool
 same_tag true second = second
 same_tag false second = not second
 
--- CTestSubset: the tags are equal, and the second's bounds and permissions lie in the first's. Object types are not
--- compared (this project's own).
+-- CTestSubset: the tags are equal, and the second's bounds and permissions lie in the first's.
+-- Object types are not compared (this project's own).
 unfoldable pub is_subset : CapValue → CapValue → Bool
 is_subset v w = same_tag (tag_of v) (tag_of w) && lies_in (parts_of v) (parts_of w)
 

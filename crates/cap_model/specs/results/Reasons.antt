@@ -1,18 +1,36 @@
--- Why a result has no tag: for each capability instruction a table of reasons, in order. The tag is kept
--- exactly where no line of the table holds; the first line that holds is the reason that is told (the
--- conditions are those of CHERI ISA v9, the instructions' own pages; their order is this project's own).
-use Rattle.std.specs.Prelude.{ℕ, ◌+◌, ◌/◌, ◌%◌, ◌^◌, ◌==◌, nat_lt, Bool, true, not, bit_and, List, [], ◌∷◌, Option, find, is_none}
+-- Why a result has no tag: for each capability instruction a table of reasons, in order. The tag is
+-- kept exactly where no line of the table holds; the first line that holds is the reason that is
+-- told (the conditions are those of CHERI ISA v9, the instructions' own pages; their order is this
+-- project's own).
+use Rattle.std.specs.Prelude.{ℕ, ◌+◌, ◌/◌, ◌%◌, ◌^◌, ◌==◌, nat_lt, Bool, true, not, bit_and, List}
+use Rattle.std.specs.Prelude.{[], ◌∷◌, Option, find, is_none}
 use Rattle.std.specs.Option.{option_map}
 use Rattle.cap_model.specs.declared.reason.Reason.{Reason}
-use Rattle.cap_model.specs.declared.reason.Reason.TheVariants.{Cleared, UpperReplaced, SourceUntagged, SourceSealed, SourceUnsealed, SourceSentry, AuthorityUntagged, AuthoritySealed, NoExecute, NoSeal, NoUnseal, NotRepresentable, BaseBelow, EndAbove, TopAbove, Rounded, TypeOutside, TypeNotSealable, TypeDiffers, ReservedBits, BaseAboveTop, MorePermissions, NotAligned}
+use Rattle.cap_model.specs.declared.reason.Reason.TheVariants.{Cleared, UpperReplaced}
+use Rattle.cap_model.specs.declared.reason.Reason.TheVariants.{SourceUntagged, SourceSealed}
+use Rattle.cap_model.specs.declared.reason.Reason.TheVariants.{SourceUnsealed, SourceSentry}
+use Rattle.cap_model.specs.declared.reason.Reason.TheVariants.{AuthorityUntagged, AuthoritySealed}
+use Rattle.cap_model.specs.declared.reason.Reason.TheVariants.{NoExecute, NoSeal, NoUnseal}
+use Rattle.cap_model.specs.declared.reason.Reason.TheVariants.{NotRepresentable, BaseBelow}
+use Rattle.cap_model.specs.declared.reason.Reason.TheVariants.{EndAbove, TopAbove, Rounded}
+use Rattle.cap_model.specs.declared.reason.Reason.TheVariants.{TypeOutside, TypeNotSealable}
+use Rattle.cap_model.specs.declared.reason.Reason.TheVariants.{TypeDiffers, ReservedBits}
+use Rattle.cap_model.specs.declared.reason.Reason.TheVariants.{BaseAboveTop, MorePermissions}
+use Rattle.cap_model.specs.declared.reason.Reason.TheVariants.{NotAligned}
 use Rattle.cap_model.specs.words.Fields.{word_reserved}
 use Rattle.cap_model.specs.values.Capability.{sentry_type}
 use Rattle.cap_model.specs.values.CapValue.{CapValue, bits_of, tag_of}
-use Rattle.cap_model.specs.results.Addresses.{address_of, has_permission, in_bounds, keeps_bounds, is_exact}
-use Rattle.cap_model.specs.results.Seals.{execute_permission, seal_permission, unseal_permission, is_sealable}
-use Rattle.cap_model.specs.results.Readings.{permissions_of, object_type_of, base_of, top_of, is_sealed}
+use Rattle.cap_model.specs.results.Addresses.{address_of, has_permission, in_bounds, keeps_bounds}
+use Rattle.cap_model.specs.results.Addresses.{is_exact}
+use Rattle.cap_model.specs.results.Seals.{execute_permission, seal_permission, unseal_permission}
+use Rattle.cap_model.specs.results.Seals.{is_sealable}
+use Rattle.cap_model.specs.results.Readings.{permissions_of, object_type_of, base_of, top_of}
+use Rattle.cap_model.specs.results.Readings.{is_sealed}
 use Rattle.cap_model.specs.results.Rebuilt.{are_aligned}
-use Rattle.cap_model.specs.results.CapInstructions.{CapInstruction, CMove, CClearTag, CSetAddr, CIncOffset, CSetBounds, CSetBoundsExact, CAndPerm, CSetFlags, CSetHigh, CSeal, CUnseal, CSealEntry, CBuildCap, UnsealedByJump}
+use Rattle.cap_model.specs.results.CapInstructions.{CapInstruction, CMove, CClearTag, CSetAddr}
+use Rattle.cap_model.specs.results.CapInstructions.{CIncOffset, CSetBounds, CSetBoundsExact}
+use Rattle.cap_model.specs.results.CapInstructions.{CAndPerm, CSetFlags, CSetHigh, CSeal, CUnseal}
+use Rattle.cap_model.specs.results.CapInstructions.{CSealEntry, CBuildCap, UnsealedByJump}
 
 -- the reason of the first line that holds, if one does
 unfoldable pub first_reason : List (Bool × Reason) → Option Reason

@@ -1,5 +1,6 @@
--- The results of sealing and unsealing (CHERI ISA v9, "sealed capabilities"). Which object types can be sealed
--- with, and that a sentry is made only of a capability with Execute, are this project's own.
+-- The results of sealing and unsealing (CHERI ISA v9, "sealed capabilities"). Which object types
+-- can be sealed with, and that a sentry is made only of a capability with Execute, are this
+-- project's own.
 use Rattle.std.specs.Prelude.{ℕ, ◌*◌, ◌/◌, ◌%◌, ◌^◌, ◌==◌, nat_le, Bool, ◌&&◌, if◌then◌else◌}
 use Rattle.cap_model.specs.declared.permission.TheConstants.{GLOBAL, EXECUTE, SEAL, UNSEAL}
 use Rattle.cap_model.specs.values.Capability.{unsealed_type, sentry_type, last_sealable_type}
@@ -27,7 +28,8 @@ is_sealable otype = nat_le otype last_sealable_type
 -- whether a capability, by a permission, has authority over the object type that is its address
 abbrev pub has_type_authority : CapValue → ℕ → Bool
 has_type_authority authority permission =
-    is_open authority && has_permission authority permission && in_bounds authority (address_of authority) 1
+    is_open authority && has_permission authority permission
+    && in_bounds authority (address_of authority) 1
 
 -- the word with another object type
 unfoldable pub word_with_otype : ℕ → ℕ → ℕ
@@ -43,14 +45,16 @@ seal v authority =
 -- the permissions after unsealing: Global only where the authority has it too
 abbrev pub unsealed_perms : CapValue → CapValue → ℕ
 unsealed_perms v authority =
-    if has_permission authority global_permission then (parts_of v).perms else (parts_of v).perms / 2 * 2
+    if has_permission authority global_permission then (parts_of v).perms
+    else (parts_of v).perms / 2 * 2
 
 -- CUnseal: unsealed, where the authority's address is the object type
 unfoldable pub unseal : CapValue → CapValue → CapValue
 unseal v authority =
     let perms = unsealed_perms v authority in
     tagged_where
-    (tag_of v && is_sealable (parts_of v).otype && has_type_authority authority unseal_permission && (address_of authority == (parts_of v).otype))
+    (tag_of v && is_sealable (parts_of v).otype && has_type_authority authority unseal_permission
+    && (address_of authority == (parts_of v).otype))
     (record (parts_of v) { perms = perms; otype = unsealed_type })
     (word_with_upper (bits_of v) (with_perms (with_otype (bits_of v / 2 ^ 64) unsealed_type) perms))
 
@@ -60,7 +64,9 @@ seal_entry v =
     tagged_where (is_open v && has_permission v execute_permission)
     (record (parts_of v) { otype = sentry_type }) (word_with_otype (bits_of v) sentry_type)
 
--- The value unsealed, with its tag as it is: what a jump makes of a sentry, and of a sealed pair (CJALR, CInvoke).
+-- The value unsealed, with its tag as it is: what a jump makes of a sentry, and of a sealed pair
+-- (CJALR, CInvoke).
 unfoldable pub unsealed : CapValue → CapValue
 unsealed v =
-    tagged_where (tag_of v) (record (parts_of v) { otype = unsealed_type }) (word_with_otype (bits_of v) unsealed_type)
+    tagged_where (tag_of v)
+    (record (parts_of v) { otype = unsealed_type }) (word_with_otype (bits_of v) unsealed_type)

@@ -1,5 +1,5 @@
--- What a sweep makes of one value: the tag is cleared of every capability whose base lies in a range of addresses
--- (revocation, as in CheriBSD and Cornucopia).
+-- What a sweep makes of one value: the tag is cleared of every capability whose base lies in a
+-- range of addresses (revocation, as in CheriBSD and Cornucopia).
 use Rattle.std.specs.Prelude.{ℕ, nat_le, nat_lt, Bool, ◌&&◌, if◌then◌else◌}
 use Rattle.cap_model.specs.values.CapValue.{CapValue, tag_of, parts_of}
 use Rattle.cap_model.specs.results.Addresses.{clear_tag}

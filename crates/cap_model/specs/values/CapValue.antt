@@ -1,4 +1,5 @@
--- What a register or a granule holds: a valid capability, or a raw word without a tag (CHERI ISA v9, "tags").
+-- What a register or a granule holds: a valid capability, or a raw word without a tag (CHERI ISA
+-- v9, "tags").
 use Rattle.std.specs.Prelude.{◌≡◌, ℕ, ◌^◌, ◌<◌, Bool, true, false}
 use Rattle.cap_model.specs.values.Capability.{Capability, IsLawful, word_of, capability_at}
 

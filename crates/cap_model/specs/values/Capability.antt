@@ -1,12 +1,16 @@
--- A capability as whole numbers, when it is lawful, and its word (CHERI ISA v9, "capability encoding").
+-- A capability as whole numbers, when it is lawful, and its word (CHERI ISA v9, "capability
+-- encoding").
 use Rattle.std.specs.Prelude.{◌≡◌, ◌≢◌, ℕ, ◌+◌, ◌-◌, ◌*◌, ◌/◌, ◌%◌, ◌^◌, ◌<◌, ◌≤◌}
-use Rattle.cap_model.specs.declared.otype.TheConstants.{UNSEALED_TYPE, SENTRY_TYPE, LAST_SEALABLE_TYPE}
-use Rattle.cap_model.specs.bounds.Lengths.{exponent, internal_exponent, granule}
+use Rattle.cap_model.specs.declared.otype.TheConstants.{UNSEALED_TYPE, SENTRY_TYPE}
+use Rattle.cap_model.specs.declared.otype.TheConstants.{LAST_SEALABLE_TYPE}
+use Rattle.cap_model.specs.bounds.Lengths.{exponent, internal_exponent, alignment}
 use Rattle.cap_model.specs.bounds.Window.{IsInWindow}
-use Rattle.cap_model.specs.words.Fields.{with_null_fields, field_of_perms, word_perms, word_flag, word_otype}
+use Rattle.cap_model.specs.words.Fields.{with_null_fields, field_of_perms, word_perms, word_flag}
+use Rattle.cap_model.specs.words.Fields.{word_otype}
 use Rattle.cap_model.specs.words.RawBounds.{raw_base, raw_top}
 
--- Bounds from base up to, not including, top; permissions in CGetPerm's form; flag 0 or 1; an object type.
+-- Bounds from base up to, not including, top; permissions in CGetPerm's form; flag 0 or 1; an
+-- object type.
 pub record Capability : Type 0 where
   pub base : ℕ
   pub top : ℕ
@@ -22,7 +26,8 @@ unsealed_type = UNSEALED_TYPE
 abbrev pub sentry_type : ℕ
 sentry_type = SENTRY_TYPE
 
--- the greatest object type that CSeal can give; the two types above it and below sentry are reserved
+-- the greatest object type that CSeal can give; the two types above it and below sentry are
+-- reserved
 abbrev pub last_sealable_type : ℕ
 last_sealable_type = LAST_SEALABLE_TYPE
 
@@ -37,8 +42,8 @@ pub record IsPermissionSet (perms : ℕ) : Type 0 where
   pub below : perms < 2 ^ 19
   pub known : perms / 2 ^ 12 % 8 ≡ 0
 
--- What every tagged capability is. The bounds are multiples of their length's granule, and the address lies in
--- the window, so that the word has room for them.
+-- What every tagged capability is. The bounds are multiples of their length's alignment, and the
+-- address lies in the window, so that the word has room for them.
 pub record IsLawful (c : Capability) : Type 0 where
   pub perms : IsPermissionSet c.perms
   pub flag : c.flag < 2
@@ -46,23 +51,26 @@ pub record IsLawful (c : Capability) : Type 0 where
   pub base_below : c.base < 2 ^ 64
   pub ordered : c.base ≤ c.top
   pub top_at_most : c.top ≤ 2 ^ 64
-  pub base_fits : c.base % granule (c.top - c.base) ≡ 0
-  pub top_fits : c.top % granule (c.top - c.base) ≡ 0
+  pub base_fits : c.base % alignment (c.top - c.base) ≡ 0
+  pub top_fits : c.top % alignment (c.top - c.base) ≡ 0
   pub addr_below : c.addr < 2 ^ 64
   pub in_window : IsInWindow c.base (c.top - c.base) c.addr
 
--- the field B of bounds with these IE and E: the base's digits from E on, and with IE 1 the low half of E
+-- the field B of bounds with these IE and E: the base's digits from E on, and with IE 1 the low
+-- half of E
 unfoldable pub b_field : ℕ → ℕ → ℕ → ℕ
 b_field ie e base = base / 2 ^ e % 2 ^ 14 + ie * (e % 8)
 
--- the field T: the top's digits from E on, of which the upper two are left out, and with IE 1 the high half of E
+-- the field T: the top's digits from E on, of which the upper two are left out, and with IE 1 the
+-- high half of E
 unfoldable pub t_field : ℕ → ℕ → ℕ → ℕ
 t_field ie e top = top / 2 ^ e % 2 ^ 12 + ie * (e / 8)
 
 -- the upper half with these fields, whose reserved bits are 0
 unfoldable pub upper_of_fields : ℕ → ℕ → ℕ → ℕ → ℕ → ℕ → ℕ
 upper_of_fields perms flag otype ie t b =
-    with_null_fields (field_of_perms perms * 2 ^ 48 + flag * 2 ^ 45 + otype * 2 ^ 27 + ie * 2 ^ 26 + t * 2 ^ 14 + b)
+    with_null_fields
+    (field_of_perms perms * 2 ^ 48 + flag * 2 ^ 45 + otype * 2 ^ 27 + ie * 2 ^ 26 + t * 2 ^ 14 + b)
 
 -- the upper half of a capability's word; the lower half is its address
 unfoldable pub upper_of : Capability → ℕ

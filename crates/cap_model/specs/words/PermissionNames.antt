@@ -1,6 +1,10 @@
--- The names of permissions in listings, in bit order, with the set of each alone, in CGetPerm's form.
+-- The names of permissions in listings, in bit order, with the set of each alone, in CGetPerm's
+-- form.
 use Rattle.std.specs.Prelude.{ℕ, List, [], ◌∷◌, codes, bit_and}
-use Rattle.cap_model.specs.declared.perms.TheConstants.Perms.{GLOBAL, EXECUTE, LOAD, STORE, LOAD_CAP, STORE_CAP, STORE_LOCAL, SEAL, CINVOKE, UNSEAL, SYSREGS, SET_CID, SW0, SW1, SW2, SW3, ALL}
+use Rattle.cap_model.specs.declared.perms.TheConstants.Perms.{GLOBAL, EXECUTE, LOAD, STORE}
+use Rattle.cap_model.specs.declared.perms.TheConstants.Perms.{LOAD_CAP, STORE_CAP, STORE_LOCAL}
+use Rattle.cap_model.specs.declared.perms.TheConstants.Perms.{SEAL, CINVOKE, UNSEAL, SYSREGS}
+use Rattle.cap_model.specs.declared.perms.TheConstants.Perms.{SET_CID, SW0, SW1, SW2, SW3, ALL}
 
 abbrev pub permission_table : List (List ℕ × ℕ)
 permission_table =

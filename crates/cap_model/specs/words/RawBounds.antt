@@ -1,17 +1,18 @@
--- The bounds of any 128-bit word, tagged or not (CHERI Concentrate, "decoding of bounds"; CHERI ISA v9,
--- "capability encoding"; the cap of the exponent and the last step are this project's own profile for words
--- that no instruction makes).
+-- The bounds of any 128-bit word, tagged or not (CHERI Concentrate, "decoding of bounds"; CHERI ISA
+-- v9, "capability encoding"; the cap of the exponent and the last step are this project's own
+-- profile for words that no instruction makes).
 use Rattle.std.specs.Prelude.{ℕ, ◌+◌, ◌-◌, ◌*◌, ◌/◌, ◌%◌, ◌^◌, nat_lt, if◌then◌else◌}
 use Rattle.cap_model.specs.bounds.Numbers.{congruent_below}
 use Rattle.cap_model.specs.words.Fields.{word_exponent, word_b, word_t14}
 
--- R: B's top three bits less one, modulo 8, as a number of 14 bits. Addresses are looked at in regions
--- of 2^(E+14), each beginning R * 2^E above a multiple of that size.
+-- R: B's top three bits less one, modulo 8, as a number of 14 bits. Addresses are looked at in
+-- regions of 2^(E+14), each beginning R * 2^E above a multiple of that size.
 unfoldable pub region_floor : ℕ → ℕ
 region_floor b = (b / 2 ^ 11 + 7) % 8 * 2 ^ 11
 
--- Where the address's region begins: the greatest number at most the address that is congruent to R * 2^E
--- modulo 2^(E+14). It may lie below 0, so it is counted from -2^66, which is 0 modulo 2^64, 2^65 and the region.
+-- Where the address's region begins: the greatest number at most the address that is congruent to R
+-- * 2^E modulo 2^(E+14). It may lie below 0, so it is counted from -2^66, which is 0 modulo 2^64,
+-- 2^65 and the region.
 unfoldable pub region_start : ℕ → ℕ → ℕ → ℕ
 region_start e b addr = congruent_below (2 ^ (e + 14)) (region_floor b * 2 ^ e) (addr + 2 ^ 66)
 
@@ -32,12 +33,13 @@ uncorrected_top upper addr =
     let b = word_b upper in
     (region_start e b addr + region_offset e b (word_t14 upper)) % 2 ^ 65
 
--- The last correction: bit 64 of the top is inverted where E is below 51 and the top's two bits from bit 63
--- on are more than one step above the base's bit 63, modulo 4.
+-- The last correction: bit 64 of the top is inverted where E is below 51 and the top's two bits
+-- from bit 63 on are more than one step above the base's bit 63, modulo 4.
 unfoldable pub corrected_top : ℕ → ℕ → ℕ → ℕ
 corrected_top e base top =
     let apart = (top / 2 ^ 63 + 4 - base / 2 ^ 63) % 4 in
     if nat_lt e 51 then (if nat_lt 1 apart then (top + 2 ^ 64) % 2 ^ 65 else top) else top
 
 unfoldable pub raw_top : ℕ → ℕ → ℕ
-raw_top upper addr = corrected_top (word_exponent upper) (raw_base upper addr) (uncorrected_top upper addr)
+raw_top upper addr =
+    corrected_top (word_exponent upper) (raw_base upper addr) (uncorrected_top upper addr)

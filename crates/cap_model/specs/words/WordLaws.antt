@@ -1,20 +1,21 @@
 -- Laws that join the definitions of bounds, fields and words.
 use Rattle.std.specs.Prelude.{◌≡◌, ℕ, ◌+◌, ◌-◌, ◌/◌, ◌%◌, ◌^◌, ◌<◌, ◌≤◌}
 use Rattle.cap_model.specs.bounds.Lengths.{exponent, internal_exponent}
-use Rattle.cap_model.specs.words.Fields.{word_perms, word_reserved, word_flag, word_otype, word_ie, stored_t, stored_b, word_exponent, word_b, word_t14}
+use Rattle.cap_model.specs.words.Fields.{word_perms, word_reserved, word_flag, word_otype, word_ie}
+use Rattle.cap_model.specs.words.Fields.{stored_t, stored_b, word_exponent, word_b, word_t14}
 use Rattle.cap_model.specs.values.Capability.{Capability, b_field, t_field, upper_of}
 use Rattle.cap_model.specs.results.EditedWords.{with_bounds_fields}
 
--- x is the greatest number at most n that leaves c on division by s: it does, it is at most n, and each number
--- that is so is at most x.
+-- x is the greatest number at most n that leaves c on division by s: it does, it is at most n, and
+-- each number that is so is at most x.
 pub record IsGreatestBelow (s c n x : ℕ) : Type 0 where
   pub congruent : x % s ≡ c
   pub at_most : x ≤ n
   pub near : n < x + s
   pub greatest : (y : ℕ) → y % s ≡ c → y ≤ n → y ≤ x
 
--- The fields of the upper half of a lawful capability's word: those that the capability and its length say, and
--- no reserved bit.
+-- The fields of the upper half of a lawful capability's word: those that the capability and its
+-- length say, and no reserved bit.
 pub record HasItsFields (c : Capability) : Type 0 where
   pub perms : word_perms (upper_of c) ≡ c.perms
   pub reserved : word_reserved (upper_of c) ≡ 0

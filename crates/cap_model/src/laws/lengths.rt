@@ -1,11 +1,11 @@
-//! Laws on the exponent and the granule of a length (CHERI Concentrate, "internal exponents").
+//! Laws on the exponent and the alignment of a length (CHERI Concentrate, "internal exponents").
+#![tactic(auto, using(crate::proofs::Rulesets::lengths))]
 
 ghost use Rattle.std.specs.Prelude.{◌≡◌, ℕ, ◌+◌, ◌*◌, ◌/◌, ◌^◌, ◌<◌, ◌≤◌, Bool, IsTrue, IsFalse};
 ghost use Rattle.cap_model.specs.bounds.Numbers.{first_from};
-ghost use Rattle.cap_model.specs.bounds.Lengths.{exponent, internal_exponent, granule};
+ghost use Rattle.cap_model.specs.bounds.Lengths.{exponent, internal_exponent, alignment};
 
 /// A search answers the least number that passes the test, where one of those that it tries does.
-#[tactic(auto, using(crate::proofs::Rounding::Searches::search_laws))]
 pub fn search_finds_the_least()
     ensures passes { (test : ℕ → Bool) (tries k n : ℕ) → k ≤ n → n < k + tries → IsTrue (test n) →
         IsTrue (test (first_from test tries k)) }
@@ -19,7 +19,6 @@ pub fn search_finds_the_least()
 
 /// The exponent of a length is 0 below 2^13, and from there on the greatest e with 2^(e+12) at most
 /// the length.
-#[tactic(auto, using(crate::proofs::Rounding::Exponents::exponent_laws))]
 pub fn exponent_is_greatest()
     ensures small { (len : ℕ) → len < 2 ^ 13 → exponent len ≡ 0 }
     ensures bottom { (len : ℕ) → 2 ^ 13 ≤ len → 2 ^ (exponent len + 12) ≤ len }
@@ -29,7 +28,6 @@ pub fn exponent_is_greatest()
 {}
 
 /// The exponent of a length is the number of binary digits of the length divided by 2^13.
-#[tactic(auto, using(crate::proofs::Rounding::Exponents::exponent_digits))]
 pub fn exponent_counts_digits()
     ensures { (len digits : ℕ) → len ≤ 2 ^ 64 → len / 2 ^ 13 < 2 ^ digits →
         2 ^ digits ≤ 2 * (len / 2 ^ 13) + 1 →
@@ -37,16 +35,14 @@ pub fn exponent_counts_digits()
 {}
 
 /// The internal exponent bit is 0 below 2^12, and 1 from there on.
-#[tactic(auto, using(crate::proofs::Rounding::Exponents::internal_exponent_laws))]
 pub fn internal_exponent_by_length()
     ensures small { (len : ℕ) → len < 2 ^ 12 → internal_exponent len ≡ 0 }
     ensures long { (len : ℕ) → 2 ^ 12 ≤ len → internal_exponent len ≡ 1 }
 {}
 
-/// The granule is 1 below 2^12, and 2^(E+3) from there on: a power of two.
-#[tactic(auto, using(crate::proofs::Rounding::Exponents::granule_laws))]
-pub fn granule_by_length()
-    ensures small { (len : ℕ) → len < 2 ^ 12 → granule len ≡ 1 }
-    ensures long { (len : ℕ) → 2 ^ 12 ≤ len → granule len ≡ 2 ^ (exponent len + 3) }
-    ensures power { (len : ℕ) → (n : ℕ) × (granule len ≡ 2 ^ n) }
+/// The alignment is 1 below 2^12, and 2^(E+3) from there on: a power of two.
+pub fn alignment_by_length()
+    ensures small { (len : ℕ) → len < 2 ^ 12 → alignment len ≡ 1 }
+    ensures long { (len : ℕ) → 2 ^ 12 ≤ len → alignment len ≡ 2 ^ (exponent len + 3) }
+    ensures power { (len : ℕ) → (n : ℕ) × (alignment len ≡ 2 ^ n) }
 {}

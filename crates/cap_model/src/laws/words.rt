@@ -2,7 +2,8 @@
 //! address of the window (CHERI ISA v9, "capability encoding"; CHERI Concentrate, "representable
 //! region").
 
-ghost use Rattle.std.specs.Prelude.{◌≡◌, ℕ, ◌+◌, ◌-◌, ◌*◌, ◌/◌, ◌%◌, ◌^◌, ◌<◌, ◌≤◌, ◌↔◌, Bool, true};
+ghost use Rattle.std.specs.Prelude.{◌≡◌, ℕ, ◌+◌, ◌-◌, ◌*◌, ◌/◌, ◌%◌, ◌^◌, ◌<◌, ◌≤◌, ◌↔◌};
+ghost use Rattle.std.specs.Prelude.{Bool, true};
 ghost use Rattle.cap_model.specs.bounds.Window.{IsInWindow};
 ghost use Rattle.cap_model.specs.words.Fields.{with_null_fields, word_exponent, word_b, word_t14};
 ghost use Rattle.cap_model.specs.words.RawBounds.{region_floor, region_start, raw_base, raw_top};
@@ -104,7 +105,7 @@ pub fn raw_bounds_fit()
     ensures top { (upper a : ℕ) → raw_top upper a < 2 ^ 65 }
 {}
 
-/// The bounds that a word says are multiples of the granule of their length, whether or not a
+/// The bounds that a word says are multiples of the alignment of their length, whether or not a
 /// capability has the word, where its top is at most 2^64. A base above the top makes a length of
 /// 0.
 pub fn raw_bounds_are_aligned()
