@@ -47,7 +47,24 @@ impl Perms {
     pub const SW3: Perms = Perms(1 << permission::SW3);
 
     /// Every permission that there is.
-    pub const ALL: Perms = Perms(0x7_8FFF);
+    pub const ALL: Perms = Perms(
+        Perms::GLOBAL.0
+            | Perms::EXECUTE.0
+            | Perms::LOAD.0
+            | Perms::STORE.0
+            | Perms::LOAD_CAP.0
+            | Perms::STORE_CAP.0
+            | Perms::STORE_LOCAL.0
+            | Perms::SEAL.0
+            | Perms::CINVOKE.0
+            | Perms::UNSEAL.0
+            | Perms::SYSREGS.0
+            | Perms::SET_CID.0
+            | Perms::SW0.0
+            | Perms::SW1.0
+            | Perms::SW2.0
+            | Perms::SW3.0,
+    );
 
     /// The flags in bit order, under their names in listings.
     const FLAGS: &'static [Flag<Perms>] = &[

@@ -14,6 +14,7 @@ ghost use Rattle.cap_model.specs.declared.otype.TheConstants.{
   UNSEALED_TYPE,
 };
 ghost use Rattle.cap_model.specs.declared.permission.TheConstants as permission;
+ghost use Rattle.cap_model.specs.declared.perms.TheConstants.Perms.{ALL};
 
 /// The format's numbers: the address space, the greatest exponent, null's fields, and the object
 /// types.
@@ -26,7 +27,7 @@ pub fn format_numbers()
     ensures last_sealable { LAST_SEALABLE_TYPE ≡ 262139 }
 {}
 
-/// The permissions' numbers, in the order of their names in listings.
+/// The permissions' numbers, in the order of their names in listings, and the set of them all.
 pub fn permission_numbers()
     ensures access { permission.GLOBAL ∷ permission.EXECUTE ∷ permission.LOAD ∷ permission.STORE
         ∷ permission.LOAD_CAP ∷ permission.STORE_CAP ∷ permission.STORE_LOCAL ∷ []
@@ -35,4 +36,5 @@ pub fn permission_numbers()
         ∷ permission.SYSREGS ∷ permission.SET_CID ∷ [] ≡ 7 ∷ 8 ∷ 9 ∷ 10 ∷ 11 ∷ [] }
     ensures software { permission.SW0 ∷ permission.SW1 ∷ permission.SW2 ∷ permission.SW3 ∷ []
         ≡ 15 ∷ 16 ∷ 17 ∷ 18 ∷ [] }
+    ensures all { ALL.0 ≡ 0x78FFF }
 {}
