@@ -29,5 +29,5 @@ mask_long len e fits not_short same_e =
           rw (alignment_of_rounding 0 len fits, rounding_alignment_long 0 len long, ← same_e) refl
     ]
 
--- the alignment masks of short and of long ranges
-pub ruleset alignment_masks = (rounding_holds, mask_short, mask_long)
+-- the length, and the alignment masks of short and of long ranges
+pub ruleset at_zero = (length_is_top, rounding_holds, mask_short, mask_long)

@@ -69,4 +69,4 @@ pub same_below_65 : (steps more s start : ℕ) → steps * s + 2 ^ 66 ≡ start 
     (steps + more) * s % 2 ^ 65 ≡ (start + more * s) % 2 ^ 65
 same_below_65 steps more s start h = omega arith
 
-pub ruleset same_bounds = (same_below_64, same_below_65)
+pub ruleset places = (steps_of_start, start_below_64, same_below_64, same_below_65)

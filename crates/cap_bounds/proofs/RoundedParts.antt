@@ -1,6 +1,7 @@
 -- The parts of a rounding, in the forms in which the code computes them.
 use Rattle.std.proofs.Common.{◌≡◌, ℕ, ◌+◌, ◌-◌, ◌/◌, ◌%◌, ◌^◌, ◌<◌, ◌≤◌, bit_and, sym, ◌∙◌, arith}
 use Rattle.std.proofs.lemmas.Nat.{and_mask}
+use Rattle.cap_bounds.proofs.Digits.{exponent_by_zeros}
 use Rattle.cap_model.specs.bounds.Numbers.{round_down, round_up}
 use Rattle.cap_model.specs.bounds.Lengths.{exponent, internal_exponent}
 use Rattle.cap_model.specs.bounds.Rounding.{rounding_exponent, rounded_base, rounded_top}
@@ -65,3 +66,6 @@ pub ruleset short_parts = (short_rounding, short_fields)
 pub ruleset long_parts = (rounding_holds, long_fields)
 
 pub ruleset rounded_parts = (rounding_holds, field_widths)
+
+-- all of it, with a length's exponent
+pub ruleset roundings = (exponent_by_zeros, short_parts, long_parts, rounded_parts)

@@ -1,5 +1,6 @@
 //! The length and the alignment that a program asks for to get exact bounds (CHERI ISA v9,
 //! CRoundRepresentableLength and CRepresentableAlignmentMask).
+#![tactic(auto, using(crate::proofs::AtZero::at_zero), unfolding(crate::proofs::Open::length))]
 
 ghost use Rattle.std.specs.Prelude.{◌≡◌};
 ghost use Rattle.cap_model.specs.bounds.Alignment.{representable_length, alignment_mask};
@@ -7,7 +8,6 @@ ghost use Rattle.cap_model.specs.bounds.Alignment.{representable_length, alignme
 use crate::rounding::set_bounds;
 
 /// CRRL: the length rounded at base 0, modulo 2^64.
-#[tactic(auto, using(crate::proofs::AtZero::length_is_top), unfolding(crate::proofs::Open::length))]
 pub fn crrl(len: u64) -> u64
     ensures { result ≡ representable_length len }
 {
@@ -17,7 +17,6 @@ pub fn crrl(len: u64) -> u64
 
 /// CRAM: the mask that aligns a base for a length that `crrl` gives: 2^64 less the alignment of
 /// that length.
-#[tactic(auto, using(crate::proofs::AtZero::alignment_masks))]
 pub fn cram(len: u64) -> u64
     ensures { result ≡ alignment_mask len }
 {

@@ -4,6 +4,7 @@
 //! All is counted in steps of 2^E: where the address's region begins, and how far into it each
 //! bound lies. The one shift by E comes last, so that no size of a region is computed and no shift
 //! is too far.
+#![tactic(auto, using(crate::proofs::Regions::places), unfolding(crate::proofs::Open::regions))]
 
 ghost use Rattle.std.specs.Prelude.{◌≡◌, ◌+◌, ◌-◌, ◌*◌, ◌%◌, ◌^◌, ◌≤◌, ◌<◌};
 ghost use Rattle.cap_model.specs.words.Fields.{word_exponent, word_b};
@@ -27,7 +28,6 @@ const FIRST_UNCORRECTED_EXPONENT: u8 = 51;
 ///
 /// The base is below 2^64 and the top below 2^65. The top of a word that no instruction makes may
 /// lie below its base.
-#[tactic(auto, using(crate::proofs::Regions::same_bounds), unfolding(crate::proofs::Open::raw))]
 pub fn decode(upper: u64, addr: u64) -> (u64, u128)
     ensures base { result.0 ≡ raw_base upper addr }
     ensures top { result.1 ≡ raw_top upper addr }
@@ -41,7 +41,6 @@ pub fn decode(upper: u64, addr: u64) -> (u64, u128)
 }
 
 /// Where the region of the address begins, modulo 2^64.
-#[tactic(auto, using(crate::proofs::Regions::start_below_64))]
 pub(crate) fn region_origin(upper: u64, addr: u64) -> u64
     ensures { result ≡ region_start (word_exponent upper) (word_b upper) addr % 2 ^ 64 }
 {
@@ -51,7 +50,6 @@ pub(crate) fn region_origin(upper: u64, addr: u64) -> u64
 
 /// Where regions begin, modulo their size, in steps of 2^E: one step of the top three bits of B
 /// below them.
-#[tactic(auto, unfolding(cap_model::specs::words::RawBounds::region_floor))]
 fn floor_steps(b: u16) -> u64
     requires { b < 2 ^ 14 }
     ensures value { result ≡ region_floor b }
@@ -62,7 +60,6 @@ fn floor_steps(b: u16) -> u64
 
 /// Where the region of the address begins, in steps of 2^E. It is counted from 2^66 steps below 0,
 /// as it may lie below 0; the model counts it from 2^66 below 0. Either is 0 modulo 2^65.
-#[tactic(auto, using(crate::proofs::Regions::steps_of_start), unfolding(crate::proofs::Open::from))]
 fn region_steps(e: u8, b: u16, addr: u64) -> u128
     requires exponent { e ≤ 52 }
     requires digits { b < 2 ^ 14 }
@@ -104,7 +101,6 @@ fn top_of_steps(e: u8, steps: u128) -> u128
 }
 
 /// The top with its bit 64 inverted where base and top would else lie too far apart.
-#[tactic(auto, unfolding(cap_model::specs::words::RawBounds::corrected_top))]
 fn with_top_bit(e: u8, base: u64, top: u128) -> u128
     requires { top < 2 ^ 65 }
     ensures { result ≡ corrected_top e base top }

@@ -1,5 +1,6 @@
 //! Rounding of a requested range to bounds that a capability can have (CHERI Concentrate, "encoding
 //! of bounds"; CHERI ISA v9, CSetBounds).
+#![tactic(auto, using(crate::proofs::RoundedParts::roundings))]
 
 ghost use Rattle.std.specs.Prelude.{◌≡◌, ◌+◌, ◌-◌, ◌^◌, ◌<◌, ◌≤◌, ◌↔◌, IsTrue};
 ghost use Rattle.cap_model.specs.bounds.Numbers.{round_down, round_up};
@@ -37,7 +38,6 @@ struct Widened {
 }
 
 /// The exponent of a length: the number of binary digits from bit 13 on.
-#[tactic(auto, using(crate::proofs::Digits::exponent_by_zeros))]
 fn exponent_of(len: u128) -> u8
     requires { len ≤ 2 ^ 64 }
     ensures value { result ≡ exponent len }
@@ -80,7 +80,6 @@ fn round_long(base: u64, len: u128) -> Widened
 }
 
 /// A range that is shorter than 2^12: it needs no rounding.
-#[tactic(auto, using(crate::proofs::RoundedParts::short_parts))]
 fn short_bounds(base: u64, len: u128) -> Rounded
     requires { len < 2 ^ 12 }
     ensures ie { result.ie ≡ internal_exponent len }
@@ -106,7 +105,6 @@ fn short_bounds(base: u64, len: u128) -> Rounded
 }
 
 /// A range of 2^12 or more, rounded at its exponent, of which B and T hold the two halves.
-#[tactic(auto, using(crate::proofs::RoundedParts::long_parts))]
 fn long_bounds(base: u64, len: u128) -> Rounded
     requires long { 2 ^ 12 ≤ len }
     requires length { len ≤ 2 ^ 64 }
@@ -136,7 +134,6 @@ fn long_bounds(base: u64, len: u128) -> Rounded
 /// The rounding of the range of `len` addresses from `base` on: the least bounds that hold it, at
 /// the least exponent that can encode them, and their fields. Where the range ends past the address
 /// space the same rules apply to whole numbers.
-#[tactic(auto, using(crate::proofs::RoundedParts::rounded_parts))]
 pub fn set_bounds(base: u64, len: u128) -> Rounded
     requires { len ≤ 2 ^ 64 }
     ensures ie { result.ie ≡ internal_exponent len }

@@ -1,4 +1,5 @@
 //! The fields of a 128-bit word, taken out of its upper half (CHERI ISA v9, "capability encoding").
+#![tactic(auto, unfolding(crate::proofs::Open::fields))]
 
 ghost use Rattle.std.specs.Prelude.{◌≡◌, ◌≤◌, ◌<◌, ◌^◌};
 ghost use Rattle.cap_model.specs.words.Fields.{
@@ -39,14 +40,12 @@ pub fn fields(upper: u64) -> Fields
 }
 
 /// The fields without the exclusive-or.
-#[tactic(auto, unfolding(cap_model::specs::words::Fields::with_null_fields))]
 fn plain_fields(upper: u64) -> u64
     ensures { result ≡ with_null_fields upper }
 {
     upper ^ NULL_FIELDS
 }
 
-#[tactic(auto, unfolding(cap_model::specs::words::Fields::word_perms))]
 fn perms_field(upper: u64) -> u32
     ensures { result ≡ word_perms upper }
 {
@@ -54,28 +53,24 @@ fn perms_field(upper: u64) -> u32
     (field >> 12 << 15) | (field & 0xfff)
 }
 
-#[tactic(auto, unfolding(cap_model::specs::words::Fields::word_otype))]
 fn otype_field(upper: u64) -> u32
     ensures { result ≡ word_otype upper }
 {
     ((plain_fields(upper) >> 27) & 0x3_ffff) as u32
 }
 
-#[tactic(auto, unfolding(cap_model::specs::words::Fields::word_flag))]
 fn flag_field(upper: u64) -> u8
     ensures { result ≡ word_flag upper }
 {
     ((plain_fields(upper) >> 45) & 1) as u8
 }
 
-#[tactic(auto, unfolding(cap_model::specs::words::Fields::word_reserved))]
 fn reserved_field(upper: u64) -> u8
     ensures { result ≡ word_reserved upper }
 {
     ((plain_fields(upper) >> 46) & 3) as u8
 }
 
-#[tactic(auto, unfolding(cap_model::specs::words::Fields::word_ie))]
 fn ie_field(upper: u64) -> u8
     ensures value { result ≡ word_ie upper }
     ensures below { result < 2 }
@@ -84,7 +79,6 @@ fn ie_field(upper: u64) -> u8
 }
 
 /// T as stored: with IE 1 its low three bits are the exponent's high ones.
-#[tactic(auto, unfolding(cap_model::specs::words::Fields::stored_t))]
 fn stored_t_field(upper: u64) -> u16
     ensures value { result ≡ stored_t upper }
     ensures below { result < 2 ^ 12 }
@@ -93,7 +87,6 @@ fn stored_t_field(upper: u64) -> u16
 }
 
 /// B as stored: with IE 1 its low three bits are the exponent's low ones.
-#[tactic(auto, unfolding(cap_model::specs::words::Fields::stored_b))]
 fn stored_b_field(upper: u64) -> u16
     ensures value { result ≡ stored_b upper }
     ensures below { result < 2 ^ 14 }
@@ -102,7 +95,6 @@ fn stored_b_field(upper: u64) -> u16
 }
 
 /// The exponent E, at most 52.
-#[tactic(auto, unfolding(cap_model::specs::words::Fields::word_exponent))]
 pub(crate) fn exponent_field(upper: u64) -> u8
     ensures value { result ≡ word_exponent upper }
     ensures at_most { result ≤ 52 }
@@ -116,7 +108,6 @@ pub(crate) fn exponent_field(upper: u64) -> u8
 }
 
 /// B, in which the bits of the exponent count as 0.
-#[tactic(auto, unfolding(cap_model::specs::words::Fields::word_b))]
 pub(crate) fn b_digits(upper: u64) -> u16
     ensures value { result ≡ word_b upper }
     ensures below { result < 2 ^ 14 }
@@ -130,7 +121,6 @@ pub(crate) fn b_digits(upper: u64) -> u16
 }
 
 /// The twelve stored bits of T, in which the bits of the exponent count as 0.
-#[tactic(auto, unfolding(cap_model::specs::words::Fields::word_t))]
 fn t_digits(upper: u64) -> u16
     ensures value { result ≡ word_t upper }
     ensures below { result < 2 ^ 12 }
@@ -145,7 +135,6 @@ fn t_digits(upper: u64) -> u16
 
 /// T of fourteen bits: the two that are not stored follow from B, from a carry where T's stored
 /// bits lie below B's, and from IE (CHERI Concentrate, "decoding of bounds").
-#[tactic(auto, unfolding(cap_model::specs::words::Fields::word_t14))]
 pub(crate) fn full_t_digits(upper: u64) -> u16
     ensures value { result ≡ word_t14 upper }
     ensures below { result < 2 ^ 14 }
