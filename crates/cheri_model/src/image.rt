@@ -1,4 +1,5 @@
 //! Images: a program, and what the machine holds before its first step.
+#![tactic(auto, unfolding(crate::proofs::Open::images))]
 
 ghost use Rattle.std.specs.Prelude.{◌≡◌, IfOk, true};
 ghost use Rattle.std.specs.Cmp.Rules.{comparing};
@@ -126,7 +127,6 @@ fn is_granule(ram: u32, from: u64, addr: u64, value: Value) -> bool
 }
 
 /// Whether these granules, in this order, may be those of an image with this RAM.
-#[tactic(auto, unfolding(crate::specs::runs::ImageForm::are_granules))]
 fn are_granules(ram: u32, granules: &[(u64, Value)]) -> bool
     ensures { result ≡ are_granules ram ram_base granules.now }
 {
@@ -143,7 +143,6 @@ fn are_granules(ram: u32, granules: &[(u64, Value)]) -> bool
 impl Image {
     /// The image of these parts. `None` exactly where a size is outside its limits or a granule
     /// cannot be listed at its place. Takes no memory.
-    #[tactic(auto, unfolding(crate::specs::runs::ImageForm::image_of, crate::specs::runs::ImageForm::is_image))]
     pub fn new(
         program: Vec<Instr>,
         ram: u32,
