@@ -1,36 +1,47 @@
 -- Short names for hints: each definition opens what its own line names.
 use Rattle.std.specs.Prelude.{ℕ, Bool}
-use Rattle.cap_model.specs.values.Capability.{Capability, capability_at}
+use Rattle.std.proofs.lemmas.Nat.{and_le_l}
+use Rattle.cap_model.specs.words.Fields.{with_null_fields, word_otype}
+use Rattle.cap_model.specs.values.Capability.{capability_at}
 use Rattle.cap_model.specs.values.CapValue.{CapValue}
-use Rattle.cap_model.specs.results.EditedWords.{word_with_upper, with_rounded_fields}
+use Rattle.cap_model.specs.results.EditedWords.{with_perms, with_flag, with_otype}
+use Rattle.cap_model.specs.results.EditedWords.{with_bounds_fields, with_rounded_fields}
+use Rattle.cap_model.specs.results.EditedWords.{word_with_upper}
+use Rattle.cap_model.specs.results.Addresses.{address_of, inc_offset, length_of}
 use Rattle.cap_model.specs.results.Fields.{set_high}
-use Rattle.cap_model.specs.words.Fields.{word_otype}
-use Rattle.cap_model.specs.results.Addresses.{address_of, inc_offset}
-use Rattle.cap_model.proofs.Results.Values.{perms_known}
-
-unfoldable pub parts : ℕ → Capability
-unfolding capability_at
-parts word = capability_at word
-
-unfoldable pub otype : ℕ → ℕ
-unfolding capability_at word_otype
-otype word = (capability_at word).otype
+use Rattle.cap_model.specs.results.Readings.{offset_of, type_number_of, is_subset, is_equal_exact}
+use Rattle.cap_model.proofs.Results.Values.{perms_known, top_lt}
+use Rattle.cap_model.proofs.Results.FieldResultsMade.{unsealed_perms_known}
 
 unfoldable pub address : CapValue → ℕ
 unfolding capability_at address_of
 address v = address_of v
 
-unfoldable pub offset : CapValue → ℕ → CapValue
-unfolding inc_offset address_of
-offset v distance = inc_offset v distance
+unfoldable pub integer : CapValue → ℕ
+unfolding address_of
+integer v = address_of v
 
-unfoldable pub high : CapValue → ℕ → CapValue
-unfolding set_high word_with_upper
-high v upper = set_high v upper
+unfoldable pub fields : ℕ → ℕ → ℕ → ℕ
+unfolding with_null_fields with_perms with_flag with_otype with_bounds_fields with_rounded_fields
+fields upper base len = with_rounded_fields upper base len
 
-unfoldable pub rounded : ℕ → ℕ → ℕ → ℕ
-unfolding with_rounded_fields
-rounded upper base len = with_rounded_fields upper base len
+unfoldable pub readings : CapValue → ℕ
+unfolding capability_at word_otype length_of offset_of type_number_of
+readings v = length_of v
 
--- the permissions of a lawful value
-pub ruleset perms = (perms_known)
+unfoldable pub changes : CapValue → ℕ → CapValue
+unfolding inc_offset address_of set_high word_with_upper
+changes v distance = inc_offset v distance
+
+unfoldable pub comparisons : CapValue → CapValue → Bool
+unfolding is_subset is_equal_exact
+comparisons v w = is_subset v w
+
+-- the bounds and the permissions of a lawful value
+pub ruleset known = (top_lt, perms_known)
+
+-- permissions under a mask
+pub ruleset masks = (and_le_l)
+
+-- permissions after unsealing
+pub ruleset unsealing = (unsealed_perms_known)

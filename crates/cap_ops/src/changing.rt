@@ -1,5 +1,6 @@
 //! Changes of one part of a value. A value that is not open, or a change that is not allowed, gives
 //! the same edited word without a tag (CHERI ISA v9, "capability instructions").
+#![tactic(auto, using(crate::proofs::Open::masks), unfolding(crate::proofs::Open::changes))]
 
 ghost use Rattle.std.specs.Prelude.{◌≡◌, ◌+◌, ◌%◌, ◌^◌, ◌&&◌};
 ghost use Rattle.cap_model.specs.values.CapValue.{parts_of, IsLawfulValue};
@@ -37,7 +38,6 @@ impl Cap {
     }
 
     /// The address raised by an offset, modulo 2^64 (CIncOffset). The tag stays as in `set_addr`.
-    #[tactic(auto, unfolding(crate::proofs::Open::offset))]
     pub fn inc_offset(self, offset: u64) -> Cap
         ensures { result ≡ inc_offset self offset }
     {
@@ -81,7 +81,6 @@ impl Cap {
 
     /// Whether this is open and the range of `len` addresses from its address on lies in its
     /// bounds.
-    #[tactic(auto, unfolding(cap_model::specs::results::Addresses::address_of))]
     fn may_narrow(self, len: u64) -> bool
         ensures value { result ≡ (is_open self && in_bounds self (address_of self) len) }
         ensures lawful { IsLawfulValue self }
@@ -103,7 +102,6 @@ impl Cap {
 
     /// The permissions that are also in the mask, which has CGetPerm's form (CAndPerm). The tag
     /// stays where this is open.
-    #[tactic(auto, using(std::proofs::lemmas::Nat::and_le_l))]
     pub fn and_perm(self, mask: u64) -> Cap
         ensures { result ≡ and_perm self mask }
     {
@@ -120,7 +118,6 @@ impl Cap {
     }
 
     /// Another upper half, never with a tag (CSetHigh).
-    #[tactic(auto, unfolding(crate::proofs::Open::high))]
     pub fn set_high(self, upper: u64) -> Cap
         ensures { result ≡ set_high self upper }
     {

@@ -1,4 +1,5 @@
 //! Comparisons of two values, tagged or not (CHERI ISA v9, "capability instructions").
+#![tactic(auto, unfolding(crate::proofs::Open::comparisons))]
 
 ghost use Rattle.std.specs.Prelude.{◌≡◌};
 ghost use Rattle.cap_model.specs.values.CapValue.{parts_of};
@@ -16,7 +17,6 @@ fn same_tag(first: bool, second: bool) -> bool
 impl Cap {
     /// Whether the tags are equal, and the other's bounds and permissions lie in this one's
     /// (CTestSubset). Object types are not compared.
-    #[tactic(auto, unfolding(cap_model::specs::results::Readings::is_subset))]
     pub fn test_subset(self, other: Cap) -> bool
         ensures { result ≡ is_subset self other }
     {
@@ -43,7 +43,6 @@ impl Cap {
     }
 
     /// Whether the tags and the words are equal (CSetEqualExact).
-    #[tactic(auto, unfolding(cap_model::specs::results::Readings::is_equal_exact))]
     pub fn equal_exact(self, other: Cap) -> bool
         ensures { result ≡ is_equal_exact self other }
     {

@@ -1,4 +1,5 @@
 //! Fields of upper halves, and upper halves with one field replaced.
+#![tactic(auto, using(crate::proofs::Exactness::rounded), unfolding(crate::proofs::Open::fields))]
 
 ghost use Rattle.std.specs.Prelude.{◌≡◌, ◌/◌, ◌^◌, ◌<◌, ◌≤◌};
 ghost use Rattle.cap_model.specs.words.Fields.{with_null_fields, perms_of_field};
@@ -15,7 +16,6 @@ use cap_bounds::set_bounds;
 use cap_model::NULL_FIELDS;
 
 /// The fields of an upper half, or the upper half with these fields.
-#[tactic(auto, unfolding(cap_model::specs::words::Fields::with_null_fields))]
 pub(crate) fn exclusive_or_null(upper: u64) -> u64
     ensures { result ≡ with_null_fields upper }
 {
@@ -38,7 +38,6 @@ pub(crate) fn shown_permissions(field: u16) -> u32
 }
 
 /// The upper half with other permissions, which are its high 16 bits.
-#[tactic(auto, unfolding(cap_model::specs::results::EditedWords::with_perms))]
 pub(crate) fn with_perms(upper: u64, perms: u32) -> u64
     requires { perms < 2 ^ 19 }
     ensures { result ≡ with_perms upper perms }
@@ -48,7 +47,6 @@ pub(crate) fn with_perms(upper: u64, perms: u32) -> u64
 }
 
 /// The upper half with another flag, which is its bit 45.
-#[tactic(auto, unfolding(cap_model::specs::results::EditedWords::with_flag))]
 pub(crate) fn with_flag(upper: u64, flag: u8) -> u64
     requires { flag < 2 }
     ensures { result ≡ with_flag upper flag }
@@ -58,7 +56,6 @@ pub(crate) fn with_flag(upper: u64, flag: u8) -> u64
 }
 
 /// The upper half with another object type, which is its 18 bits from bit 27 on.
-#[tactic(auto, unfolding(cap_model::specs::results::EditedWords::with_otype))]
 pub(crate) fn with_otype(upper: u64, otype: u32) -> u64
     requires { otype < 2 ^ 18 }
     ensures { result ≡ with_otype upper otype }
@@ -68,7 +65,6 @@ pub(crate) fn with_otype(upper: u64, otype: u32) -> u64
 }
 
 /// The upper half with other fields IE, T and B, which are its low 27 bits.
-#[tactic(auto, unfolding(cap_model::specs::results::EditedWords::with_bounds_fields))]
 pub(crate) fn with_bounds_fields(upper: u64, ie: u8, t: u16, b: u16) -> u64
     requires ie { ie < 2 }
     requires t { t < 2 ^ 12 }
@@ -81,7 +77,6 @@ pub(crate) fn with_bounds_fields(upper: u64, ie: u8, t: u16, b: u16) -> u64
 
 /// The upper half whose bounds fields are those of the rounding of base and length, and whether
 /// that is exact.
-#[tactic(auto, using(crate::proofs::Exactness::rounded), unfolding(crate::proofs::Open::rounded))]
 pub(crate) fn with_rounded_fields(upper: u64, base: u64, len: u128) -> (u64, bool)
     requires { len ≤ 2 ^ 64 }
     ensures fields { result.0 ≡ with_rounded_fields upper base len }

@@ -1,4 +1,5 @@
 //! What instructions read off a value, tagged or not. Nothing here decodes the bounds.
+#![tactic(auto, using(crate::proofs::Open::known), unfolding(crate::proofs::Open::readings))]
 
 ghost use Rattle.std.specs.Prelude.{◌≡◌, ◌+◌, ◌^◌, ◌<◌, ◌≤◌, ◌&&◌};
 ghost use Rattle.cap_model.specs.values.CapValue.{tag_of, parts_of, IsLawfulValue};
@@ -24,7 +25,6 @@ use cap_model::{LAST_SEALABLE_TYPE, OType, Perms, UNSEALED_TYPE};
 impl Cap {
     /// The bounds: the base, and the top, which is the first address above them. The top of a word
     /// that no instruction makes may lie below its base.
-    #[tactic(auto, using(cap_model::proofs::Results::Values::top_lt))]
     pub fn bounds(self) -> (u64, u128)
         ensures base { result.0 ≡ base_of self }
         ensures top { result.1 ≡ top_of self }
@@ -42,7 +42,6 @@ impl Cap {
     }
 
     /// The length (CGetLen): the top less the base modulo 2^65, and 2^64 - 1 where that is more.
-    #[tactic(auto, unfolding(cap_model::specs::results::Addresses::length_of))]
     pub fn len(self) -> u64
         ensures { result ≡ length_of self }
     {
@@ -52,7 +51,6 @@ impl Cap {
     }
 
     /// The address less the base, modulo 2^64 (CGetOffset).
-    #[tactic(auto, unfolding(cap_model::specs::results::Readings::offset_of))]
     pub fn offset(self) -> u64
         ensures { result ≡ offset_of self }
     {
@@ -68,7 +66,6 @@ impl Cap {
     }
 
     /// The permissions as the bits that CGetPerm shows.
-    #[tactic(auto, using(crate::proofs::Open::perms), unfolding(crate::proofs::Open::parts))]
     pub(crate) fn permission_bits(self) -> u32
         ensures value { result ≡ permissions_of self }
         ensures known { IsPermissionSet result }
@@ -79,7 +76,6 @@ impl Cap {
     }
 
     /// The object type, of 18 bits.
-    #[tactic(auto, unfolding(crate::proofs::Open::otype))]
     pub fn object_type(self) -> OType
         ensures { result ≡ object_type_of self }
     {
@@ -88,7 +84,6 @@ impl Cap {
 
     /// The object type as an integer register has it (CGetType): a type above the sealable ones is
     /// sign-extended from 18 bits, so that unsealed is 2^64 - 1.
-    #[tactic(auto, unfolding(cap_model::specs::results::Readings::type_number_of))]
     pub fn otype(self) -> u64
         ensures { result ≡ type_number_of self }
     {
@@ -101,7 +96,6 @@ impl Cap {
     }
 
     /// The flag, 0 or 1 (CGetFlags).
-    #[tactic(auto, unfolding(cap_model::specs::values::Capability::capability_at))]
     pub fn flags(self) -> u8
         ensures { result ≡ flags_of self }
     {

@@ -1,4 +1,5 @@
 //! Sealing and unsealing by object type (CHERI ISA v9, "sealed capabilities").
+#![tactic(auto, using(crate::proofs::Open::unsealing), unfolding(crate::proofs::Open::integer))]
 
 ghost use Rattle.std.specs.Prelude.{◌≡◌, ◌%◌, ◌^◌, ◌<◌, ◌==◌, ◌&&◌};
 ghost use Rattle.cap_model.specs.values.CapValue.{tag_of, parts_of, IsLawfulValue};
@@ -71,7 +72,6 @@ impl Cap {
     }
 
     /// Whether this may be sealed under the authority.
-    #[tactic(auto, unfolding(cap_model::specs::results::Addresses::address_of))]
     fn may_seal(self, authority: Cap) -> bool
         ensures value { result ≡ (is_open self && has_type_authority authority seal_permission
             && is_sealable (address_of authority)) }
@@ -87,7 +87,6 @@ impl Cap {
     }
 
     /// Whether this may be unsealed under the authority.
-    #[tactic(auto, unfolding(cap_model::specs::results::Addresses::address_of))]
     fn may_unseal(self, authority: Cap) -> bool
         ensures value { result ≡ (tag_of self && is_sealable (parts_of self).otype
             && has_type_authority authority unseal_permission
@@ -121,7 +120,6 @@ impl Cap {
 
     /// Whether this has authority, by the permission with this number, over the object type that is
     /// its address.
-    #[tactic(auto, unfolding(cap_model::specs::results::Addresses::address_of))]
     fn has_type_authority(self, permission: u32) -> bool
         requires { permission < 19 }
         ensures { result ≡ has_type_authority self permission }
@@ -138,7 +136,6 @@ impl Cap {
     }
 
     /// The permissions after unsealing under the authority.
-    #[tactic(auto, using(cap_model::proofs::Results::FieldResultsMade::unsealed_perms_known))]
     fn unsealed_perms(self, authority: Cap) -> u32
         ensures value { result ≡ unsealed_perms self authority }
         ensures known { IsPermissionSet result }
