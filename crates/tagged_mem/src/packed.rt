@@ -1,4 +1,5 @@
 //! The bytes of RAM, in the order of their addresses, and a bitmap with one tag for each granule.
+#![tactic(auto, unfolding(crate::proofs::Open::packed))]
 
 ghost use Rattle.std.specs.Prelude.{◌≡◌, ◌≢◌, ◌+◌, ◌/◌, ◌%◌, ◌^◌, ◌*◌, ◌<◌, ◌≤◌, ℕ, length};
 ghost use Rattle.std.specs.Int.{bit_at};
@@ -11,7 +12,6 @@ use cap_ops::Cap;
 use cheri_model::{Value, Width};
 
 /// The word of the sixteen bytes from `place` on.
-#[tactic(auto, unfolding(crate::specs::Packed::number_at))]
 pub fn word_at(bytes: &[u8], place: usize) -> u128
     requires { place + 16 ≤ length bytes.now }
     ensures { result ≡ number_at bytes.now place 16 }
@@ -20,7 +20,6 @@ pub fn word_at(bytes: &[u8], place: usize) -> u128
 }
 
 /// The number of the eight bytes from `place` on.
-#[tactic(auto, unfolding(crate::specs::Packed::number_at))]
 pub fn double_at(bytes: &[u8], place: usize) -> u64
     requires { place + 8 ≤ length bytes.now }
     ensures { result ≡ number_at bytes.now place 8 }
@@ -38,7 +37,6 @@ pub fn double_at(bytes: &[u8], place: usize) -> u64
 }
 
 /// The number of the bytes from `place` on, as many as `width` has.
-#[tactic(auto, unfolding(crate::specs::Packed::number_at))]
 pub fn data_at(bytes: &[u8], place: usize, width: Width) -> u64
     requires { place + bytes_of width ≤ length bytes.now }
     ensures { result ≡ number_at bytes.now place (bytes_of width) }
@@ -82,7 +80,6 @@ fn with_bit(byte: u8, place: usize, set: bool) -> u8
 }
 
 /// The tag of a granule.
-#[tactic(auto, unfolding(crate::specs::Packed::tag_at))]
 pub fn tag_at(tags: &[u8], granule: usize) -> bool
     requires { granule / 8 < length tags.now }
     ensures { result ≡ tag_at tags.now granule }

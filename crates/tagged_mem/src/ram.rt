@@ -1,5 +1,6 @@
 //! RAM as its bytes and a bitmap of tags. A data access touches its bytes and one bit; a capability
 //! is unpacked where it is loaded and packed where it is stored.
+#![tactic(auto, unfolding(crate::proofs::Open::memory))]
 
 ghost use Rattle.std.specs.Prelude.{
   ◌≡◌,
@@ -141,7 +142,6 @@ impl Ram {
     }
 
     /// The number that the bytes from `addr` on are, the least significant first, whatever the tag.
-    #[tactic(auto, unfolding(crate::proofs::Open::load))]
     pub fn load(&self, addr: u64, width: Width) -> u64
         requires { IsTrue (fits self.now addr (bytes_of width)) }
         ensures { result ≡ load_data self.now addr (bytes_of width) }
@@ -151,7 +151,6 @@ impl Ram {
 
     /// Stores the low bytes of `number` from `addr` on, the least significant first. The granule
     /// loses its tag.
-    #[tactic(auto, unfolding(crate::proofs::Open::store))]
     pub fn store(&mut self, addr: u64, width: Width, number: u64)
         requires { IsTrue (fits self.old addr (bytes_of width)) }
         ensures { self.new ≡ store_data self.old addr (bytes_of width) number }
@@ -163,7 +162,6 @@ impl Ram {
     }
 
     /// The granule at `addr`, with its tag.
-    #[tactic(auto, unfolding(cheri_model::specs::steps::Memory::load_capability))]
     pub fn load_cap(&self, addr: u64) -> Cap
         requires { IsTrue (fits self.now addr 16) }
         ensures value { result ≡ load_capability self.now addr }
@@ -173,7 +171,6 @@ impl Ram {
     }
 
     /// Replaces the granule at `addr`, tag and all.
-    #[tactic(auto, unfolding(crate::proofs::Open::store_cap))]
     pub fn store_cap(&mut self, addr: u64, value: Cap)
         requires { IsTrue (fits self.old addr 16) }
         ensures { self.new ≡ store_capability self.old addr value }
@@ -194,8 +191,9 @@ impl Ram {
         self.store_cap(addr, value);
         old
     }
-    /// Clears the tag of every capability whose base lies in the addresses from `lo` up to `hi`, and
-    /// says how many that is. The bytes stay. Takes no memory.
+
+    /// Clears the tag of every capability whose base lies in the addresses from `lo` up to `hi`,
+    /// and says how many that is. The bytes stay. Takes no memory.
     pub fn sweep(&mut self, lo: u64, hi: u128) -> u32
         ensures memory { self.new ≡ swept_memory lo hi self.old }
         ensures cleared { result ≡ cleared_in_memory lo hi self.old }

@@ -15,7 +15,8 @@ fn sweep_granule(bytes: &[u8], tags: &mut [u8], granule: usize, lo: u64, hi: u12
     requires packed { IsPackedRam bytes.now tags.old }
     requires inside { granule < length bytes.now / 16 }
     ensures swept { IsSweptBetween lo hi bytes.now tags.old tags.new granule (granule + 1) }
-    ensures cleared { result ≡ number_of (is_in_sweep lo hi (packed_at bytes.now tags.old granule)) }
+    ensures cleared { result ≡ number_of
+        (is_in_sweep lo hi (packed_at bytes.now tags.old granule)) }
 {
     let tag = tag_at(tags, granule);
     if !tag {
