@@ -90,7 +90,7 @@ pub(crate) enum Action {
 }
 
 /// What an instruction asks for, by its form.
-#[tactic(auto, unfolding(cheri_model::specs::instructions::Form::instr_of, cheri_model::specs::steps::Actions::action))]
+#[tactic(auto, unfolding(crate::proofs::Open::forms))]
 fn asked_by_form(form: Form, hart: &Hart) -> Action
     ensures { asks result ≡ action (instr_of form) hart.now }
 {

@@ -1,4 +1,5 @@
 //! One step of one hart: the fetch, then what the instruction asks for.
+#![tactic(auto, unfolding(crate::proofs::Open::done))]
 
 ghost use Rattle.std.specs.Prelude.{◌≡◌, true, if◌then◌else◌};
 ghost use Rattle.cheri_model.specs.steps.Actions.{
@@ -42,7 +43,6 @@ fn loaded(signed: bool, width: Width, number: u64) -> u64
 }
 
 /// A loaded capability, which keeps its tag only under the permission Load_Capability.
-#[tactic(auto, unfolding(cheri_model::specs::steps::HartStep::permitted))]
 fn permitted(auth: Cap, value: Cap) -> Cap
     ensures { result ≡ permitted auth value }
 {
@@ -54,7 +54,6 @@ fn permitted(auth: Cap, value: Cap) -> Cap
 }
 
 /// Loads a number.
-#[tactic(auto, unfolding(crate::proofs::Open::done))]
 fn load(
     hart: &mut Hart,
     ram: &Ram,
@@ -82,7 +81,6 @@ fn load(
 }
 
 /// Stores the low bytes of a number.
-#[tactic(auto, unfolding(crate::proofs::Open::done))]
 fn store(hart: &mut Hart, ram: &mut Ram, c1: Reg, addr: u64, width: Width, number: u64) -> Outcome
     requires open { is_open hart.old.pcc ≡ true }
     requires within { in_bounds hart.old.pcc (address_of hart.old.pcc) 4 ≡ true }
@@ -101,7 +99,6 @@ fn store(hart: &mut Hart, ram: &mut Ram, c1: Reg, addr: u64, width: Width, numbe
 }
 
 /// Loads a capability.
-#[tactic(auto, unfolding(crate::proofs::Open::done))]
 fn load_cap(hart: &mut Hart, ram: &Ram, cd: Reg, c1: Reg, addr: u64) -> Outcome
     requires open { is_open hart.old.pcc ≡ true }
     requires within { in_bounds hart.old.pcc (address_of hart.old.pcc) 4 ≡ true }
@@ -120,7 +117,6 @@ fn load_cap(hart: &mut Hart, ram: &Ram, cd: Reg, c1: Reg, addr: u64) -> Outcome
 }
 
 /// Stores a capability.
-#[tactic(auto, unfolding(crate::proofs::Open::done))]
 fn store_cap(hart: &mut Hart, ram: &mut Ram, c1: Reg, addr: u64, value: Cap) -> Outcome
     requires open { is_open hart.old.pcc ≡ true }
     requires within { in_bounds hart.old.pcc (address_of hart.old.pcc) 4 ≡ true }
@@ -139,7 +135,6 @@ fn store_cap(hart: &mut Hart, ram: &mut Ram, c1: Reg, addr: u64, value: Cap) -> 
 }
 
 /// Loads a capability and stores another in its place.
-#[tactic(auto, unfolding(crate::proofs::Open::done))]
 fn swap(hart: &mut Hart, ram: &mut Ram, cd: Reg, c1: Reg, addr: u64, value: Cap) -> Outcome
     requires open { is_open hart.old.pcc ≡ true }
     requires within { in_bounds hart.old.pcc (address_of hart.old.pcc) 4 ≡ true }
@@ -159,7 +154,6 @@ fn swap(hart: &mut Hart, ram: &mut Ram, cd: Reg, c1: Reg, addr: u64, value: Cap)
 }
 
 /// Goes to a target where a condition holds.
-#[tactic(auto, unfolding(crate::proofs::Open::done))]
 fn branch(hart: &mut Hart, ram: &Ram, taken: bool, target: u64) -> Outcome
     requires open { is_open hart.old.pcc ≡ true }
     requires within { in_bounds hart.old.pcc (address_of hart.old.pcc) 4 ≡ true }
@@ -181,7 +175,6 @@ fn branch(hart: &mut Hart, ram: &Ram, taken: bool, target: u64) -> Outcome
 }
 
 /// Goes to a target, and leaves a link.
-#[tactic(auto, unfolding(crate::proofs::Open::done))]
 fn jump(hart: &mut Hart, ram: &Ram, cd: Reg, target: u64) -> Outcome
     requires open { is_open hart.old.pcc ≡ true }
     requires within { in_bounds hart.old.pcc (address_of hart.old.pcc) 4 ≡ true }
@@ -200,7 +193,6 @@ fn jump(hart: &mut Hart, ram: &Ram, cd: Reg, target: u64) -> Outcome
 }
 
 /// Goes to a target through a capability, and leaves a link.
-#[tactic(auto, unfolding(crate::proofs::Open::done))]
 fn jump_through(
     hart: &mut Hart,
     ram: &Ram,
@@ -227,7 +219,6 @@ fn jump_through(
 }
 
 /// Goes to a target through a sealed pair, and leaves its data in c31.
-#[tactic(auto, unfolding(crate::proofs::Open::done))]
 fn invoke(hart: &mut Hart, ram: &Ram, c1: Reg, c2: Reg, target: u64) -> Outcome
     ensures { execute (Invoke c1 c2 target) hart.old ram.now
         ≡ record { hart = hart.new; memory = ram.now; outcome = result } }
@@ -245,7 +236,6 @@ fn invoke(hart: &mut Hart, ram: &Ram, c1: Reg, c2: Reg, target: u64) -> Outcome
 
 /// Does what an instruction asks for after a fetch, which found PCC open and the instruction in its
 /// bounds.
-#[tactic(auto, unfolding(cheri_model::specs::steps::HartStep::execute))]
 fn execute(action: Action, hart: &mut Hart, ram: &mut Ram) -> Outcome
     requires open { is_open hart.old.pcc ≡ true }
     requires within { in_bounds hart.old.pcc (address_of hart.old.pcc) 4 ≡ true }

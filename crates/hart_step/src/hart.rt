@@ -1,4 +1,5 @@
 //! One hart: its registers, PCC and status.
+#![tactic(auto, unfolding(crate::proofs::Open::hart))]
 
 ghost use Rattle.std.specs.Prelude.{◌≡◌, ◌≤◌, ◌∷◌, All, count_by, map, true};
 ghost use Rattle.cheri_model.specs.runs.Authority.{EachOfHart};
@@ -79,7 +80,6 @@ fn sweep_registers(regs: &mut [Cap; 32], lo: u64, hi: u128) -> u32
 
 impl Hart {
     /// The hart before its first step.
-    #[tactic(auto, unfolding(cheri_model::specs::runs::Image::opening_hart))]
     pub fn open(image: &HartImage) -> Hart
         ensures same { result ≡ opening_hart image.now }
         ensures lawful { EachOfHart IsLawfulValue result }
@@ -94,7 +94,6 @@ impl Hart {
     }
 
     /// A register's value.
-    #[tactic(auto, unfolding(cheri_model::specs::steps::Hart::register))]
     pub fn register(&self, reg: Reg) -> Cap
         ensures value { result ≡ register self.now reg }
         ensures lawful { IsLawfulValue result }
@@ -119,7 +118,6 @@ impl Hart {
     }
 
     /// Writes a register; a write to c0 is dropped.
-    #[tactic(auto, unfolding(cheri_model::specs::steps::Hart::put))]
     pub fn put(&mut self, cd: Reg, value: Cap)
         ensures value { self.new ≡ put cd value self.old }
         ensures pcc { self.new.pcc ≡ self.old.pcc }
@@ -132,7 +130,6 @@ impl Hart {
     }
 
     /// Advances PCC after a successful fetch.
-    #[tactic(auto, unfolding(cheri_model::specs::steps::Hart::next))]
     pub fn advance(&mut self)
         requires open { is_open self.old.pcc ≡ true }
         requires within { in_bounds self.old.pcc (address_of self.old.pcc) 4 ≡ true }

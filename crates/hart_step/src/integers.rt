@@ -1,4 +1,5 @@
 //! The integer operations (RISC-V unprivileged ISA, "RV64I").
+#![tactic(auto, using(crate::proofs::Open::low), unfolding(crate::proofs::Open::integers))]
 
 ghost use Rattle.std.specs.Prelude.{◌≡◌, ◌%◌, ◌/◌, ◌*◌, ◌^◌, ◌<◌};
 ghost use Rattle.cheri_model.specs.instructions.Integers.{
@@ -35,7 +36,6 @@ pub fn number_of(holds: bool) -> u64
 }
 
 /// Whether one number is less than another, both read as signed.
-#[tactic(auto, unfolding(cheri_model::specs::instructions::Integers::is_less_signed))]
 pub fn is_less_signed(a: u64, b: u64) -> bool
     ensures { result ≡ is_less_signed a b }
 {
@@ -43,7 +43,6 @@ pub fn is_less_signed(a: u64, b: u64) -> bool
 }
 
 /// A shift to the left, by the amount modulo 64.
-#[tactic(auto, unfolding(cheri_model::specs::instructions::Integers::shifted_left))]
 pub fn shifted_left(a: u64, amount: u64) -> u64
     ensures { result ≡ shifted_left a amount }
 {
@@ -51,7 +50,6 @@ pub fn shifted_left(a: u64, amount: u64) -> u64
 }
 
 /// A shift to the right, by the amount modulo 64.
-#[tactic(auto, unfolding(cheri_model::specs::instructions::Integers::shifted_right))]
 pub fn shifted_right(a: u64, amount: u64) -> u64
     ensures { result ≡ shifted_right a amount }
 {
@@ -59,7 +57,6 @@ pub fn shifted_right(a: u64, amount: u64) -> u64
 }
 
 /// The same, with the sign in the high bits.
-#[tactic(auto, unfolding(cheri_model::specs::instructions::Integers::shifted_arithmetic))]
 pub fn shifted_arithmetic(a: u64, amount: u64) -> u64
     ensures { result ≡ shifted_arithmetic a amount }
 {
@@ -74,7 +71,6 @@ fn low_word(number: u64) -> u32
 }
 
 /// A number of 32 bits, sign-extended.
-#[tactic(auto, unfolding(cheri_model::specs::instructions::Integers::extended_word))]
 fn extended_word(number: u32) -> u64
     ensures { result ≡ extended_word number }
 {
@@ -82,7 +78,6 @@ fn extended_word(number: u32) -> u64
 }
 
 /// The sum of the low 32 bits.
-#[tactic(auto, using(crate::proofs::Open::low), unfolding(crate::proofs::Open::words))]
 pub fn word_sum(a: u64, b: u64) -> u64
     ensures { result ≡ word_sum a b }
 {
@@ -90,7 +85,6 @@ pub fn word_sum(a: u64, b: u64) -> u64
 }
 
 /// The difference of the low 32 bits.
-#[tactic(auto, using(crate::proofs::Open::low), unfolding(crate::proofs::Open::words))]
 pub fn word_difference(a: u64, b: u64) -> u64
     ensures { result ≡ word_difference a b }
 {
@@ -98,7 +92,6 @@ pub fn word_difference(a: u64, b: u64) -> u64
 }
 
 /// The low 32 bits shifted to the left, by the amount modulo 32.
-#[tactic(auto, using(crate::proofs::Open::low), unfolding(crate::proofs::Open::words))]
 pub fn word_shifted_left(a: u64, amount: u64) -> u64
     ensures { result ≡ word_shifted_left a amount }
 {
@@ -106,7 +99,6 @@ pub fn word_shifted_left(a: u64, amount: u64) -> u64
 }
 
 /// The low 32 bits shifted to the right, by the amount modulo 32.
-#[tactic(auto, unfolding(cheri_model::specs::instructions::Integers::word_shifted_right))]
 pub fn word_shifted_right(a: u64, amount: u64) -> u64
     ensures { result ≡ word_shifted_right a amount }
 {
@@ -114,7 +106,6 @@ pub fn word_shifted_right(a: u64, amount: u64) -> u64
 }
 
 /// The same, with the sign of the 32 bits in the high ones.
-#[tactic(auto, unfolding(cheri_model::specs::instructions::Integers::word_shifted_arithmetic))]
 pub fn word_shifted_arithmetic(a: u64, amount: u64) -> u64
     ensures { result ≡ word_shifted_arithmetic a amount }
 {
@@ -122,7 +113,6 @@ pub fn word_shifted_arithmetic(a: u64, amount: u64) -> u64
 }
 
 /// What LUI writes and AUIPC adds: the immediate times 2^12, of 32 bits, sign-extended.
-#[tactic(auto, using(crate::proofs::Open::low), unfolding(crate::proofs::Open::words))]
 pub fn upper_immediate(imm: u32) -> u64
     ensures { result ≡ upper_immediate imm }
 {
@@ -130,7 +120,6 @@ pub fn upper_immediate(imm: u32) -> u64
 }
 
 /// A loaded number of a width, sign-extended.
-#[tactic(auto, unfolding(cheri_model::specs::instructions::Integers::extended))]
 pub fn extended(width: Width, number: u64) -> u64
     ensures { result ≡ extended width number }
 {

@@ -1,4 +1,5 @@
 //! The instructions with an immediate or a shift amount.
+#![tactic(auto, using(crate::proofs::Open::back), unfolding(crate::proofs::Open::immediates))]
 
 ghost use Rattle.std.specs.Prelude.{◌≡◌};
 ghost use Rattle.cheri_model.specs.steps.Actions.{action};
@@ -22,7 +23,6 @@ use cheri_model::Reg;
 use cheri_model::form::{ImmediateOp, ShiftOp, UpperOp, WordShiftOp};
 
 /// What an instruction with a signed immediate asks for.
-#[tactic(auto, using(crate::proofs::Open::back), unfolding(crate::proofs::Open::immediate))]
 pub fn immediate_action(op: ImmediateOp, cd: Reg, c1: Reg, imm: i16, hart: &Hart) -> Action
     ensures { asks result ≡ action (immediate_instr op cd c1 imm) hart.now }
 {
@@ -41,7 +41,6 @@ pub fn immediate_action(op: ImmediateOp, cd: Reg, c1: Reg, imm: i16, hart: &Hart
 }
 
 /// What a shift by an amount asks for.
-#[tactic(auto, unfolding(crate::proofs::Open::shift))]
 pub fn shift_action(op: ShiftOp, cd: Reg, c1: Reg, amount: u8, hart: &Hart) -> Action
     ensures { asks result ≡ action (shift_instr op cd c1 amount) hart.now }
 {
@@ -54,7 +53,6 @@ pub fn shift_action(op: ShiftOp, cd: Reg, c1: Reg, amount: u8, hart: &Hart) -> A
 }
 
 /// What a shift of 32 bits by an amount asks for.
-#[tactic(auto, unfolding(crate::proofs::Open::word_shift))]
 pub fn word_shift_action(op: WordShiftOp, cd: Reg, c1: Reg, amount: u8, hart: &Hart) -> Action
     ensures { asks result ≡ action (word_shift_instr op cd c1 amount) hart.now }
 {
@@ -67,7 +65,6 @@ pub fn word_shift_action(op: WordShiftOp, cd: Reg, c1: Reg, amount: u8, hart: &H
 }
 
 /// What CSetBounds with an immediate asks for.
-#[tactic(auto, using(crate::proofs::Open::back), unfolding(crate::proofs::Open::bounds))]
 pub fn set_bounds_action(cd: Reg, c1: Reg, len: u16, hart: &Hart) -> Action
     ensures { asks result ≡ action (CSetBoundsImm cd c1 len) hart.now }
 {
@@ -75,7 +72,6 @@ pub fn set_bounds_action(cd: Reg, c1: Reg, len: u16, hart: &Hart) -> Action
 }
 
 /// What an instruction with an immediate for the upper bits asks for.
-#[tactic(auto, using(crate::proofs::Open::back), unfolding(crate::proofs::Open::upper))]
 pub fn upper_action(op: UpperOp, cd: Reg, imm: u32, hart: &Hart) -> Action
     ensures { asks result ≡ action (upper_instr op cd imm) hart.now }
 {

@@ -1,4 +1,5 @@
 //! The branches and CInvoke, and the addresses of targets.
+#![tactic(auto, unfolding(crate::proofs::Open::jumps))]
 
 ghost use Rattle.std.specs.Prelude.{◌≡◌};
 ghost use Rattle.cheri_model.specs.steps.Actions.{action, address_of_target};
@@ -14,7 +15,6 @@ use cheri_model::form::BranchOp;
 use cheri_model::{CODE_BASE, INSTRUCTION_BYTES, Reg, Target};
 
 /// The address of an instruction.
-#[tactic(auto, unfolding(cheri_model::specs::steps::Actions::address_of_target))]
 pub fn address_of_target(target: Target) -> u64
     ensures { result ≡ address_of_target target }
 {
@@ -22,7 +22,6 @@ pub fn address_of_target(target: Target) -> u64
 }
 
 /// What a branch asks for.
-#[tactic(auto, unfolding(crate::proofs::Open::branch))]
 pub fn branch_action(op: BranchOp, c1: Reg, c2: Reg, target: Target, hart: &Hart) -> Action
     ensures { asks result ≡ action (branch_instr op c1 c2 target) hart.now }
 {
@@ -42,7 +41,6 @@ pub fn branch_action(op: BranchOp, c1: Reg, c2: Reg, target: Target, hart: &Hart
 }
 
 /// What CInvoke asks for.
-#[tactic(auto, unfolding(cheri_model::specs::steps::Actions::action))]
 pub fn invoke_action(c1: Reg, c2: Reg, hart: &Hart) -> Action
     ensures { asks result ≡ action (CInvoke c1 c2) hart.now }
 {

@@ -1,4 +1,5 @@
 //! The loads and stores, and CJALR, which has a load's operands.
+#![tactic(auto, unfolding(crate::proofs::Open::accesses))]
 
 ghost use Rattle.std.specs.Prelude.{◌≡◌};
 ghost use Rattle.cheri_model.specs.steps.Actions.{action, even};
@@ -20,7 +21,6 @@ pub fn even(addr: u64) -> u64
 }
 
 /// What a load, or CJALR, asks for.
-#[tactic(auto, unfolding(crate::proofs::Open::load))]
 pub fn load_action(op: LoadOp, cd: Reg, c1: Reg, imm: i16, hart: &Hart) -> Action
     ensures { asks result ≡ action (load_instr op cd c1 imm) hart.now }
 {
@@ -52,7 +52,6 @@ pub fn load_action(op: LoadOp, cd: Reg, c1: Reg, imm: i16, hart: &Hart) -> Actio
 }
 
 /// What a store asks for.
-#[tactic(auto, unfolding(crate::proofs::Open::store))]
 pub fn store_action(op: StoreOp, c2: Reg, c1: Reg, imm: i16, hart: &Hart) -> Action
     ensures { asks result ≡ action (store_instr op c2 c1 imm) hart.now }
 {
@@ -75,7 +74,6 @@ pub fn store_action(op: StoreOp, c2: Reg, c1: Reg, imm: i16, hart: &Hart) -> Act
 }
 
 /// What AMOSWAP.C asks for.
-#[tactic(auto, unfolding(cheri_model::specs::steps::Actions::action))]
 pub fn swap_action(cd: Reg, c2: Reg, c1: Reg, hart: &Hart) -> Action
     ensures { asks result ≡ action (AmoSwapC cd c2 c1) hart.now }
 {

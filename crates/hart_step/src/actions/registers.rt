@@ -1,4 +1,5 @@
 //! The instructions on two and three registers.
+#![tactic(auto, unfolding(crate::proofs::Open::registers))]
 
 ghost use Rattle.std.specs.Prelude.{◌≡◌, ◌%◌, ◌^◌};
 ghost use Rattle.cheri_model.specs.steps.Actions.{action, Put};
@@ -44,7 +45,6 @@ pub fn put_truth(cd: Reg, holds: bool) -> Action
 }
 
 /// What an instruction on three registers asks for.
-#[tactic(auto, unfolding(crate::proofs::Open::three))]
 pub fn three_action(op: ThreeOp, cd: Reg, c1: Reg, c2: Reg, hart: &Hart) -> Action
     ensures { asks result ≡ action (three_instr op cd c1 c2) hart.now }
 {
@@ -82,7 +82,6 @@ pub fn three_action(op: ThreeOp, cd: Reg, c1: Reg, c2: Reg, hart: &Hart) -> Acti
 }
 
 /// What an instruction on two registers asks for.
-#[tactic(auto, unfolding(crate::proofs::Open::two))]
 pub fn two_action(op: TwoOp, cd: Reg, c1: Reg, hart: &Hart) -> Action
     ensures { asks result ≡ action (two_instr op cd c1) hart.now }
 {

@@ -1,4 +1,5 @@
 //! The check of a fetch: whether the instruction at PCC may run.
+#![tactic(auto, unfolding(crate::proofs::Open::fetches))]
 
 ghost use Rattle.std.specs.Prelude.{
   ◌≡◌,
@@ -35,7 +36,6 @@ fn is_in_code(count: usize, addr: u64) -> bool
 }
 
 /// The first check of a fetch that fails, in a program of `count` instructions.
-#[tactic(auto, unfolding(cheri_model::specs::steps::Checks::fetch_table))]
 fn fetch_check(pcc: Cap, count: usize) -> Result<(), Trap>
     ensures { result ≡ first_failing (fetch_table pcc count) }
 {
@@ -60,7 +60,6 @@ fn instruction(program: &[Instr], number: usize) -> Instr
 
 /// The instruction at PCC, or the trap of the first check of its fetch that fails. After a fetch
 /// PCC is open and has the instruction in its bounds.
-#[tactic(auto, unfolding(cheri_model::specs::steps::HartStep::instruction_at))]
 pub fn fetch(program: &[Instr], pcc: Cap) -> Result<Instr, Trap>
     ensures fetched { OnOk result (first_failing (fetch_table pcc (length program.now)) ≡ Ok tt) }
     ensures open { OnOk result (is_open pcc ≡ true) }

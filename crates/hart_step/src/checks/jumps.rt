@@ -1,5 +1,6 @@
 //! The checks of jumps. A jump that passes its check has four bytes at its target in the bounds of
 //! what becomes PCC.
+#![tactic(auto, unfolding(crate::proofs::Open::jump_checks))]
 
 ghost use Rattle.std.specs.Prelude.{◌≡◌, ◌&&◌, ◌||◌, not, OnOk, true};
 ghost use Rattle.cap_model.specs.values.Capability.{unsealed_type, sentry_type};
@@ -20,7 +21,6 @@ use cap_ops::Cap;
 use cheri_model::permission::{CINVOKE, EXECUTE};
 use cheri_model::{INSTRUCTION_BYTES, LAST_SEALABLE_TYPE, SENTRY_TYPE, Trap, UNSEALED_TYPE};
 
-#[tactic(auto, unfolding(cheri_model::specs::steps::Checks::target_table))]
 fn target_verdict(pcc: Cap, target: u64) -> Result<(), Trap>
     ensures { result ≡ first_failing (target_table pcc target) }
 {
@@ -45,7 +45,6 @@ fn may_enter(through: Cap, is_entry: bool) -> bool
     number == UNSEALED_TYPE || (number == SENTRY_TYPE && is_entry)
 }
 
-#[tactic(auto, unfolding(cheri_model::specs::steps::Checks::jump_table))]
 fn jump_verdict(through: Cap, reg: u8, is_entry: bool, target: u64) -> Result<(), Trap>
     ensures { result ≡ first_failing (jump_table through reg is_entry target) }
 {
@@ -90,7 +89,6 @@ fn executable(cap: Cap, reg: u8) -> Line
     check(cap.has_permission(EXECUTE), Trap::EXECUTE, reg)
 }
 
-#[tactic(auto, unfolding(cheri_model::specs::steps::Checks::invoke_table))]
 fn invoke_verdict(code: Cap, c1: u8, data_cap: Cap, c2: u8, target: u64) -> Result<(), Trap>
     ensures { result ≡ first_failing (invoke_table code c1 data_cap c2 target) }
 {
