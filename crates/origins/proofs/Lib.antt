@@ -1,0 +1,5 @@
+-- The lemmas behind the laws.
+pub mod Made
+pub mod Writes
+pub mod StepOrigins
+pub mod RunOrigins

@@ -1,0 +1,32 @@
+//! The places of a machine's values, and where a step takes them.
+
+/// A place as one hart names it.
+#[derive(Clone, Copy, Debug, PartialEq, Eq)]
+pub enum Spot {
+    /// Its PCC.
+    Pcc,
+    /// Its register with this number.
+    Register(u8),
+    /// The granule of memory with this number.
+    Granule(u32),
+}
+
+/// A place of the machine.
+#[derive(Clone, Copy, Debug, PartialEq, Eq)]
+pub enum Place {
+    /// The PCC of the hart with this number.
+    PccOf(u8),
+    /// A register of a hart.
+    RegisterOf { hart: u8, number: u8 },
+    /// The granule of memory with this number.
+    GranuleOf(u32),
+}
+
+/// That a step sets one place to what comes from another.
+#[derive(Clone, Copy, Debug, PartialEq, Eq)]
+pub struct Flow {
+    /// What is set.
+    pub set: Spot,
+    /// Where its value comes from, as it was before the step.
+    pub source: Spot,
+}
