@@ -3,3 +3,4 @@ pub mod Made
 pub mod Writes
 pub mod StepOrigins
 pub mod RunOrigins
+pub mod Slots

@@ -80,7 +80,6 @@ pub IsOf-entered : (v : CapValue) (target : ℕ) → IsOf (with_address (unseale
 IsOf-entered v target =
     IsOf-through _ (unsealed v) v (IsOf-with_address (unsealed v) target) (IsOf-unsealed v)
 
-
 kept_or_cleared : (b : Bool) (v : CapValue) → IsOf (if b then v else clear_tag v) v
 kept_or_cleared true v = IsOf-itself v
 kept_or_cleared false v = tt

@@ -52,7 +52,7 @@ module _ (hart : HartState) (memory : List CapValue) where
   put_from cd n s v made = elim (cases_Bool (cd == 0)) [
     | inl zero ↦ rw zero (IsOf-itself (register hart n))
     | inr some ↦ rw some (at_set (λ x. IsOf x (before (if cd == n then s else Register n))) hart.regs cd n v null tt
-          (λ same. rw same made) (λ other. rw other (IsOf-itself (register hart n))))
+        (λ same. rw same made) (λ other. rw other (IsOf-itself (register hart n))))
   ]
 
   -- an integer in cd is made of nothing
@@ -61,7 +61,7 @@ module _ (hart : HartState) (memory : List CapValue) where
   put_integer cd n word = elim (cases_Bool (cd == 0)) [
     | inl zero ↦ rw zero (IsOf-itself (register hart n))
     | inr some ↦ rw some (at_set (λ x. IsOf x (register hart n)) hart.regs cd n (raw word) null tt
-          (λ same. tt) (λ other. IsOf-itself (register hart n)))
+        (λ same. tt) (λ other. IsOf-itself (register hart n)))
   ]
 
   -- a capability stored in a granule is made of its source

@@ -24,10 +24,10 @@ pub at_set : {X : Type 0} (P : X → Type 0) (xs : List X) (i n : ℕ) (x d : X)
     ((i == n) ≡ true → P x) → ((i == n) ≡ false → P (slice_index_or xs n d)) → P (slice_index_or (slice_set xs i x) n d)
 at_set P xs i n x d past here elsewhere = elim (cases_Bool (i == n)) [
   | inl same ↦
-    let is : i ≡ n = eqb-true i n same in
-    elim (cases_lt i (length xs)) [
-      | inl inside ↦ rw (← is, get_or-set_same xs i x d inside) (here same)
-      | inr outside ↦ rw (get_or_past (slice_set xs i x) n d (omega (arith, length-set xs i x))) past
-    ]
+      let is : i ≡ n = eqb-true i n same in
+      elim (cases_lt i (length xs)) [
+        | inl inside ↦ rw (← is, get_or-set_same xs i x d inside) (here same)
+        | inr outside ↦ rw (get_or_past (slice_set xs i x) n d (omega (arith, length-set xs i x))) past
+      ]
   | inr other ↦ rw (get_or-set_other xs i n x d (λ e. eqb-false i n other (sym e))) (elsewhere other)
 ]

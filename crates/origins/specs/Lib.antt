@@ -3,3 +3,4 @@ pub mod Places
 pub mod Flows
 pub mod Origins
 pub mod OriginLaw
+pub mod Table

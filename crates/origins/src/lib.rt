@@ -8,5 +8,9 @@
 
 pub mod laws;
 mod place;
+mod step_flows;
+mod table;
 
+pub use step_flows::{StepFlows, flows};
 pub use place::{Flow, Place, Spot};
+pub use table::OriginTable;

@@ -1,5 +1,8 @@
 //! The places of a machine's values, and where a step takes them.
 
+ghost use Rattle.std.specs.Prelude.{◌≡◌};
+ghost use Rattle.origins.specs.Places.{place_of};
+
 /// A place as one hart names it.
 #[derive(Clone, Copy, Debug, PartialEq, Eq)]
 pub enum Spot {
@@ -29,4 +32,17 @@ pub struct Flow {
     pub set: Spot,
     /// Where its value comes from, as it was before the step.
     pub source: Spot,
+}
+
+impl Spot {
+    /// The place that the hart with this number names so.
+    pub fn of(self, hart: u8) -> Place
+        ensures { result ≡ place_of hart self }
+    {
+        match self {
+            Spot::Pcc => Place::PccOf(hart),
+            Spot::Register(number) => Place::RegisterOf { hart, number },
+            Spot::Granule(number) => Place::GranuleOf(number),
+        }
+    }
 }
