@@ -1,5 +1,5 @@
 -- Places and their slots, one to one; and a table after flows.
-use Rattle.std.proofs.Common.{◌≡◌, ℕ, ◌+◌, ◌-◌, ◌*◌, ◌/◌, ◌%◌, ◌==◌, ◌<◌, ◌≤◌, ◌^◌, true, false, List, [], ◌∷◌, refl, sym, ap, subst, ◌∙◌, arith, inl, inr, length, eqb-true}
+use Rattle.std.proofs.Common.{◌≡◌, ℕ, ◌+◌, ◌-◌, ◌*◌, ◌/◌, ◌%◌, ◌==◌, ◌<◌, ◌≤◌, ◌^◌, true, false, List, [], ◌∷◌, ◌++◌, refl, sym, ap, subst, ◌∙◌, arith, inl, inr, length, eqb-true}
 use Rattle.std.specs.Prelude.{if◌then◌else◌, nat_lt, slice_index_or, slice_set}
 use Rattle.std.proofs.lemmas.Bool.{cases_Bool, cases_eq, eq-eqb, ne_eqb, lt-ltb, le-ltb, eqb-false}
 use Rattle.std.proofs.lemmas.List.{length-set, get_or-set_same, get_or-set_other}
@@ -10,8 +10,12 @@ use Rattle.origins.specs.declared.place.Place.TheVariants.{PccOf, RegisterOf, Gr
 use Rattle.origins.specs.declared.place.Flow.{Flow}
 use Rattle.origins.specs.Places.{place_of}
 use Rattle.origins.specs.Flows.{flow, source_of}
-use Rattle.origins.specs.Origins.{before_in, before_flows}
-use Rattle.origins.specs.Table.{Table, slot_of, IsPlaceIn, IsPlace, origin_in, with_origin, AreFlows, place_at, IsAfter}
+use Rattle.origins.specs.Origins.{before_in, before_flows, came_from}
+use Rattle.origins.specs.Table.{Table, slot_of, IsPlaceIn, IsPlace, origin_in, with_origin, AreFlows, place_at, IsAfter, IsOpening, TellsOrigins, next_flows}
+use Rattle.cheri_model.specs.declared.operation.Op.{Op}
+use Rattle.cheri_model.specs.declared.operation.Op.TheVariants as operation
+use Rattle.cheri_model.specs.runs.Image.{ImageParts}
+use Rattle.origins.proofs.RunOrigins.{origins_none, origins_push}
 
 -- a place's slot is there
 pub slot_inside : (harts count : ℕ) (place : Place) → 33 * harts ≤ count → IsPlaceIn harts count place → slot_of harts place < count
@@ -127,3 +131,37 @@ after_more number f rest table middle fits set after =
               ] in
           subst (λ h. slice_index_or (slice_set middle.slots (slot_of h (place_of number f.set)) x) (slot_of h place) place ≡ origin_in table (before_flows number (f ∷ rest) place)) (sym after.harts) now;
     }
+
+-- ---- tables along a run
+
+-- where a place's value was is a place too
+are_before : (table : Table) (number : ℕ) (flows : List Flow) (place : Place) → AreFlows table number flows → IsPlace table place →
+    IsPlace table (before_flows number flows place)
+are_before table number [] place are is = subst (IsPlace table) (sym (before_none number place)) is
+are_before table number (f ∷ rest) place are is =
+    let test = slot_of table.harts (place_of number f.set) == slot_of table.harts place in
+    let before = before_more table.harts (length table.slots) number f.set f.source rest place are.0 is in
+    let there : IsPlace table (if test then place_of number f.source else before_flows number rest place) =
+        elim test as (λ b. IsPlace table (if b then place_of number f.source else before_flows number rest place)) [
+          | true ↦ are.1
+          | false ↦ are_before table number rest place are.2 is
+        ] in
+    subst (IsPlace table) (sym before) there
+
+pub tells_step : (image : ImageParts) (order : List Op) (number : ℕ) (old new : Table) → AreFlows old number (next_flows image order number) →
+    IsAfter number (next_flows image order number) old new → TellsOrigins image order old →
+    TellsOrigins image (order ++ operation.Step number ∷ []) new
+unfolding came_from
+tells_step image order number old new are after tells place is =
+    let sized = subst (λ n. IsPlaceIn new.harts n place) after.size is in
+    let there = subst (λ h. IsPlaceIn h (length old.slots) place) after.harts sized in
+    after.origins place there ∙ tells _ (are_before old number (next_flows image order number) place are there)
+    ∙ sym (origins_push image order (operation.Step number) place)
+
+pub tells_sweep : (image : ImageParts) (order : List Op) (lo hi : ℕ) (table : Table) → TellsOrigins image order table →
+    TellsOrigins image (order ++ operation.Sweep lo hi ∷ []) table
+unfolding came_from
+tells_sweep image order lo hi table tells place is = tells place is ∙ sym (origins_push image order (operation.Sweep lo hi) place)
+
+pub tells_opening : (image : ImageParts) (count granules : ℕ) (table : Table) → IsOpening count granules table → TellsOrigins image [] table
+tells_opening image count granules table opening place is = opening.own place is ∙ sym (origins_none image place)

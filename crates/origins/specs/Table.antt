@@ -7,8 +7,13 @@ use Rattle.origins.specs.declared.step_flows.StepFlows.TheVariants.{Nothing, One
 use Rattle.origins.specs.declared.place.Flow.{Flow}
 use Rattle.origins.specs.declared.place.Place.{Place}
 use Rattle.origins.specs.declared.place.Place.TheVariants.{PccOf, RegisterOf, GranuleOf}
+use Rattle.cheri_model.specs.declared.operation.Op.{Op}
+use Rattle.cheri_model.specs.runs.Image.{ImageParts}
+use Rattle.cheri_model.specs.runs.Machine.{hart_at}
+use Rattle.cheri_model.specs.runs.Replay.{replayed_state}
 use Rattle.origins.specs.Places.{place_of}
-use Rattle.origins.specs.Origins.{before_flows}
+use Rattle.origins.specs.Flows.{step_flows}
+use Rattle.origins.specs.Origins.{before_flows, replayed_origins}
 
 -- flows as the list that they are
 abbrev pub list_of : StepFlows → List Flow
@@ -71,3 +76,14 @@ pub record IsAfter (number : ℕ) (flows : List Flow) (old new : Table) : Type 0
   pub size : length new.slots ≡ length old.slots
   pub origins : (place : Place) → IsPlace old place →
       origin_in new place ≡ origin_in old (before_flows number flows place)
+
+-- it tells the origins after an order, for each place that it has
+abbrev pub TellsOrigins : ImageParts → List Op → Table → Type 0
+TellsOrigins image order table =
+    (place : Place) → IsPlace table place → origin_in table place ≡ replayed_origins image order place
+
+-- the flows of the step of a hart after an order
+abbrev pub next_flows : ImageParts → List Op → ℕ → List Flow
+next_flows image order number =
+    step_flows image.program (hart_at (replayed_state image order) number)
+    (replayed_state image order).memory
