@@ -45,7 +45,7 @@ module _ (P : CapValue → Type 0) (of_null : P null) where
       (All-set P memory (granule_number entry.0) entry.1 (All-head P entry.1 (map (λ entry. entry.1) granules) each) before)
 
   -- what holds of null and of each value of an image holds of each value of its opening state
-  opening_each : (image : ImageParts) → All P (values_of_image image) → EachOfState P (opening_state image)
+  pub opening_each : (image : ImageParts) → All P (values_of_image image) → EachOfState P (opening_state image)
   unfolding values_of_image opening_state opening_hart opening_memory
   opening_each image each =
       let granules = map (λ entry. entry.1) image.granules in
