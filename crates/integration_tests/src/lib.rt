@@ -20,3 +20,5 @@ mod samples;
 mod sweeps;
 #[cfg(test)]
 mod watches;
+#[cfg(test)]
+mod words;

@@ -1,6 +1,6 @@
 -- What copies of a core keep, and what was seen of their order.
-use Rattle.std.proofs.Common.{◌≡◌, ◌≢◌, ℕ, Bool, true, false, not, List, [], ◌∷◌, ◌++◌, length, fold, refl, sym, ap, subst, ◌∙◌, arith, ⊎_elim, inl, inr, ◌-◌, ◌<◌, length-append, get_or}
-use Rattle.std.specs.Prelude.{None, Some, Option, ◌⊎◌, Result, Ok, Err, nat_lt, if◌then◌else◌}
+use Rattle.std.proofs.Common.{◌≡◌, ◌≢◌, ℕ, Bool, true, false, not, List, [], ◌∷◌, ◌++◌, length, fold, refl, sym, ap, subst, ◌∙◌, arith, ◌-◌, ◌<◌, length-append, get_or}
+use Rattle.std.specs.Prelude.{None, Some, Option, Result, Ok, Err, nat_lt, if◌then◌else◌}
 use Rattle.std.proofs.Math.Seq.{get_or-append_seam}
 use Rattle.std.proofs.lemmas.List.{append-nil, length-map}
 use mathlib.Core.List.{IsPrefix}
@@ -11,8 +11,8 @@ use Rattle.cheri_model.specs.declared.operation.Event.TheVariants as event
 use Rattle.cheri_model.specs.declared.trace.Entry.{Entry}
 use Rattle.cheri_model.specs.runs.Image.{ImageParts}
 use Rattle.cheri_model.specs.runs.Sweeps.{is_range}
-use Rattle.cheri_model.specs.runs.Machine.{opening_state, entry_of, event_of, is_running, hart_at}
-use Rattle.cheri_model.specs.runs.Replay.{IsReplay, IsBeginning, operations_of, replayed_events}
+use Rattle.cheri_model.specs.runs.Machine.{MachineState, opening_state, entry_of, event_of, state_after_one, is_running, hart_at}
+use Rattle.cheri_model.specs.runs.Replay.{IsReplay, IsBeginning, events_of, operations_of, replayed_events}
 use Rattle.cheri_model.proofs.Runs.Replays.{events_beginning}
 use Rattle.history.specs.declared.seen.Token.{Token}
 use Rattle.history.specs.Orders.{OrderName, order}
@@ -40,6 +40,17 @@ pub trace_beginning : (image : ImageParts) (xs ys : List Op) → IsPrefix xs ys 
 unfolding replayed_events
 trace_beginning image xs ys p = events_beginning image (opening_state image) xs ys (p.0, sym p.1)
 
+-- a replay has an event for each operation
+length-events_of : (image : ImageParts) (state : MachineState) (order : List Op) → length (events_of image state order) ≡ length order
+unfolding events_of
+length-events_of image state [] = refl
+length-events_of image state (op ∷ order) =
+    let rest = length-events_of image (state_after_one image state op) order in omega (arith, rest)
+
+pub length-replayed_events : (image : ImageParts) (order : List Op) → length (replayed_events image order) ≡ length order
+unfolding replayed_events
+length-replayed_events image order = length-events_of image (opening_state image) order
+
 -- each trace begins with itself
 pub beginning_self : (xs : List Event) → IsBeginning xs xs
 beginning_self xs = ([], sym (append-nil xs))
@@ -52,47 +63,38 @@ pub image_after : (core : CoreParts) (op : Op) → (core_after core op).image �
 unfolding core_after
 image_after core op = refl
 
--- copies after a ticket for an operation that is not refused, and one that may tell
-abbrev pub TakesAndMayTell : List Ticket → Op → Token → Type 0
-TakesAndMayTell tickets op token = (tickets ≡ Take op ∷ []) ⊎ (tickets ≡ Take op ∷ Tell token ∷ [])
+-- the tickets of an operation, and of what was then seen of the order
+abbrev pub tickets_of : Op → Token → List Ticket
+tickets_of op token = Take op ∷ Tell token ∷ []
 
-pub may_tell : (tickets before : List Ticket) (op : Op) (token : Token) → before ≡ Take op ∷ [] →
-    (tickets ≡ before) ⊎ (tickets ≡ before ++ Tell token ∷ []) → TakesAndMayTell tickets op token
-may_tell tickets before op token one may = ⊎_elim
-    (λ (e : tickets ≡ before). inl (e ∙ one))
-    (λ (e : tickets ≡ before ++ Tell token ∷ []). inr (e ∙ ap (λ (ts : List Ticket). ts ++ Tell token ∷ []) one))
-    may
+pub grown_by : (tickets before : List Ticket) (first second : Ticket) → before ≡ first ∷ [] →
+    tickets ≡ before ++ second ∷ [] → tickets ≡ first ∷ second ∷ []
+grown_by tickets before first second one e = e ∙ ap (λ (ts : List Ticket). ts ++ second ∷ []) one
 
 taking : (shown : Shown) (op : Op) → refused shown.core op ≡ None → (shown_after shown (Take op)).core ≡ core_after shown.core op
 unfolding shown_after
 taking shown op is = applied_after shown.core op is
 
+-- copies after the tickets of an operation that is not refused
 pub taken_core : (shown : Shown) (op : Op) (token : Token) (tickets : List Ticket) → refused shown.core op ≡ None →
-    TakesAndMayTell tickets op token → (fold shown_after shown tickets).core ≡ core_after shown.core op
+    tickets ≡ tickets_of op token → (fold shown_after shown tickets).core ≡ core_after shown.core op
 unfolding shown_after
-taken_core shown op token tickets is may = ⊎_elim
-    (λ (e : tickets ≡ Take op ∷ []). ap (λ (ts : List Ticket). (fold shown_after shown ts).core) e ∙ taking shown op is)
-    (λ (e : tickets ≡ Take op ∷ Tell token ∷ []). ap (λ (ts : List Ticket). (fold shown_after shown ts).core) e ∙ taking shown op is)
-    may
+taken_core shown op token tickets is e =
+    ap (λ (ts : List Ticket). (fold shown_after shown ts).core) e ∙ taking shown op is
 
 pub taken_shown : (image : ImageParts) (name : OrderName) (shown : Shown) (op : Op) (token : Token) (tickets : List Ticket) →
-    refused shown.core op ≡ None → TakesAndMayTell tickets op token → token.seen.book ≡ name.book →
+    refused shown.core op ≡ None → tickets ≡ tickets_of op token → token.seen.book ≡ name.book →
     order name.first token.seen.log ≡ operations_of shown.core.trace ++ op ∷ [] → IsShown image name shown →
     IsShown image name (fold shown_after shown tickets)
 unfolding shown_after
-taken_shown image name shown op token tickets is may book new old =
+taken_shown image name shown op token tickets is e book new old =
     let after = applied_after shown.core op is in
-    let image' : (applied shown.core op).image ≡ image = ap (λ (c : CoreParts). c.image) after ∙ (image_after shown.core op ∙ old.image_is) in
-    let one : IsShown image name (fold shown_after shown (Take op ∷ [])) = record { image_is = image'; book_is = old.book_is; order_is = λ told. absurd (cc told) } in
-    let two : IsShown image name (fold shown_after shown (Take op ∷ Tell token ∷ [])) = record {
-      image_is = image';
+    let both : IsShown image name (fold shown_after shown (tickets_of op token)) = record {
+      image_is = ap (λ (c : CoreParts). c.image) after ∙ (image_after shown.core op ∙ old.image_is);
       book_is = book;
-      order_is = λ told. new ∙ (sym (operations_after shown.core op) ∙ ap (λ (c : CoreParts). operations_of c.trace) (sym after));
+      order_is = new ∙ (sym (operations_after shown.core op) ∙ ap (λ (c : CoreParts). operations_of c.trace) (sym after));
     } in
-    ⊎_elim
-    (λ (e : tickets ≡ Take op ∷ []). subst (λ (ts : List Ticket). IsShown image name (fold shown_after shown ts)) (sym e) one)
-    (λ (e : tickets ≡ Take op ∷ Tell token ∷ []). subst (λ (ts : List Ticket). IsShown image name (fold shown_after shown ts)) (sym e) two)
-    may
+    subst (λ (ts : List Ticket). IsShown image name (fold shown_after shown ts)) (sym e) both
 
 -- a core never refuses an operation with NoMemory
 pub refused_for_another : (core : CoreParts) (op : Op) (fault : StepFault) → Some fault ≡ refused core op → fault ≢ NoMemory

@@ -1,5 +1,5 @@
 -- What watchers are shown of a machine, and what was seen of its order of operations.
-use Rattle.std.specs.Prelude.{◌≡◌, true, false}
+use Rattle.std.specs.Prelude.{◌≡◌}
 use Rattle.cheri_model.specs.runs.Image.{ImageParts}
 use Rattle.cheri_model.specs.runs.Replay.{operations_of}
 use Rattle.history.specs.Orders.{OrderName, order}
@@ -10,11 +10,11 @@ use Rattle.machine.specs.declared.shown.Ticket.TheVariants.{Take, Tell}
 
 -- a copy after a ticket: an operation is applied; or it is told what was seen of the order
 unfoldable pub shown_after : Shown → Ticket → Shown
-shown_after shown (Take op) = record { core = applied shown.core op; token = shown.token; told = false }
-shown_after shown (Tell token) = record { core = shown.core; token = token; told = true }
+shown_after shown (Take op) = record { core = applied shown.core op; token = shown.token }
+shown_after shown (Tell token) = record { core = shown.core; token = token }
 
--- What watchers are shown is a core of this image. Where it says so, the order that was seen is that of its trace.
+-- What watchers are shown is a core of this image, and the order that was seen is that of its trace.
 pub record IsShown (image : ImageParts) (name : OrderName) (shown : Shown) : Type 0 where
   pub image_is : shown.core.image ≡ image
   pub book_is : shown.token.seen.book ≡ name.book
-  pub order_is : shown.told ≡ true → order name.first shown.token.seen.log ≡ operations_of shown.core.trace
+  pub order_is : order name.first shown.token.seen.log ≡ operations_of shown.core.trace

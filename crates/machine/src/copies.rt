@@ -1,6 +1,6 @@
 //! The two copies of a machine that watchers read, and the rule that they keep.
 
-ghost use Rattle.std.specs.Prelude.{◌≡◌, ◌++◌, ◌∷◌, ◌⊎◌, [], drop, fold};
+ghost use Rattle.std.specs.Prelude.{◌≡◌, ◌++◌, ◌∷◌, [], drop, fold};
 ghost use Rattle.machine.specs.Copies.{IsShown, shown_after};
 ghost use Rattle.machine.specs.Names.{order_named};
 ghost use Rattle.machine.specs.declared.shown.Ticket.TheVariants.{Tell};
@@ -73,14 +73,18 @@ pub fn publish<J: Naming, R: Wait>(copies: Copies<J>, rt: &R) -> (Copies<J>, ())
 /// Lets both copies know what was seen of the order, right after an operation was appended. The
 /// queue makes room for four tickets when it first grows, and never holds more: the two that one
 /// copy lacks, and two that are pending. So the operation's ticket has made the room for this one,
-/// and a step finds memory for both or for neither.
-pub fn tell<J: Naming>(copies: &mut Copies<J>, token: Token)
+/// and the first try succeeds. Were it refused, it would wait for memory: a copy that is shown
+/// always knows its order.
+pub fn tell<J: Naming, R: Wait>(copies: &mut Copies<J>, rt: &R, token: Token)
     ensures shown { copies.new.desk ≡ copies.old.desk }
-    ensures pending { (drop copies.new.behind copies.new.log.items
-        ≡ drop copies.old.behind copies.old.log.items)
-        ⊎ (drop copies.new.behind copies.new.log.items
-        ≡ drop copies.old.behind copies.old.log.items ++ Tell token ∷ []) }
+    ensures pending { drop copies.new.behind copies.new.log.items
+        ≡ drop copies.old.behind copies.old.log.items ++ Tell token ∷ [] }
 {
-    // Were there none, looks would answer `Err` until the next operation tells.
-    let _told = copies.append(Ticket::Tell(token));
+    let mut ticket = Ticket::Tell(token);
+    for _ in rt.forever() {
+        match copies.append(ticket) {
+            Ok(()) => break,
+            Err(refused) => ticket = refused,
+        }
+    }
 }

@@ -53,12 +53,10 @@ impl<J: Naming> Pair<J> {
         let first = Shown {
             core: core.copy(alloc)?,
             token: token.again(),
-            told: true,
         };
         let second = Shown {
             core: core.copy(alloc)?,
             token: token.again(),
-            told: true,
         };
         let copies: Copies<J> = Writer::new(alloc, first, second, PLACES)?;
         Ok(Pair { copies })
@@ -72,10 +70,10 @@ impl<J: Naming> Pair<J> {
         &self.copies.published().core
     }
 
-    /// Takes an operation that is not refused, adds it to the order, and shows it to watchers.
-    /// Fails only when out of memory, and then nothing changes: the order grows only once there is
-    /// room for the operation and for what is then told of the order. Waits for a watcher that
-    /// still looks at the other copy.
+    /// Takes an operation that is not refused, adds it to the order, and shows it to watchers, who
+    /// then know the order with it. Fails only when out of memory, and then nothing changes: the
+    /// order grows only once there is room for the operation and for what is then told of the
+    /// order. Waits for a watcher that still looks at the other copy.
     pub fn take<R: Wait>(
         &mut self,
         rt: &R,
@@ -93,7 +91,7 @@ impl<J: Naming> Pair<J> {
             return Err(AllocError);
         };
         keeper.add(op);
-        tell(&mut self.copies, keeper.seen().token());
+        tell(&mut self.copies, rt, keeper.seen().token());
         replace_with(&mut self.copies, rt, publish::<J, R>);
         Ok(())
     }
@@ -117,11 +115,7 @@ impl<J: Naming> Pair<J> {
     {
         let Pair { copies } = self;
         let shown = copies.take(rt);
-        let Shown {
-            core,
-            token: _,
-            told: _,
-        } = Box::into_inner(shown);
+        let Shown { core, token: _ } = Box::into_inner(shown);
         core
     }
 }

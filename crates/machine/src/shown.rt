@@ -7,13 +7,12 @@ use history::Token;
 use left_right::Absorb;
 use std::alloc::AllocError;
 
-/// A copy of a machine's core. Where `told` is true, what the token has seen is the order of the
+/// A copy of a machine's core. Whenever it is shown, what the token has seen is the order of the
 /// core's trace.
 #[derive(Drop)]
 pub struct Shown {
     pub core: Core,
     pub token: Token,
-    pub told: bool,
 }
 
 /// What both copies take in: an operation, or what was then seen of the order.
@@ -39,12 +38,8 @@ impl Absorb<Ticket> for Shown {
         match ticket {
             Ticket::Take(op) => {
                 let _event = self.core.apply(*op);
-                self.told = false;
             }
-            Ticket::Tell(token) => {
-                self.token = token.again();
-                self.told = true;
-            }
+            Ticket::Tell(token) => self.token = token.again(),
         }
         Ok(())
     }

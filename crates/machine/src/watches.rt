@@ -1,6 +1,6 @@
 //! Watches: who looks at a machine takes no lock, and never sees its time go back.
 
-ghost use Rattle.std.specs.Prelude.{◌≡◌, ◌⊎◌, IfOk, IfErr, IfSome};
+ghost use Rattle.std.specs.Prelude.{◌≡◌, ◌<◌, ◌⊎◌, None, length, IfOk, IfErr, IfSome};
 ghost use Rattle.cheri_model.specs.runs.Replay.{IsBeginning, operations_of};
 ghost use Rattle.machine.specs.Copies.{IsShown};
 ghost use Rattle.machine.specs.Names.{order_named};
@@ -72,15 +72,13 @@ impl<J: Naming> Receipt<J> {
         }
     }
 
-    /// The receipt for the trace of a copy, where it is known to go on from this one.
+    /// The receipt for the trace of a copy, where it goes on from this one: it is no shorter.
     fn followed(&self, shown: &Shown) -> Option<Receipt<J>>
         requires { IsShown J.image (order_named J.names) shown.now }
         ensures trace { IfSome result (λ now. now ≡ shown.now.core.trace) }
         ensures later { IfSome result (λ now. IsBeginning self.now now) }
+        ensures older { result ≡ None → length shown.now.core.trace < length self.now }
     {
-        if !shown.told {
-            return None;
-        }
         let now = Receipt::of_core(&shown.core, shown.token.tied::<OrderOf<J>>());
         if now.events < self.events {
             return None;
@@ -129,9 +127,9 @@ impl<J: Naming> Watch<J> {
     }
 
     /// Looks at the machine. The trace of the core that is shown begins with all that this watch
-    /// saw or learnt. Where no copy can be read, or the one that is shown was not told its trace or
-    /// is older than what this watch knows, the watch comes back as it was. Takes no lock and no
-    /// memory, and waits for nobody.
+    /// saw or learnt. Where no copy can be read, or the one that is shown is older than what this
+    /// watch knows, the watch comes back as it was. Takes no lock and no memory, and waits for
+    /// nobody.
     pub fn look(self) -> Result<Look<J>, Watch<J>>
         ensures image { IfOk result (λ look. look.image ≡ self.image) }
         ensures later { IfOk result (λ look. IsBeginning self.trace look.trace) }

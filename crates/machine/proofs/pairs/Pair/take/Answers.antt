@@ -8,14 +8,14 @@ use Rattle.machine.specs.Cores.{CoreParts, core_after, refused}
 use Rattle.machine.specs.Names.{order_named}
 use Rattle.machine.specs.declared.shown.Shown.{Shown}
 use Rattle.machine.specs.declared.shown.Ticket.{Ticket}
-use Rattle.machine.specs.declared.shown.Ticket.TheVariants.{Take}
+use Rattle.machine.specs.declared.shown.Ticket.TheVariants.{Take, Tell}
 use Rattle.machine.proofs.CoreLemmas.{operations_after}
-use Rattle.machine.proofs.CopyLemmas.{TakesAndMayTell, may_tell, taken_core, taken_shown, image_after}
+use Rattle.machine.proofs.CopyLemmas.{tickets_of, grown_by, taken_core, taken_shown, image_after}
 use Rattle.machine.proofs.pairs.Pair.take.Given.{Over}
 use Rattle.machine.proofs.pairs.Pair.take.Goals.{After-tell}
 use Rattle.machine.proofs.pairs.Pair.take.Goals as goal
 
--- the operation was appended and added to the order, and the copies may be told
+-- the operation was appended and added to the order, and then what was seen of the order
 module _ (g : Over) (c : After-tell g) where
   abbrev shown : Shown
   shown = c.tell.new.copies.desk.shown.value
@@ -32,10 +32,11 @@ module _ (g : Over) (c : After-tell g) where
   none : refused shown.core c.args.op ≡ None
   none = ap (λ (k : CoreParts). refused k c.args.op) seen ∙ c.requires.none
 
-  may : TakesAndMayTell pending c.args.op c.token-2.result
-  may =
-      let one = c.in-Ok.ensures.pending ∙ ap (λ (ts : List Ticket). ts ++ Take c.args.op ∷ []) c.self.invariant.1 in
-      may_tell pending _ c.args.op c.token-2.result one c.tell.ensures.pending
+  both : pending ≡ tickets_of c.args.op c.token-2.result
+  both =
+      let before : drop c.append.new.self.behind c.append.new.self.log.items ≡ Take c.args.op ∷ [] =
+          c.in-Ok.ensures.pending ∙ ap (λ (ts : List Ticket). ts ++ Take c.args.op ∷ []) c.self.invariant.1 in
+      grown_by pending (drop c.append.new.self.behind c.append.new.self.log.items) (Take c.args.op) (Tell c.token-2.result) before c.tell.ensures.pending
 
   grown : c.add.new.self ≡ operations_of shown.core.trace ++ c.args.op ∷ []
   grown =
@@ -45,7 +46,7 @@ module _ (g : Over) (c : After-tell g) where
   -- what is shown then
   after : (next : Shown) → next ≡ fold shown_after shown pending → next.core ≡ core_after shown.core c.args.op
   after next is =
-      ap (λ (v : Shown). v.core) is ∙ taken_core shown c.args.op c.token-2.result pending none may
+      ap (λ (v : Shown). v.core) is ∙ taken_core shown c.args.op c.token-2.result pending none both
 
   image : (next : Shown) → next ≡ fold shown_after shown pending → next.core.image ≡ g.J.Naming.image
   image next is =
@@ -55,7 +56,7 @@ module _ (g : Over) (c : After-tell g) where
 pub replace_with-requires : goal.replace_with-requires
 replace_with-requires g c =
     let told = (goal.at.replace_with-requires g c).After-tell in
-    taken_shown g.J.Naming.image (order_named g.J.Naming.names) (shown g told) c.args.op c.token-2.result (pending g told) (none g told) (may g told)
+    taken_shown g.J.Naming.image (order_named g.J.Naming.names) (shown g told) c.args.op c.token-2.result (pending g told) (none g told) (both g told)
     c.token-2.ensures.book (sym c.token-2.ensures.order ∙ (c.seen.ensures ∙ grown g told))
 
 pub invariant_of-self-2 : goal.invariant_of-self-2
