@@ -91,7 +91,7 @@ pub(crate) enum Action {
 
 /// What an instruction asks for, by its form.
 #[tactic(auto, unfolding(crate::proofs::Open::forms))]
-fn action_by_form(form: Form, hart: &Hart) -> Action
+fn form_action(form: Form, hart: &Hart) -> Action
     ensures { action_of result ≡ action (instr_of form) hart.now }
 {
     match form {
@@ -117,8 +117,8 @@ fn action_by_form(form: Form, hart: &Hart) -> Action
 
 /// What an instruction asks for.
 #[tactic(auto, using(cheri_model::proofs::Runs::Instructions::forms_back))]
-pub(crate) fn action(instr: Instr, hart: &Hart) -> Action
+pub(crate) fn instr_action(instr: Instr, hart: &Hart) -> Action
     ensures { action_of result ≡ action instr hart.now }
 {
-    action_by_form(instr.form(), hart)
+    form_action(instr.form(), hart)
 }

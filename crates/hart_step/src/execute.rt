@@ -19,7 +19,7 @@ ghost use Rattle.cheri_model.specs.steps.HartStep.{execute, hart_step, loaded, p
 ghost use Rattle.cap_model.specs.results.Addresses.{address_of, in_bounds, is_open};
 ghost use Rattle.hart_step.specs.Actions.{action_of};
 
-use crate::actions::{Action, action};
+use crate::actions::{Action, instr_action};
 use crate::checks::access::access_check;
 use crate::checks::fetch::fetch;
 use crate::checks::jumps::{invoke_check, jump_check, target_check};
@@ -298,7 +298,7 @@ pub fn step(program: &[Instr], hart: &mut Hart, ram: &mut Ram) -> Outcome
     let _granules = ram.granule_count();
     match fetch(program, hart.pcc()) {
         Ok(instr) => {
-            let action = action(instr, hart);
+            let action = instr_action(instr, hart);
             execute(action, hart, ram)
         }
         Err(trap) => hart.trap(trap),
