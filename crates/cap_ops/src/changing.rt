@@ -85,9 +85,7 @@ impl Cap {
         ensures value { result ≡ (is_open self && in_bounds self (address_of self) len) }
         ensures lawful { IsLawfulValue self }
     {
-        let (base, top) = self.bounds();
-        let addr = self.addr();
-        let inside = base <= addr && u128::from(addr) + u128::from(len) <= top;
+        let inside = self.holds(self.addr(), len);
         self.is_open() && inside
     }
 

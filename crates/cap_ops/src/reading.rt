@@ -4,7 +4,7 @@
 ghost use Rattle.std.specs.Prelude.{◌≡◌, ◌+◌, ◌^◌, ◌<◌, ◌≤◌, ◌&&◌};
 ghost use Rattle.cap_model.specs.values.CapValue.{tag_of, parts_of, IsLawfulValue};
 ghost use Rattle.cap_model.specs.values.Capability.{IsPermissionSet};
-ghost use Rattle.cap_model.specs.results.Addresses.{is_open, has_permission, length_of};
+ghost use Rattle.cap_model.specs.results.Addresses.{is_open, has_permission, in_bounds, length_of};
 ghost use Rattle.cap_model.specs.results.Readings.{
   permissions_of,
   object_type_of,
@@ -32,6 +32,14 @@ impl Cap {
         ensures lawful { IsLawfulValue self }
     {
         (self.base, self.top)
+    }
+
+    /// Whether the `bytes` addresses from `from` on lie in the bounds, as whole numbers.
+    pub fn holds(self, from: u64, bytes: u64) -> bool
+        ensures { result ≡ in_bounds self from bytes }
+    {
+        let (base, top) = self.bounds();
+        base <= from && u128::from(from) + u128::from(bytes) <= top
     }
 
     /// The base (CGetBase).
@@ -129,6 +137,7 @@ impl Cap {
     {
         self.permission_bits() >> number & 1 == 1
     }
+
     /// Whether a sweep of the addresses from `lo` up to `hi` clears the tag: this is tagged, sealed
     /// or not, and its base lies there.
     pub fn is_in_sweep(self, lo: u64, hi: u128) -> bool

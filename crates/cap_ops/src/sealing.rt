@@ -130,9 +130,7 @@ impl Cap {
         if !self.has_permission(permission) {
             return false;
         }
-        let (base, top) = self.bounds();
-        let addr = self.addr();
-        base <= addr && u128::from(addr) + 1 <= top
+        self.holds(self.addr(), 1)
     }
 
     /// The permissions after unsealing under the authority.

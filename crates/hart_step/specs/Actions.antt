@@ -1,20 +1,20 @@
--- What the code's actions ask for.
+-- The model's action for each of the code's.
 use Rattle.cheri_model.specs.steps.Actions.{Action}
-use Rattle.cheri_model.specs.steps.Actions as asked
-use Rattle.hart_step.specs.declared.actions.Action.{Action as Asking}
+use Rattle.cheri_model.specs.steps.Actions as model
+use Rattle.hart_step.specs.declared.actions.Action.{Action as CodeAction}
 use Rattle.hart_step.specs.declared.actions.Action.TheVariants.{Put, Load, Store, LoadCap, StoreCap}
 use Rattle.hart_step.specs.declared.actions.Action.TheVariants.{Swap, Branch, Jump, JumpThrough}
 use Rattle.hart_step.specs.declared.actions.Action.TheVariants.{Invoke, Halt}
 
-abbrev pub asks : Asking → Action
-asks (Put cd value) = asked.Put cd value
-asks (Load cd c1 addr width signed) = asked.Load cd c1 addr width signed
-asks (Store c1 addr width number) = asked.Store c1 addr width number
-asks (LoadCap cd c1 addr) = asked.LoadCap cd c1 addr
-asks (StoreCap c1 addr value) = asked.StoreCap c1 addr value
-asks (Swap cd c1 addr value) = asked.Swap cd c1 addr value
-asks (Branch taken target) = asked.Branch taken target
-asks (Jump cd target) = asked.Jump cd target
-asks (JumpThrough cd c1 is_entry target) = asked.JumpThrough cd c1 is_entry target
-asks (Invoke c1 c2 target) = asked.Invoke c1 c2 target
-asks Halt = asked.Halt
+abbrev pub action_of : CodeAction → Action
+action_of (Put cd value) = model.Put cd value
+action_of (Load cd c1 addr width signed) = model.Load cd c1 addr width signed
+action_of (Store c1 addr width number) = model.Store c1 addr width number
+action_of (LoadCap cd c1 addr) = model.LoadCap cd c1 addr
+action_of (StoreCap c1 addr value) = model.StoreCap c1 addr value
+action_of (Swap cd c1 addr value) = model.Swap cd c1 addr value
+action_of (Branch taken target) = model.Branch taken target
+action_of (Jump cd target) = model.Jump cd target
+action_of (JumpThrough cd c1 is_entry target) = model.JumpThrough cd c1 is_entry target
+action_of (Invoke c1 c2 target) = model.Invoke c1 c2 target
+action_of Halt = model.Halt

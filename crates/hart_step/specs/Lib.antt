@@ -1,4 +1,4 @@
--- A hart, what it is asked to do, and what a view of a machine shows.
+-- A hart, its actions, and what a view of a machine shows.
 pub mod Hart
 pub mod Actions
 pub mod View

@@ -3,7 +3,7 @@
 ghost use Rattle.std.specs.Prelude.{◌≡◌};
 ghost use Rattle.cheri_model.specs.steps.Actions.{action};
 ghost use Rattle.cheri_model.specs.instructions.Form.{instr_of};
-ghost use Rattle.hart_step.specs.Actions.{asks};
+ghost use Rattle.hart_step.specs.Actions.{action_of};
 
 mod immediates;
 mod jumps;
@@ -91,8 +91,8 @@ pub(crate) enum Action {
 
 /// What an instruction asks for, by its form.
 #[tactic(auto, unfolding(crate::proofs::Open::forms))]
-fn asked_by_form(form: Form, hart: &Hart) -> Action
-    ensures { asks result ≡ action (instr_of form) hart.now }
+fn form_action(form: Form, hart: &Hart) -> Action
+    ensures { action_of result ≡ action (instr_of form) hart.now }
 {
     match form {
         Form::Three(op, cd, c1, c2) => three_action(op, cd, c1, c2, hart),
@@ -117,8 +117,8 @@ fn asked_by_form(form: Form, hart: &Hart) -> Action
 
 /// What an instruction asks for.
 #[tactic(auto, using(cheri_model::proofs::Runs::Instructions::forms_back))]
-pub(crate) fn asked(instr: Instr, hart: &Hart) -> Action
-    ensures { asks result ≡ action instr hart.now }
+pub(crate) fn instr_action(instr: Instr, hart: &Hart) -> Action
+    ensures { action_of result ≡ action instr hart.now }
 {
-    asked_by_form(instr.form(), hart)
+    form_action(instr.form(), hart)
 }

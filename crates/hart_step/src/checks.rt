@@ -107,7 +107,7 @@ pub(crate) fn without_needed(needed: bool, cap: Cap, permission: u32, cause: u8,
 pub(crate) fn outside(cap: Cap, from: u64, bytes: u64, reg: u8) -> Line
     ensures { result ≡ check_line (not (in_bounds cap from bytes)) Trap.LENGTH reg }
 {
-    check(!in_bounds(cap, from, bytes), Trap::LENGTH, reg)
+    check(!cap.holds(from, bytes), Trap::LENGTH, reg)
 }
 
 /// What is left of an address over multiples of a count of bytes. By a constant power of two this
@@ -145,12 +145,4 @@ pub(crate) fn lacks(needed: bool, cap: Cap, number: u32) -> bool
     } else {
         false
     }
-}
-
-/// Whether this many bytes from an address on lie in the bounds, as whole numbers.
-fn in_bounds(cap: Cap, from: u64, bytes: u64) -> bool
-    ensures { result ≡ in_bounds cap from bytes }
-{
-    let (base, top) = cap.bounds();
-    base <= from && u128::from(from) + u128::from(bytes) <= top
 }

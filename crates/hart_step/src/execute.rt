@@ -17,15 +17,15 @@ ghost use Rattle.cheri_model.specs.runs.Authority.{IsConfinedTo, alone};
 ghost use Rattle.cap_model.specs.values.CapValue.{IsLawfulValue};
 ghost use Rattle.cheri_model.specs.steps.HartStep.{execute, hart_step, loaded, permitted};
 ghost use Rattle.cap_model.specs.results.Addresses.{address_of, in_bounds, is_open};
-ghost use Rattle.hart_step.specs.Actions.{asks};
+ghost use Rattle.hart_step.specs.Actions.{action_of};
 
-use crate::actions::{Action, asked};
+use crate::actions::{Action, instr_action};
 use crate::checks::access::access_check;
 use crate::checks::fetch::fetch;
 use crate::checks::jumps::{invoke_check, jump_check, target_check};
 use crate::hart::Hart;
 use crate::integers::extended;
-use crate::places::{at_target, entered, link};
+use crate::next_pcc::{at_target, jumped_to, link};
 use cap_ops::Cap;
 use cheri_model::permission::LOAD_CAP;
 use cheri_model::{Access, Instr, Outcome, Reg, Status, Width};
@@ -211,7 +211,7 @@ fn jump_through(
         Ok(()) => {
             let back = link(hart.pcc());
             hart.put(cd, back);
-            hart.set_pcc(entered(through, target));
+            hart.set_pcc(jumped_to(through, target));
             Outcome::Done
         }
         Err(trap) => hart.trap(trap),
@@ -227,7 +227,7 @@ fn invoke(hart: &mut Hart, ram: &Ram, c1: Reg, c2: Reg, target: u64) -> Outcome
     match invoke_check(code, c1.number(), data, c2.number(), target) {
         Ok(()) => {
             hart.put(Reg::new(31), data.unsealed());
-            hart.set_pcc(entered(code, target));
+            hart.set_pcc(jumped_to(code, target));
             Outcome::Done
         }
         Err(trap) => hart.trap(trap),
@@ -239,7 +239,7 @@ fn invoke(hart: &mut Hart, ram: &Ram, c1: Reg, c2: Reg, target: u64) -> Outcome
 fn execute(action: Action, hart: &mut Hart, ram: &mut Ram) -> Outcome
     requires open { is_open hart.old.pcc ≡ true }
     requires within { in_bounds hart.old.pcc (address_of hart.old.pcc) 4 ≡ true }
-    ensures { execute (asks action) hart.old ram.old
+    ensures { execute (action_of action) hart.old ram.old
         ≡ record { hart = hart.new; memory = ram.new; outcome = result } }
 {
     match action {
@@ -298,7 +298,7 @@ pub fn step(program: &[Instr], hart: &mut Hart, ram: &mut Ram) -> Outcome
     let _granules = ram.granule_count();
     match fetch(program, hart.pcc()) {
         Ok(instr) => {
-            let action = asked(instr, hart);
+            let action = instr_action(instr, hart);
             execute(action, hart, ram)
         }
         Err(trap) => hart.trap(trap),

@@ -11,7 +11,7 @@ ghost use Rattle.cap_model.specs.results.Addresses.{address_of, in_bounds, is_op
 ghost use Rattle.cap_model.specs.results.Swept.{is_in_sweep, swept};
 ghost use Rattle.cheri_model.specs.runs.Sweeps.{swept_hart, cleared_in_hart};
 
-use crate::places::following;
+use crate::next_pcc::next_pcc;
 use cap_ops::Cap;
 use cheri_model::{HartImage, Outcome, Reg, Status, Trap, Value};
 use std::marker::Model;
@@ -135,7 +135,7 @@ impl Hart {
         requires within { in_bounds self.old.pcc (address_of self.old.pcc) 4 ≡ true }
         ensures { self.new ≡ next self.old }
     {
-        self.pcc = following(self.pcc);
+        self.pcc = next_pcc(self.pcc);
     }
 
     /// Replaces PCC.

@@ -7,7 +7,7 @@ mod checks;
 mod execute;
 mod hart;
 mod integers;
-mod places;
+mod next_pcc;
 mod view;
 
 pub use checks::access::access_check;

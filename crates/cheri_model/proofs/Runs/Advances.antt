@@ -8,7 +8,7 @@ use Rattle.cheri_model.specs.declared.width.Width.{Width}
 use Rattle.cheri_model.specs.declared.width.Width.TheVariants.{Byte, Half, Word, Double}
 use Rattle.cap_model.specs.values.CapValue.{CapValue, valid, raw, tag_of, parts_of, IsLawfulValue}
 use Rattle.cheri_model.specs.steps.Checks.{size_of}
-use Rattle.cheri_model.specs.steps.Hart.{following}
+use Rattle.cheri_model.specs.steps.Hart.{next_pcc}
 use Rattle.cheri_model.specs.steps.Memory.{bytes_of, is_in_ram, fits}
 use Rattle.cap_model.specs.results.Addresses.{address_of, is_open, keeps_bounds, in_bounds, with_address, set_address}
 use Rattle.cap_model.specs.results.Seals.{unsealed}
@@ -42,8 +42,8 @@ target_is v target h opened within =
 
 -- four bytes on, where the four at the address are in the bounds
 pub following_is : (v : CapValue) → IsLawfulValue v → is_open v ≡ true → in_bounds v (address_of v) 4 ≡ true →
-    set_address v ((address_of v + 4) % 2 ^ 64) ≡ following v
-unfolding following
+    set_address v ((address_of v + 4) % 2 ^ 64) ≡ next_pcc v
+unfolding next_pcc
 following_is v h opened within =
     let inside = and_parts (nat_le (parts_of v).base (address_of v)) _ within in
     let from = leb-true _ _ inside.0 in

@@ -16,9 +16,9 @@ use Rattle.cap_model.specs.results.CapInstructions.{CapInstruction, capability_r
 use Rattle.cap_model.specs.values.CapValue.{CapValue, valid, raw, bits_of, tag_of, parts_of}
 use Rattle.cap_model.specs.results.Addresses.{in_bounds, with_address, address_of, clear_tag}
 use Rattle.cap_model.specs.results.Seals.{unsealed}
-use Rattle.cheri_model.specs.steps.Hart.{HartState, null, register, word_of_integer, put, following, next, link}
+use Rattle.cheri_model.specs.steps.Hart.{HartState, null, register, word_of_integer, put, next_pcc, next, link}
 use Rattle.cheri_model.specs.steps.Actions.{Action, Put, Load, Store, LoadCap, StoreCap, Swap, Branch, Jump, JumpThrough, Invoke, Halt, action}
-use Rattle.cheri_model.specs.steps.HartStep.{Stepped, trapped, unless_trapped, access_check, loaded, permitted, entered, invoked_data, execute, hart_step, instruction_at}
+use Rattle.cheri_model.specs.steps.HartStep.{Stepped, trapped, unless_trapped, access_check, loaded, permitted, jumped_to, invoked_data, execute, hart_step, instruction_at}
 use Rattle.cheri_model.specs.steps.Checks.{first_failing, fetch_table, target_table, jump_table, invoke_table}
 use Rattle.cheri_model.specs.runs.Image.{ImageParts}
 use Rattle.cheri_model.specs.steps.Memory.{ram_base, bytes_of, granule_number, granule_offset, granule_at, load_data, store_data, load_capability, store_capability}
@@ -78,9 +78,9 @@ module _ (sources : List CapValue) where
 
   -- ---- PCC after a fetch, and at a target
 
-  following_good : (pcc : CapValue) (count : ℕ) → first_failing (fetch_table pcc count) ≡ Ok tt → Good pcc → Good (following pcc)
-  unfolding following address_of
-  following_good pcc count fetched good =
+  next_pcc_good : (pcc : CapValue) (count : ℕ) → first_failing (fetch_table pcc count) ≡ Ok tt → Good pcc → Good (next_pcc pcc)
+  unfolding next_pcc address_of
+  next_pcc_good pcc count fetched good =
       let is = fetched_is pcc count fetched in
       let inside = and_parts (nat_le (parts_of pcc).base (parts_of pcc).addr) _ is.within in
       let from = leb-true _ _ inside.0 in
@@ -193,22 +193,22 @@ module _ (sources : List CapValue) where
   unless_good (Err trap) hart memory after good granules passed =
       record { hart = record { pcc = good.pcc; regs = good.regs }; memory = granules }
 
-  next_good : (hart : HartState) → Good (following hart.pcc) → EachOfHart Good hart → EachOfHart Good (next hart)
+  next_good : (hart : HartState) → Good (next_pcc hart.pcc) → EachOfHart Good hart → EachOfHart Good (next hart)
   unfolding next
   next_good hart moved good = record { pcc = moved; regs = good.regs }
 
   -- a register written, and PCC four bytes on
-  put_next_good : (cd : ℕ) (v : CapValue) (hart : HartState) → Good (following hart.pcc) → Good v → EachOfHart Good hart → EachOfHart Good (next (put cd v hart))
+  put_next_good : (cd : ℕ) (v : CapValue) (hart : HartState) → Good (next_pcc hart.pcc) → Good v → EachOfHart Good hart → EachOfHart Good (next (put cd v hart))
   put_next_good cd v hart moved value good =
       next_good (put cd v hart) (rw (pcc-put cd v hart) moved) (put_good cd v hart value good)
 
-  put_entered_good : (cd : ℕ) (v pcc : CapValue) (target : ℕ) (hart : HartState) → Good (with_address pcc target) → Good v → EachOfHart Good hart → EachOfHart Good (entered pcc target (put cd v hart))
-  put_entered_good cd v pcc target hart moved value good =
+  put_jumped_good : (cd : ℕ) (v pcc : CapValue) (target : ℕ) (hart : HartState) → Good (with_address pcc target) → Good v → EachOfHart Good hart → EachOfHart Good (jumped_to pcc target (put cd v hart))
+  put_jumped_good cd v pcc target hart moved value good =
       let written = put_good cd v hart value good in record { pcc = moved; regs = written.regs }
 
-  link_good : (pcc : CapValue) → Good (following pcc) → Good (link pcc)
+  link_good : (pcc : CapValue) → Good (next_pcc pcc) → Good (link pcc)
   unfolding link
-  link_good pcc moved = IsGood-entry sources (following pcc) moved
+  link_good pcc moved = IsGood-entry sources (next_pcc pcc) moved
 
   -- what a store leaves in its granule
   stored_good : (memory : List CapValue) (addr : ℕ) (width : Width) (number : ℕ) → IsPlacedAccess addr (access.Store width) memory → All Good memory →
@@ -231,8 +231,8 @@ module _ (sources : List CapValue) where
   loaded_capability_good auth memory addr good =
       IsGood-permitted sources auth _ (IsGood-granule memory (granule_number addr) good)
 
-  execute_good : (asked : Action) (hart : HartState) (memory : List CapValue) → tag_of hart.pcc ≡ true → Good (following hart.pcc) →
-      ActionGood asked → EachOfHart Good hart → All Good memory → StepGood (execute asked hart memory)
+  execute_good : (act : Action) (hart : HartState) (memory : List CapValue) → tag_of hart.pcc ≡ true → Good (next_pcc hart.pcc) →
+      ActionGood act → EachOfHart Good hart → All Good memory → StepGood (execute act hart memory)
   unfolding execute ActionGood
   execute_good (Put cd v) hart memory tagged moved value good granules =
       record { hart = put_next_good cd v hart moved value good; memory = granules }
@@ -274,14 +274,14 @@ module _ (sources : List CapValue) where
   execute_good (Jump cd target) hart memory tagged moved value good granules =
       unless_good (first_failing (target_table hart.pcc target)) hart memory _ good granules
       (λ passed. record {
-        hart = put_entered_good cd (link hart.pcc) hart.pcc target hart
+        hart = put_jumped_good cd (link hart.pcc) hart.pcc target hart
             (target_good hart.pcc target tagged (target_within hart.pcc target passed) good.pcc) (link_good hart.pcc moved) good;
         memory = granules;
       })
   execute_good (JumpThrough cd c1 is_entry target) hart memory tagged moved value good granules =
       unless_good (first_failing (jump_table (register hart c1) c1 is_entry target)) hart memory _ good granules
       (λ passed. record {
-        hart = put_entered_good cd (link hart.pcc) (unsealed (register hart c1)) target hart
+        hart = put_jumped_good cd (link hart.pcc) (unsealed (register hart c1)) target hart
             (entered_good (register hart c1) target (jump_is (register hart c1) c1 is_entry target passed) (IsGood-register hart c1 good))
             (link_good hart.pcc moved) good;
         memory = granules;
@@ -289,7 +289,7 @@ module _ (sources : List CapValue) where
   execute_good (Invoke c1 c2 target) hart memory tagged moved value good granules =
       unless_good (first_failing (invoke_table (register hart c1) c1 (register hart c2) c2 target)) hart memory _ good granules
       (λ passed. record {
-        hart = put_entered_good invoked_data (unsealed (register hart c2)) (unsealed (register hart c1)) target hart
+        hart = put_jumped_good invoked_data (unsealed (register hart c2)) (unsealed (register hart c1)) target hart
             (entered_good (register hart c1) target (invoke_is (register hart c1) c1 (register hart c2) c2 target passed) (IsGood-register hart c1 good))
             (IsGood-unsealed sources (register hart c2) (IsGood-register hart c2 good)) good;
         memory = granules;
@@ -301,11 +301,11 @@ module _ (sources : List CapValue) where
       EachOfHart Good hart → All Good memory → StepGood (hart_step program hart memory)
   unfolding hart_step
   step_good program hart memory good granules =
-      let asked = action (instruction_at program (address_of hart.pcc)) hart in
-      unless_good (first_failing (fetch_table hart.pcc (length program))) hart memory (execute asked hart memory) good granules
+      let act = action (instruction_at program (address_of hart.pcc)) hart in
+      unless_good (first_failing (fetch_table hart.pcc (length program))) hart memory (execute act hart memory) good granules
       (λ passed.
-      execute_good asked hart memory (fetched_is hart.pcc (length program) passed).tagged
-      (following_good hart.pcc (length program) passed good.pcc) (action_good _ hart good) good granules)
+      execute_good act hart memory (fetched_is hart.pcc (length program) passed).tagged
+      (next_pcc_good hart.pcc (length program) passed good.pcc) (action_good _ hart good) good granules)
 
   -- ---- runs
 

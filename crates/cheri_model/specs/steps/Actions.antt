@@ -2,6 +2,7 @@
 -- written (CHERI ISA v9, "CHERI-RISC-V instructions"; RISC-V unprivileged ISA, "RV64I").
 use Rattle.std.specs.Prelude.{ℕ, ℤ, ◌+◌, ◌*◌, ◌/◌, ◌%◌, ◌^◌, ◌==◌, nat_lt, Bool, true, false, not}
 use Rattle.std.specs.Prelude.{bit_and, bit_or, bit_xor}
+use Rattle.cheri_model.specs.declared.code.TheConstants.{INSTRUCTION_BYTES}
 use Rattle.cheri_model.specs.declared.instr.Instr.{Instr}
 use Rattle.cheri_model.specs.declared.instr.Instr.TheVariants as instr
 use Rattle.cheri_model.specs.declared.width.Width.{Width}
@@ -74,7 +75,7 @@ even addr = addr / 2 * 2
 
 -- the address of an instruction
 unfoldable pub address_of_target : ℕ → ℕ
-address_of_target number = (code_base + 4 * number) % 2 ^ 64
+address_of_target number = (code_base + INSTRUCTION_BYTES * number) % 2 ^ 64
 
 abbrev pub branch : (ℕ → ℕ → Bool) → ℕ → ℕ → ℕ → HartState → Action
 branch test c1 c2 target hart =

@@ -6,7 +6,8 @@ use Rattle.std.specs.Prelude.{◌||◌, List, [], ◌∷◌, Option, Some, None,
 use Rattle.cheri_model.specs.declared.access.Access.{Access}
 use Rattle.cheri_model.specs.declared.access.Access.TheVariants.{Load, Store, LoadCap, StoreCap}
 use Rattle.cheri_model.specs.declared.access.Access.TheVariants.{Swap}
-use Rattle.cheri_model.specs.declared.code.TheConstants.{CODE_BASE}
+use Rattle.cheri_model.specs.declared.code.TheConstants.{CODE_BASE, INSTRUCTION_BYTES}
+use Rattle.cheri_model.specs.declared.memory.TheConstants.{GRANULE_BYTES}
 use Rattle.cap_model.specs.declared.permission.TheConstants as permission
 use Rattle.cheri_model.specs.declared.trace.Trap.{Trap}
 use Rattle.cheri_model.specs.declared.trace.TheConstants.Trap as cause
@@ -42,7 +43,8 @@ code_base = CODE_BASE
 
 -- whether an address is the place of an instruction, in a program of this many
 abbrev pub is_in_code : ℕ → ℕ → Bool
-is_in_code count addr = nat_le code_base addr && nat_lt ((addr - code_base) / 4) count
+is_in_code count addr =
+    nat_le code_base addr && nat_lt ((addr - code_base) / INSTRUCTION_BYTES) count
 
 -- the checks of a fetch, in a program of this many instructions
 unfoldable pub fetch_table : CapValue → ℕ → List CheckLine
@@ -51,8 +53,8 @@ fetch_table pcc count =
     check_line (not (tag_of pcc)) cause.TAG cause.PCC
     ∷ check_line (not (has_type pcc unsealed_type)) cause.SEAL cause.PCC
     ∷ check_line (not (has_permission pcc permission.EXECUTE)) cause.EXECUTE cause.PCC
-    ∷ check_line (not (in_bounds pcc pc 4)) cause.LENGTH cause.PCC
-    ∷ check_line (not (pc % 4 == 0)) cause.ALIGNMENT cause.PCC
+    ∷ check_line (not (in_bounds pcc pc INSTRUCTION_BYTES)) cause.LENGTH cause.PCC
+    ∷ check_line (not (pc % INSTRUCTION_BYTES == 0)) cause.ALIGNMENT cause.PCC
     ∷ check_line (not (is_in_code count pc)) cause.FETCH cause.PCC
     ∷ []
 
@@ -62,9 +64,9 @@ fetch_table pcc count =
 abbrev pub size_of : Access → ℕ
 size_of (Load width) = bytes_of width
 size_of (Store width) = bytes_of width
-size_of LoadCap = 16
-size_of StoreCap = 16
-size_of Swap = 16
+size_of LoadCap = GRANULE_BYTES
+size_of StoreCap = GRANULE_BYTES
+size_of Swap = GRANULE_BYTES
 
 abbrev pub is_load : Access → Bool
 is_load (Load width) = true
@@ -121,7 +123,8 @@ access_table auth reg ea kind stored granules =
 
 -- a taken branch and CJAL: four bytes at the target in PCC's bounds
 unfoldable pub target_table : CapValue → ℕ → List CheckLine
-target_table pcc target = check_line (not (in_bounds pcc target 4)) cause.LENGTH cause.PCC ∷ []
+target_table pcc target =
+    check_line (not (in_bounds pcc target INSTRUCTION_BYTES)) cause.LENGTH cause.PCC ∷ []
 
 -- CJALR through the register with this number; a sentry may be jumped to where it points alone
 unfoldable pub jump_table : CapValue → ℕ → Bool → ℕ → List CheckLine
@@ -131,22 +134,22 @@ jump_table through reg is_entry target =
     (not (has_type through unsealed_type || (has_type through sentry_type && is_entry)))
     cause.SEAL reg
     ∷ check_line (not (has_permission through permission.EXECUTE)) cause.EXECUTE reg
-    ∷ check_line (not (in_bounds through target 4)) cause.LENGTH reg
-    ∷ check_line (not (target % 4 == 0)) cause.ALIGNMENT reg
+    ∷ check_line (not (in_bounds through target INSTRUCTION_BYTES)) cause.LENGTH reg
+    ∷ check_line (not (target % INSTRUCTION_BYTES == 0)) cause.ALIGNMENT reg
     ∷ []
 
 -- CInvoke of the sealed pair of code and data in the registers with these numbers
 unfoldable pub invoke_table : CapValue → ℕ → CapValue → ℕ → ℕ → List CheckLine
-invoke_table code c1 pair c2 target =
+invoke_table code c1 data_cap c2 target =
     check_line (not (tag_of code)) cause.TAG c1
-    ∷ check_line (not (tag_of pair)) cause.TAG c2
+    ∷ check_line (not (tag_of data_cap)) cause.TAG c2
     ∷ check_line (not (is_sealable (parts_of code).otype)) cause.SEAL c1
-    ∷ check_line (not (is_sealable (parts_of pair).otype)) cause.SEAL c2
-    ∷ check_line (not (has_type code (parts_of pair).otype)) cause.TYPE c1
+    ∷ check_line (not (is_sealable (parts_of data_cap).otype)) cause.SEAL c2
+    ∷ check_line (not (has_type code (parts_of data_cap).otype)) cause.TYPE c1
     ∷ check_line (not (has_permission code permission.CINVOKE)) cause.CINVOKE c1
-    ∷ check_line (not (has_permission pair permission.CINVOKE)) cause.CINVOKE c2
+    ∷ check_line (not (has_permission data_cap permission.CINVOKE)) cause.CINVOKE c2
     ∷ check_line (not (has_permission code permission.EXECUTE)) cause.EXECUTE c1
-    ∷ check_line (has_permission pair permission.EXECUTE) cause.EXECUTE c2
-    ∷ check_line (not (in_bounds code target 4)) cause.LENGTH c1
-    ∷ check_line (not (target % 4 == 0)) cause.ALIGNMENT c1
+    ∷ check_line (has_permission data_cap permission.EXECUTE) cause.EXECUTE c2
+    ∷ check_line (not (in_bounds code target INSTRUCTION_BYTES)) cause.LENGTH c1
+    ∷ check_line (not (target % INSTRUCTION_BYTES == 0)) cause.ALIGNMENT c1
     ∷ []

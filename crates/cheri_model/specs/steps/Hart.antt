@@ -1,6 +1,7 @@
 -- The state of one hart: its registers, PCC and whether it runs.
 use Rattle.std.specs.Prelude.{ℕ, ◌+◌, ◌%◌, ◌^◌, ◌==◌, if◌then◌else◌, List, slice_index_or}
 use Rattle.std.specs.Prelude.{slice_set}
+use Rattle.cheri_model.specs.declared.code.TheConstants.{INSTRUCTION_BYTES}
 use Rattle.cheri_model.specs.declared.trace.Status.{Status}
 use Rattle.cap_model.specs.values.CapValue.{CapValue, raw}
 use Rattle.cap_model.specs.results.Addresses.{address_of, with_address}
@@ -32,13 +33,13 @@ unfoldable pub put : ℕ → CapValue → HartState → HartState
 put cd v hart = if cd == 0 then hart else record hart { regs = slice_set hart.regs cd v }
 
 -- PCC at the next instruction
-unfoldable pub following : CapValue → CapValue
-following pcc = with_address pcc ((address_of pcc + 4) % 2 ^ 64)
+unfoldable pub next_pcc : CapValue → CapValue
+next_pcc pcc = with_address pcc ((address_of pcc + INSTRUCTION_BYTES) % 2 ^ 64)
 
 -- the hart at the next instruction
 unfoldable pub next : HartState → HartState
-next hart = record hart { pcc = following hart.pcc }
+next hart = record hart { pcc = next_pcc hart.pcc }
 
 -- what a jump leaves to come back by: the next instruction's address, sealed as a sentry
 unfoldable pub link : CapValue → CapValue
-link pcc = seal_entry (following pcc)
+link pcc = seal_entry (next_pcc pcc)

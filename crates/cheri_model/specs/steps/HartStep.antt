@@ -2,6 +2,7 @@
 -- instruction asks for; `execute` does it.
 use Rattle.std.specs.Prelude.{ℕ, ◌-◌, ◌/◌, Bool, true, false, if◌then◌else◌, List, length}
 use Rattle.std.specs.Prelude.{slice_index_or, Option, Some, None, Result, Ok, Err}
+use Rattle.cheri_model.specs.declared.code.TheConstants.{INSTRUCTION_BYTES}
 use Rattle.cheri_model.specs.declared.access.Access.{Access}
 use Rattle.cheri_model.specs.declared.access.Access.TheVariants as access
 use Rattle.cheri_model.specs.declared.trace.Trap.{Trap}
@@ -62,8 +63,8 @@ unfoldable pub permitted : CapValue → CapValue → CapValue
 permitted auth v = if has_permission auth permission.LOAD_CAP then v else clear_tag v
 
 -- the hart at a target in the bounds of a capability, which becomes PCC
-abbrev pub entered : CapValue → ℕ → HartState → HartState
-entered pcc target hart = record hart { pcc = with_address pcc target }
+abbrev pub jumped_to : CapValue → ℕ → HartState → HartState
+jumped_to pcc target hart = record hart { pcc = with_address pcc target }
 
 -- the register that CInvoke leaves the unsealed data in
 abbrev pub invoked_data : ℕ
@@ -91,17 +92,17 @@ execute (Swap cd c1 addr v) hart memory =
 execute (Branch false target) hart memory = done (next hart) memory
 execute (Branch true target) hart memory =
     unless_trapped (first_failing (target_table hart.pcc target)) hart memory
-    (done (entered hart.pcc target hart) memory)
+    (done (jumped_to hart.pcc target hart) memory)
 execute (Jump cd target) hart memory =
     unless_trapped (first_failing (target_table hart.pcc target)) hart memory
-    (done (entered hart.pcc target (put cd (link hart.pcc) hart)) memory)
+    (done (jumped_to hart.pcc target (put cd (link hart.pcc) hart)) memory)
 execute (JumpThrough cd c1 is_entry target) hart memory =
     unless_trapped (first_failing (jump_table (register hart c1) c1 is_entry target)) hart memory
-    (done (entered (unsealed (register hart c1)) target (put cd (link hart.pcc) hart)) memory)
+    (done (jumped_to (unsealed (register hart c1)) target (put cd (link hart.pcc) hart)) memory)
 execute (Invoke c1 c2 target) hart memory =
     unless_trapped (first_failing (invoke_table (register hart c1) c1 (register hart c2) c2 target))
     hart memory
-    (done (entered (unsealed (register hart c1)) target
+    (done (jumped_to (unsealed (register hart c1)) target
     (put invoked_data (unsealed (register hart c2)) hart)) memory)
 execute Halt hart memory =
     record {
@@ -112,7 +113,7 @@ execute Halt hart memory =
 
 -- the instruction at an address of the code
 unfoldable pub instruction_at : List Instr → ℕ → Instr
-instruction_at program addr = slice_index_or program ((addr - code_base) / 4) Ecall
+instruction_at program addr = slice_index_or program ((addr - code_base) / INSTRUCTION_BYTES) Ecall
 
 -- one step of a hart that runs
 unfoldable pub hart_step : List Instr → HartState → List CapValue → Stepped

@@ -10,7 +10,7 @@ ghost use Rattle.cheri_model.specs.instructions.Form.{
   word_shift_instr,
 };
 ghost use Rattle.cheri_model.specs.declared.instr.Instr.TheVariants.{CSetBoundsImm};
-ghost use Rattle.hart_step.specs.Actions.{asks};
+ghost use Rattle.hart_step.specs.Actions.{action_of};
 
 use crate::actions::Action;
 use crate::actions::registers::{put, put_integer, put_truth};
@@ -24,7 +24,7 @@ use cheri_model::form::{ImmediateOp, ShiftOp, UpperOp, WordShiftOp};
 
 /// What an instruction with a signed immediate asks for.
 pub fn immediate_action(op: ImmediateOp, cd: Reg, c1: Reg, imm: i16, hart: &Hart) -> Action
-    ensures { asks result ≡ action (immediate_instr op cd c1 imm) hart.now }
+    ensures { action_of result ≡ action (immediate_instr op cd c1 imm) hart.now }
 {
     let v = hart.register(c1);
     let (a, b) = (v.addr(), immediate(imm));
@@ -42,7 +42,7 @@ pub fn immediate_action(op: ImmediateOp, cd: Reg, c1: Reg, imm: i16, hart: &Hart
 
 /// What a shift by an amount asks for.
 pub fn shift_action(op: ShiftOp, cd: Reg, c1: Reg, amount: u8, hart: &Hart) -> Action
-    ensures { asks result ≡ action (shift_instr op cd c1 amount) hart.now }
+    ensures { action_of result ≡ action (shift_instr op cd c1 amount) hart.now }
 {
     let (a, amount) = (hart.register(c1).addr(), u64::from(amount));
     match op {
@@ -54,7 +54,7 @@ pub fn shift_action(op: ShiftOp, cd: Reg, c1: Reg, amount: u8, hart: &Hart) -> A
 
 /// What a shift of 32 bits by an amount asks for.
 pub fn word_shift_action(op: WordShiftOp, cd: Reg, c1: Reg, amount: u8, hart: &Hart) -> Action
-    ensures { asks result ≡ action (word_shift_instr op cd c1 amount) hart.now }
+    ensures { action_of result ≡ action (word_shift_instr op cd c1 amount) hart.now }
 {
     let (a, amount) = (hart.register(c1).addr(), u64::from(amount));
     match op {
@@ -66,14 +66,14 @@ pub fn word_shift_action(op: WordShiftOp, cd: Reg, c1: Reg, amount: u8, hart: &H
 
 /// What CSetBounds with an immediate asks for.
 pub fn set_bounds_action(cd: Reg, c1: Reg, len: u16, hart: &Hart) -> Action
-    ensures { asks result ≡ action (CSetBoundsImm cd c1 len) hart.now }
+    ensures { action_of result ≡ action (CSetBoundsImm cd c1 len) hart.now }
 {
     put(cd, hart.register(c1).set_bounds(u64::from(len)))
 }
 
 /// What an instruction with an immediate for the upper bits asks for.
 pub fn upper_action(op: UpperOp, cd: Reg, imm: u32, hart: &Hart) -> Action
-    ensures { asks result ≡ action (upper_instr op cd imm) hart.now }
+    ensures { action_of result ≡ action (upper_instr op cd imm) hart.now }
 {
     let offset = upper_immediate(imm);
     match op {

@@ -5,7 +5,7 @@ ghost use Rattle.std.specs.Prelude.{◌≡◌};
 ghost use Rattle.cheri_model.specs.steps.Actions.{action, address_of_target};
 ghost use Rattle.cheri_model.specs.instructions.Form.{branch_instr};
 ghost use Rattle.cheri_model.specs.declared.instr.Instr.TheVariants.{CInvoke};
-ghost use Rattle.hart_step.specs.Actions.{asks};
+ghost use Rattle.hart_step.specs.Actions.{action_of};
 
 use crate::actions::Action;
 use crate::actions::memory::even;
@@ -23,7 +23,7 @@ pub fn address_of_target(target: Target) -> u64
 
 /// What a branch asks for.
 pub fn branch_action(op: BranchOp, c1: Reg, c2: Reg, target: Target, hart: &Hart) -> Action
-    ensures { asks result ≡ action (branch_instr op c1 c2 target) hart.now }
+    ensures { action_of result ≡ action (branch_instr op c1 c2 target) hart.now }
 {
     let (a, b) = (hart.register(c1).addr(), hart.register(c2).addr());
     let taken = match op {
@@ -42,7 +42,7 @@ pub fn branch_action(op: BranchOp, c1: Reg, c2: Reg, target: Target, hart: &Hart
 
 /// What CInvoke asks for.
 pub fn invoke_action(c1: Reg, c2: Reg, hart: &Hart) -> Action
-    ensures { asks result ≡ action (CInvoke c1 c2) hart.now }
+    ensures { action_of result ≡ action (CInvoke c1 c2) hart.now }
 {
     Action::Invoke {
         c1,

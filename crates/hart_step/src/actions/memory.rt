@@ -5,7 +5,7 @@ ghost use Rattle.std.specs.Prelude.{◌≡◌};
 ghost use Rattle.cheri_model.specs.steps.Actions.{action, even};
 ghost use Rattle.cheri_model.specs.instructions.Form.{load_instr, store_instr};
 ghost use Rattle.cheri_model.specs.declared.instr.Instr.TheVariants.{AmoSwapC};
-ghost use Rattle.hart_step.specs.Actions.{asks};
+ghost use Rattle.hart_step.specs.Actions.{action_of};
 
 use crate::actions::Action;
 use crate::hart::Hart;
@@ -22,7 +22,7 @@ pub fn even(addr: u64) -> u64
 
 /// What a load, or CJALR, asks for.
 pub fn load_action(op: LoadOp, cd: Reg, c1: Reg, imm: i16, hart: &Hart) -> Action
-    ensures { asks result ≡ action (load_instr op cd c1 imm) hart.now }
+    ensures { action_of result ≡ action (load_instr op cd c1 imm) hart.now }
 {
     let offset = immediate(imm);
     let addr = hart.register(c1).addr().wrapping_add(offset);
@@ -53,7 +53,7 @@ pub fn load_action(op: LoadOp, cd: Reg, c1: Reg, imm: i16, hart: &Hart) -> Actio
 
 /// What a store asks for.
 pub fn store_action(op: StoreOp, c2: Reg, c1: Reg, imm: i16, hart: &Hart) -> Action
-    ensures { asks result ≡ action (store_instr op c2 c1 imm) hart.now }
+    ensures { action_of result ≡ action (store_instr op c2 c1 imm) hart.now }
 {
     let addr = hart.register(c1).addr().wrapping_add(immediate(imm));
     let value = hart.register(c2);
@@ -75,7 +75,7 @@ pub fn store_action(op: StoreOp, c2: Reg, c1: Reg, imm: i16, hart: &Hart) -> Act
 
 /// What AMOSWAP.C asks for.
 pub fn swap_action(cd: Reg, c2: Reg, c1: Reg, hart: &Hart) -> Action
-    ensures { asks result ≡ action (AmoSwapC cd c2 c1) hart.now }
+    ensures { action_of result ≡ action (AmoSwapC cd c2 c1) hart.now }
 {
     Action::Swap {
         cd,

@@ -6,7 +6,7 @@ ghost use Rattle.cheri_model.specs.steps.Actions.{action, Put};
 ghost use Rattle.cheri_model.specs.instructions.Form.{three_instr, two_instr};
 ghost use Rattle.cheri_model.specs.steps.Hart.{word_of_integer};
 ghost use Rattle.cap_model.specs.results.Readings.{number_of};
-ghost use Rattle.hart_step.specs.Actions.{asks};
+ghost use Rattle.hart_step.specs.Actions.{action_of};
 
 use crate::actions::Action;
 use crate::hart::Hart;
@@ -22,14 +22,14 @@ use cheri_model::form::{ThreeOp, TwoOp};
 
 /// Writes a value to `cd`.
 pub fn put(cd: Reg, value: Cap) -> Action
-    ensures { asks result ≡ Put cd value }
+    ensures { action_of result ≡ Put cd value }
 {
     Action::Put { cd, value }
 }
 
 /// Writes an integer to `cd`.
 pub fn put_integer(cd: Reg, number: u64) -> Action
-    ensures { asks result ≡ Put cd (word_of_integer number) }
+    ensures { action_of result ≡ Put cd (word_of_integer number) }
 {
     Action::Put {
         cd,
@@ -39,14 +39,14 @@ pub fn put_integer(cd: Reg, number: u64) -> Action
 
 /// Writes 1 or 0 to `cd`.
 pub fn put_truth(cd: Reg, holds: bool) -> Action
-    ensures { asks result ≡ Put cd (word_of_integer (number_of holds)) }
+    ensures { action_of result ≡ Put cd (word_of_integer (number_of holds)) }
 {
     put_integer(cd, number_of(holds))
 }
 
 /// What an instruction on three registers asks for.
 pub fn three_action(op: ThreeOp, cd: Reg, c1: Reg, c2: Reg, hart: &Hart) -> Action
-    ensures { asks result ≡ action (three_instr op cd c1 c2) hart.now }
+    ensures { action_of result ≡ action (three_instr op cd c1 c2) hart.now }
 {
     let (v, w) = (hart.register(c1), hart.register(c2));
     let (a, b) = (v.addr(), w.addr());
@@ -83,7 +83,7 @@ pub fn three_action(op: ThreeOp, cd: Reg, c1: Reg, c2: Reg, hart: &Hart) -> Acti
 
 /// What an instruction on two registers asks for.
 pub fn two_action(op: TwoOp, cd: Reg, c1: Reg, hart: &Hart) -> Action
-    ensures { asks result ≡ action (two_instr op cd c1) hart.now }
+    ensures { action_of result ≡ action (two_instr op cd c1) hart.now }
 {
     let v = hart.register(c1);
     match op {

@@ -18,7 +18,7 @@ use crate::checks::{
 };
 use cap_ops::Cap;
 use cheri_model::permission::{GLOBAL, LOAD, STORE, STORE_CAP, STORE_LOCAL};
-use cheri_model::{Access, RAM_BASE, Trap};
+use cheri_model::{Access, GRANULE_BYTES, RAM_BASE, Trap};
 use tagged_mem::Ram;
 
 /// The bytes that an access moves.
@@ -28,7 +28,7 @@ fn size_of(kind: Access) -> u64
 {
     match kind {
         Access::Load(width) | Access::Store(width) => width.bytes(),
-        Access::LoadCap | Access::StoreCap | Access::Swap => 16,
+        Access::LoadCap | Access::StoreCap | Access::Swap => u64::from(GRANULE_BYTES),
     }
 }
 

@@ -3,20 +3,21 @@
 
 ghost use Rattle.std.specs.Prelude.{◌≡◌, true};
 ghost use Rattle.cap_model.specs.values.CapValue.{IsLawfulValue, tag_of};
-ghost use Rattle.cheri_model.specs.steps.Hart.{following, link};
+ghost use Rattle.cheri_model.specs.steps.Hart.{next_pcc, link};
 ghost use Rattle.cap_model.specs.results.Addresses.{address_of, in_bounds, is_open, with_address};
 ghost use Rattle.cap_model.specs.results.Seals.{unsealed};
 
 use cap_ops::Cap;
+use cheri_model::INSTRUCTION_BYTES;
 
 /// PCC at the next instruction.
-pub fn following(pcc: Cap) -> Cap
+pub fn next_pcc(pcc: Cap) -> Cap
     requires open { is_open pcc ≡ true }
     requires within { in_bounds pcc (address_of pcc) 4 ≡ true }
-    ensures value { result ≡ following pcc }
+    ensures value { result ≡ next_pcc pcc }
     ensures lawful { IsLawfulValue result }
 {
-    let next = pcc.set_addr(pcc.addr().wrapping_add(4));
+    let next = pcc.set_addr(pcc.addr().wrapping_add(INSTRUCTION_BYTES));
     // The getters say that both are lawful.
     let _lawful = (pcc.tag(), next.tag());
     next
@@ -29,7 +30,7 @@ pub fn link(pcc: Cap) -> Cap
     requires within { in_bounds pcc (address_of pcc) 4 ≡ true }
     ensures { result ≡ link pcc }
 {
-    following(pcc).seal_entry()
+    next_pcc(pcc).seal_entry()
 }
 
 /// An open capability at a target in its bounds.
@@ -45,7 +46,7 @@ pub fn at_target(pcc: Cap, target: u64) -> Cap
 
 /// What becomes of PCC where a jump goes through a tagged capability, with the target in its
 /// bounds.
-pub fn entered(through: Cap, target: u64) -> Cap
+pub fn jumped_to(through: Cap, target: u64) -> Cap
     requires tag { tag_of through ≡ true }
     requires within { in_bounds through target 4 ≡ true }
     ensures { result ≡ with_address (unsealed through) target }

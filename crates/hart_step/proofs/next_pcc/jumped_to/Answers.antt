@@ -3,7 +3,7 @@ use Rattle.std.proofs.Common.{true, sym, subst}
 use Rattle.cap_model.specs.values.CapValue.{CapValue}
 use Rattle.cap_model.specs.results.Addresses.{is_open, in_bounds}
 use Rattle.cheri_model.proofs.Runs.Advances.{unsealed_is_open, in_bounds-unsealed}
-use Rattle.hart_step.proofs.places.entered.Goals as goal
+use Rattle.hart_step.proofs.next_pcc.jumped_to.Goals as goal
 
 pub at_target-requires-clause-open : goal.at_target-requires-clause-open
 at_target-requires-clause-open c = rw c.unsealed.ensures (unsealed_is_open c.args.through c.requires.tag)

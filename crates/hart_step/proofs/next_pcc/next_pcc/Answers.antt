@@ -2,7 +2,7 @@
 use Rattle.std.proofs.Common.{◌≡◌, ◌+◌, ◌%◌, ◌^◌, ap, ◌∙◌}
 use Rattle.cap_model.specs.results.Addresses.{set_address}
 use Rattle.cheri_model.proofs.Runs.Advances.{following_is}
-use Rattle.hart_step.proofs.places.following.Goals as goal
+use Rattle.hart_step.proofs.next_pcc.next_pcc.Goals as goal
 
 pub returns-clause-value : goal.returns-clause-value
 returns-clause-value c =

@@ -1,6 +1,6 @@
 use Rattle.std.proofs.Common.{◌∙◌}
 use Rattle.cheri_model.proofs.Runs.Advances.{target_is}
-use Rattle.hart_step.proofs.places.at_target.Goals as goal
+use Rattle.hart_step.proofs.next_pcc.at_target.Goals as goal
 
 pub returns : goal.returns
 returns c =
