@@ -35,7 +35,7 @@ module _ (g : Over) (c : After-tell g) where
   both : pending ≡ tickets_of c.args.op c.token-2.result
   both =
       let before : drop c.append.new.self.behind c.append.new.self.log.items ≡ Take c.args.op ∷ [] =
-          c.in-Ok.ensures.pending ∙ ap (λ (ts : List Ticket). ts ++ Take c.args.op ∷ []) c.self.invariant.1 in
+      c.in-Ok.ensures.pending ∙ ap (λ (ts : List Ticket). ts ++ Take c.args.op ∷ []) c.self.invariant.1 in
       grown_by pending (drop c.append.new.self.behind c.append.new.self.log.items) (Take c.args.op) (Tell c.token-2.result) before c.tell.ensures.pending
 
   grown : c.add.new.self ≡ operations_of shown.core.trace ++ c.args.op ∷ []

@@ -12,7 +12,7 @@ pub returns-then-now-self-clause-older : goal.returns-then-now-self-clause-older
 returns-then-now-self-clause-older g c none =
     let image = g.J.Naming.image in
     let seen : length c.args.self.now ≡ length c.self.inside.seen =
-        ap length (sym c.self.view_is) ∙ length-replayed_events image c.self.inside.seen in
+    ap length (sym c.self.view_is) ∙ length-replayed_events image c.self.inside.seen in
     let shown : length c.args.shown.now.core.trace ≡ length c.now.inside.seen =
-        ap length (sym (c.now.view_is ∙ c.of_core-now.ensures)) ∙ length-replayed_events image c.now.inside.seen in
+    ap length (sym (c.now.view_is ∙ c.of_core-now.ensures)) ∙ length-replayed_events image c.now.inside.seen in
     omega (arith, seen, shown, c.self.invariant, c.now.invariant, c.if-now-self.true)
