@@ -1,9 +1,10 @@
 -- An order token by token: how many operations there were, and those that are left.
-use Rattle.std.proofs.Common.{◌≡◌, ℕ, zero, suc, ◌+◌, ◌-◌, ◌<◌, ◌≤◌, true, false, nat_lt, List, [], ◌∷◌, length, drop, slice_index, Option, Some, None, Result, Ok, Err, IsOk, refl, sym, ap, ◌∙◌, add-one, arith}
+use Rattle.std.proofs.Common.{◌≡◌, ℕ, zero, suc, ◌+◌, ◌-◌, ◌<◌, ◌≤◌, true, false, nat_lt, List, [], ◌∷◌, length, drop, slice_index, Option, Some, None, Result, Ok, Err, IsOk, inl, inr, refl, sym, ap, ◌∙◌, add-one, arith}
 use Rattle.std.specs.List.{cons_option}
 use Rattle.std.proofs.Math.Seq.{drop-cons}
 use Rattle.std.proofs.Math.ListN.{drop_of_length-le}
 use Rattle.std.proofs.lemmas.List.{drop-drop}
+use Rattle.std.proofs.lemmas.Bool.{cases_lt}
 use Rattle.std.proofs.lemmas.Bool.Decides.{nat_tests}
 use Rattle.cheri_model.specs.declared.operation.Op.{Op}
 use Rattle.orders.specs.declared.fault.OrderFault.{OrderFault}
@@ -117,6 +118,17 @@ counted_short (Ok operations) count h short =
 pub counted_good : (whole : Result (List Op) OrderFault) (count : ℕ) → Ok count ≡ count_of whole → IsOk whole
 counted_good (Ok operations) count h = refl
 counted_good (Err fault) count h = cc
+
+pub counted_left : (whole : Result (List Op) OrderFault) (count : ℕ) → Ok count ≡ count_of whole → count ≡ length (or_none whole)
+counted_left (Ok operations) count h = cc
+counted_left (Err fault) count h = cc
+
+-- where operations are left, there is text
+pub room_left : (text : List ℕ) (place : ℕ) → 0 < length (left_from text place) → place < length text
+room_left text place some = elim (cases_lt place (length text)) [
+  | inl room ↦ room
+  | inr ended ↦ (let none = ap length (none_left text place ended) in omega (arith, some, none))
+]
 
 -- no fault is good
 not_good : {A B : Type 0} (fault : OrderFault) (r : Result A OrderFault) → r ≡ Err fault → IsOk r → B

@@ -33,15 +33,17 @@ use cheri_model::Op;
 use std::marker::Model;
 
 /// An order whose text was judged and is good. Its operations are read one by one from the text,
-/// so that none of them is kept. Contracts see those that are left.
+/// so that none of them is kept. Contracts see those that are left. They are counted, so that what
+/// stands after the last one is not read again.
 #[derive(Drop)]
 pub struct JudgedOrder<'a> {
     text: &'a [u8],
     place: usize,
+    left: usize,
 }
 
 impl<'a> Model for JudgedOrder<'a> {
-    ghost use Rattle.std.specs.Prelude.{List};
+    ghost use Rattle.std.specs.Prelude.{◌≡◌, List, length};
     ghost use Rattle.cheri_model.specs.declared.operation.Op.{Op};
     ghost use Rattle.orders.specs.Orders.{left_from, IsGoodFrom};
 
@@ -49,7 +51,8 @@ impl<'a> Model for JudgedOrder<'a> {
 
     ghost view = { λ order. left_from order.text.now order.place };
 
-    ghost invariant = { λ order. IsGoodFrom order.text.now order.place };
+    ghost invariant = { λ order. IsGoodFrom order.text.now order.place
+        × (order.left ≡ length (left_from order.text.now order.place)) };
 }
 
 impl<'a> JudgedOrder<'a> {
@@ -60,12 +63,13 @@ impl<'a> JudgedOrder<'a> {
             (λ operation. self.old ≡ operation ∷ self.new) }
         ensures asked { IfSome result IsAsked }
     {
-        self.place = after_blanks(self.text, self.place);
-        if self.place == self.text.len() {
+        if self.left == 0 {
             return None;
         }
-        let (operation, next) = good_operation(self.text, self.place);
+        let place = after_blanks(self.text, self.place);
+        let (operation, next) = good_operation(self.text, place);
         self.place = next;
+        self.left -= 1;
         Some(operation)
     }
 }
@@ -113,5 +117,9 @@ pub fn judge_order(text: &[u8]) -> Result<JudgedOrder<'_>, OrderFault>
             kind: OrderFaultKind::Size,
         });
     }
-    Ok(JudgedOrder { text, place })
+    Ok(JudgedOrder {
+        text,
+        place,
+        left: count,
+    })
 }
