@@ -157,6 +157,9 @@ impl Core {
     }
 
     /// One operation: a step or a sweep, with the event that it adds to the trace. Takes no memory.
+    /// Inlined, so that an operation and an event, which are wider than a step's number and entry,
+    /// are not passed through memory for each step.
+    #[inline(always)]
     pub fn apply(&mut self, op: Op) -> Result<Event, StepFault>
         ensures answered { result ≡ answered self.old op }
         ensures ok { OnOk result (self.new ≡ core_after self.old op) }

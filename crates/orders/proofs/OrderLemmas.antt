@@ -1,16 +1,15 @@
 -- An order token by token: how many operations there were, and those that are left.
-use Rattle.std.proofs.Common.{◌≡◌, ℕ, zero, suc, ◌+◌, ◌-◌, ◌<◌, ◌≤◌, true, false, nat_lt, List, [], ◌∷◌, length, drop, slice_index, Option, Some, None, Result, Ok, Err, IsOk, MatchOption, refl, sym, ap, ◌∙◌, add-one, arith}
+use Rattle.std.proofs.Common.{◌≡◌, ℕ, zero, suc, ◌+◌, ◌-◌, ◌<◌, ◌≤◌, true, false, nat_lt, List, [], ◌∷◌, length, drop, slice_index, Option, Some, None, Result, Ok, Err, IsOk, inl, inr, refl, sym, ap, ◌∙◌, add-one, arith}
 use Rattle.std.specs.List.{cons_option}
-use Rattle.std.specs.Option.{is_some}
-use mir.Val.{bool_byte}
 use Rattle.std.proofs.Math.Seq.{drop-cons}
 use Rattle.std.proofs.Math.ListN.{drop_of_length-le}
 use Rattle.std.proofs.lemmas.List.{drop-drop}
+use Rattle.std.proofs.lemmas.Bool.{cases_lt}
 use Rattle.std.proofs.lemmas.Bool.Decides.{nat_tests}
 use Rattle.cheri_model.specs.declared.operation.Op.{Op}
 use Rattle.orders.specs.declared.fault.OrderFault.{OrderFault}
 use Rattle.orders.specs.Faults.{◌>>=◌, size_fault}
-use Rattle.orders.specs.Orders.{order_limit, body_start, token_at, operations_from, from_place, or_none, left_from, within_limit, order_of}
+use Rattle.orders.specs.Orders.{order_limit, body_start, is_hart_digit, is_blank, token_at, as_token, operations_from, from_place, or_none, left_from, within_limit, order_of}
 
 -- some operations counted, and those of a text after them
 abbrev pub counted : ℕ → Result (List Op) OrderFault → Result ℕ OrderFault
@@ -55,23 +54,33 @@ token_faulty text place fault room token =
     let here : nat_lt place place ≡ false = grind (arith, nat_tests) in
     rw (from_here text place room, here, token) refl
 
--- a token's operation is counted before those after it
-pub token_counted : (before after : ℕ) (operation : Option Op) (rest : Result (List Op) OrderFault) (whole : Result ℕ OrderFault)
-    → after ≡ before + length (cons_option operation [])
-    → counted before (rest >>= (λ later. Ok (cons_option operation later))) ≡ whole
-    → counted after rest ≡ whole
-token_counted before after (Some op) (Ok later) whole e h = (let n : after + length later ≡ before + length (op ∷ later) = omega arith in ap Ok n) ∙ h
-token_counted before after None (Ok later) whole e h = (let n : after + length later ≡ before + length later = omega arith in ap Ok n) ∙ h
-token_counted before after operation (Err fault) whole e h = h
+-- a blank holds no operation
+blank_token : (text : List ℕ) (place b : ℕ) → is_blank b ≡ true → token_at text place b ≡ Ok (None, place + 1)
+unfolding token_at
+blank_token text place b blank =
+    let digit : is_hart_digit b ≡ false = grind (arith, nat_tests) in
+    rw (digit, blank) refl
 
--- the operations of one token
-pub one_counted : (operation : Option Op) (count : ℕ) → count ≡ bool_byte (is_some operation) → count ≡ length (cons_option operation [])
-one_counted (Some op) count e = e ∙ omega arith
-one_counted None count e = e
+none_before : (whole : Result (List Op) OrderFault) → (whole >>= (λ later. Ok (cons_option None later))) ≡ whole
+none_before (Ok later) = refl
+none_before (Err fault) = refl
 
-pub one_at_most : (operation : Option Op) → length (cons_option operation []) ≤ 1
-one_at_most (Some op) = omega arith
-one_at_most None = omega arith
+pub blank_passed : (text : List ℕ) (place : ℕ) → place < length text → is_blank (slice_index text place) ≡ true → from_place text (place + 1) ≡ from_place text place
+blank_passed text place room blank =
+    let token = blank_token text place (slice_index text place) blank in
+    sym (token_first text place None (place + 1) room token (omega arith) ∙ none_before (from_place text (place + 1)))
+
+-- an operation was read where there is a token
+pub read_before : (read : Result (Op × ℕ) OrderFault) → IsOk (as_token read) → IsOk read
+read_before (Ok operation) good = refl
+read_before (Err fault) good = good
+
+-- an operation is counted before those after it
+pub operation_counted : (count : ℕ) (operation : Op) (later : Result (List Op) OrderFault) (whole : Result ℕ OrderFault)
+    → counted count (later >>= (λ l. Ok (cons_option (Some operation) l))) ≡ whole
+    → counted (count + 1) later ≡ whole
+operation_counted count operation (Ok later) whole h = (let n : count + 1 + length later ≡ count + length (operation ∷ later) = omega arith in ap Ok n) ∙ h
+operation_counted count operation (Err fault) whole h = h
 
 -- no token is left at the end
 pub end_counted : (text : List ℕ) (place count : ℕ) → length text ≤ place → counted count (from_place text place) ≡ Ok count
@@ -110,6 +119,17 @@ pub counted_good : (whole : Result (List Op) OrderFault) (count : ℕ) → Ok co
 counted_good (Ok operations) count h = refl
 counted_good (Err fault) count h = cc
 
+pub counted_left : (whole : Result (List Op) OrderFault) (count : ℕ) → Ok count ≡ count_of whole → count ≡ length (or_none whole)
+counted_left (Ok operations) count h = cc
+counted_left (Err fault) count h = cc
+
+-- where operations are left, there is text
+pub room_left : (text : List ℕ) (place : ℕ) → 0 < length (left_from text place) → place < length text
+room_left text place some = elim (cases_lt place (length text)) [
+  | inl room ↦ room
+  | inr ended ↦ (let none = ap length (none_left text place ended) in omega (arith, some, none))
+]
+
 -- no fault is good
 not_good : {A B : Type 0} (fault : OrderFault) (r : Result A OrderFault) → r ≡ Err fault → IsOk r → B
 not_good fault (Ok x) e h = cc
@@ -139,13 +159,3 @@ pub token_passed : (text : List ℕ) (place : ℕ) (operation : Option Op) (next
 token_passed text place operation next room good token ahead =
     let p = left_where operation (from_place text place) (from_place text next) (token_first text place operation next room token ahead) good in
     record { good = p.0; left = p.1 }
-
--- what a token hands out, where it asks for an operation
-pub found : (operation : Option Op) (whole after : List Op) → is_some operation ≡ true → whole ≡ cons_option operation after
-    → MatchOption operation ((whole ≡ []) × (after ≡ [])) (λ op. whole ≡ op ∷ after)
-found (Some op) whole after some e = e
-found None whole after some e = cc
-
-pub skipped : (operation : Option Op) (whole after : List Op) → is_some operation ≡ false → whole ≡ cons_option operation after → after ≡ whole
-skipped (Some op) whole after some e = cc
-skipped None whole after some e = sym e

@@ -1,6 +1,5 @@
 -- A sweep whose numbers were read up to 128 bits is the sweep of the numbers.
-use Rattle.std.proofs.Common.{◌≡◌, ℕ, ◌+◌, ◌-◌, ◌^◌, ◌<◌, ◌≤◌, min, List, drop, nat_lt, Bool, true, false, cond, ◌&&◌, Ok, Err, ◌⊎◌, inl, inr, refl, arith}
-use Rattle.std.proofs.lemmas.Bool.{cases_lt}
+use Rattle.std.proofs.Common.{◌≡◌, ℕ, ◌+◌, ◌-◌, ◌^◌, min, List, drop, nat_lt, Bool, true, false, cond, ◌&&◌, Ok, Err, refl, arith}
 use Rattle.std.proofs.lemmas.Bool.Decides.{nat_tests}
 use Rattle.cap_model.specs.declared.encoding.TheConstants.{ADDRESS_SPACE}
 use Rattle.cheri_model.specs.declared.operation.Op.TheVariants as operation

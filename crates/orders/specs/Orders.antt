@@ -43,6 +43,10 @@ token_at text place b =
     else if (b == 0x5B) && is_version_2 text then sweep_at text place >>= (λ sweep. Ok (Some sweep.0, sweep.1))
     else Err (byte_fault place)
 
+-- an operation that was read, or the fault in its place, as a token
+abbrev pub as_token : Result (Op × ℕ) OrderFault → Result (Option Op × ℕ) OrderFault
+as_token read = read >>= (λ operation. Ok (Some operation.0, operation.1))
+
 -- The operations of a text, first one first, from its bytes from a place on. Those before `next` are of a token that
 -- was read.
 unfoldable pub operations_from : List ℕ → ℕ → ℕ → List ℕ → Result (List Op) OrderFault

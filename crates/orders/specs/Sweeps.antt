@@ -1,5 +1,5 @@
 -- Sweeps `[LO,HI]` in orders of version 2 (this project's own format).
-use Rattle.std.specs.Prelude.{ℕ, ◌+◌, nat_lt, Bool, ◌&&◌, if◌then◌else◌, List, drop, Result, Ok, Err}
+use Rattle.std.specs.Prelude.{ℕ, ◌+◌, nat_lt, ◌&&◌, if◌then◌else◌, List, drop, Result, Ok, Err}
 use Rattle.cap_model.specs.declared.encoding.TheConstants.{ADDRESS_SPACE}
 use Rattle.cheri_model.specs.declared.operation.Op.{Op}
 use Rattle.cheri_model.specs.declared.operation.Op.TheVariants as operation

@@ -9,6 +9,8 @@ ghost use Rattle.std.specs.Prelude.{
   [],
   ◌∷◌,
   Ok,
+  Some,
+  false,
   IfErr,
   IsOk,
   IfSome,
@@ -16,23 +18,32 @@ ghost use Rattle.std.specs.Prelude.{
   length,
   slice_index,
 };
-ghost use Rattle.orders.specs.Orders.{order_of, IsAsked, token_at, from_place, count_from};
+ghost use Rattle.orders.specs.Orders.{
+  order_of,
+  IsAsked,
+  is_blank,
+  token_at,
+  from_place,
+  count_from,
+};
 
 use crate::fault::{OrderFault, OrderFaultKind};
-use crate::reader::{ORDER_LIMIT, body_start, token_at};
+use crate::reader::{ORDER_LIMIT, after_blanks, body_start, operation_at};
 use cheri_model::Op;
 use std::marker::Model;
 
 /// An order whose text was judged and is good. Its operations are read one by one from the text,
-/// so that none of them is kept. Contracts see those that are left.
+/// so that none of them is kept. Contracts see those that are left. They are counted, so that what
+/// stands after the last one is not read again.
 #[derive(Drop)]
 pub struct JudgedOrder<'a> {
     text: &'a [u8],
     place: usize,
+    left: usize,
 }
 
 impl<'a> Model for JudgedOrder<'a> {
-    ghost use Rattle.std.specs.Prelude.{List};
+    ghost use Rattle.std.specs.Prelude.{◌≡◌, List, length};
     ghost use Rattle.cheri_model.specs.declared.operation.Op.{Op};
     ghost use Rattle.orders.specs.Orders.{left_from, IsGoodFrom};
 
@@ -40,7 +51,8 @@ impl<'a> Model for JudgedOrder<'a> {
 
     ghost view = { λ order. left_from order.text.now order.place };
 
-    ghost invariant = { λ order. IsGoodFrom order.text.now order.place };
+    ghost invariant = { λ order. IsGoodFrom order.text.now order.place
+        × (order.left ≡ length (left_from order.text.now order.place)) };
 }
 
 impl<'a> JudgedOrder<'a> {
@@ -51,26 +63,28 @@ impl<'a> JudgedOrder<'a> {
             (λ operation. self.old ≡ operation ∷ self.new) }
         ensures asked { IfSome result IsAsked }
     {
-        while self.place < self.text.len() {
-            let (operation, next) = good_token(self.text, self.place);
-            self.place = next;
-            if operation.is_some() {
-                return operation;
-            }
+        if self.left == 0 {
+            return None;
         }
-        None
+        let place = after_blanks(self.text, self.place);
+        let (operation, next) = good_operation(self.text, place);
+        self.place = next;
+        self.left -= 1;
+        Some(operation)
     }
 }
 
-/// The token at a place of a text that is good from there on.
+/// The operation at a place, where no blank is, of a text that is good from there on.
 #[inline(always)]
-fn good_token(text: &[u8], place: usize) -> (Option<Op>, usize)
+fn good_operation(text: &[u8], place: usize) -> (Op, usize)
     requires inside { place < length text.now }
+    requires token { is_blank (slice_index text.now place) ≡ false }
     requires good { IsOk (from_place text.now place) }
-    ensures token { token_at text.now place (slice_index text.now place) ≡ Ok result }
+    ensures token { token_at text.now place (slice_index text.now place)
+        ≡ Ok (Some result.0, result.1) }
     ensures next { (place < result.1) × (result.1 ≤ length text.now) }
 {
-    token_at(text, place).unwrap()
+    operation_at(text, place).unwrap()
 }
 
 /// How many operations the tokens from a place on ask for, or the first fault.
@@ -80,11 +94,11 @@ fn operation_count(text: &[u8], start: usize) -> Result<usize, OrderFault>
     ensures fault { IfErr result (λ fault. fault.kind ≢ OrderFaultKind.NoMemory) }
 {
     let mut count = 0;
-    let mut place = start;
+    let mut place = after_blanks(text, start);
     while place < text.len() {
-        let (operation, next) = token_at(text, place)?;
-        count += usize::from(operation.is_some());
-        place = next;
+        let (_, next) = operation_at(text, place)?;
+        count += 1;
+        place = after_blanks(text, next);
     }
     Ok(count)
 }
@@ -103,5 +117,9 @@ pub fn judge_order(text: &[u8]) -> Result<JudgedOrder<'_>, OrderFault>
             kind: OrderFaultKind::Size,
         });
     }
-    Ok(JudgedOrder { text, place })
+    Ok(JudgedOrder {
+        text,
+        place,
+        left: count,
+    })
 }

@@ -5,6 +5,7 @@ ghost use Rattle.std.specs.Prelude.{
   ◌<◌,
   ◌≤◌,
   ◌+◌,
+  false,
   IsTrue,
   IfOk,
   All,
@@ -16,8 +17,11 @@ ghost use Rattle.orders.specs.Orders.{
   Gives,
   IsAsked,
   is_version_2,
+  is_blank,
   body_start,
   token_at,
+  as_token,
+  from_place,
 };
 
 use crate::fault::OrderFault;
@@ -48,21 +52,40 @@ pub(crate) fn body_start(text: &[u8]) -> usize
     if is_version_2(text) { HEADER.len() } else { 0 }
 }
 
-/// The token at a place: the operation that it asks for, if any, and the place after it. Inlined,
-/// since its answer has 80 bytes, which a call would write and its caller copy for each byte.
+/// Whether a byte separates operations.
+fn is_blank(byte: u8) -> bool
+    ensures { result ≡ is_blank byte }
+{
+    matches!(byte, b' ' | b'\n')
+}
+
+/// The place of the first byte from `start` on that is not blank, or the end of the text.
+pub(crate) fn after_blanks(text: &[u8], start: usize) -> usize
+    requires { start ≤ length text.now }
+    ensures inside { (start ≤ result) × (result ≤ length text.now) }
+    ensures same { from_place text.now result ≡ from_place text.now start }
+    ensures token { result < length text.now → is_blank (slice_index text.now result) ≡ false }
+{
+    let mut place = start;
+    while place < text.len() && is_blank(text[place]) {
+        place += 1;
+    }
+    place
+}
+
+/// The operation at a place, where no blank is, and the place after it. Inlined, since its answer
+/// has 64 bytes, which a call would write and its caller copy for each operation.
 #[inline(always)]
-pub(crate) fn token_at(text: &[u8], place: usize) -> Result<(Option<Op>, usize), OrderFault>
-    requires { place < length text.now }
-    ensures token { result ≡ token_at text.now place (slice_index text.now place) }
-    ensures next { IfOk result (λ token. (place < token.1) × (token.1 ≤ length text.now)) }
+pub(crate) fn operation_at(text: &[u8], place: usize) -> Result<(Op, usize), OrderFault>
+    requires inside { place < length text.now }
+    requires token { is_blank (slice_index text.now place) ≡ false }
+    ensures token { token_at text.now place (slice_index text.now place) ≡ as_token result }
+    ensures next { IfOk result (λ operation.
+        (place < operation.1) × (operation.1 ≤ length text.now)) }
 {
     match text[place] {
-        digit @ b'0'..=b'7' => Ok((Some(Op::Step(digit - b'0')), place + 1)),
-        b' ' | b'\n' => Ok((None, place + 1)),
-        b'[' if is_version_2(text) => {
-            let (sweep, next) = sweep_at(text, place)?;
-            Ok((Some(sweep), next))
-        }
+        digit @ b'0'..=b'7' => Ok((Op::Step(digit - b'0'), place + 1)),
+        b'[' if is_version_2(text) => sweep_at(text, place),
         _ => Err(OrderFault::byte(place)),
     }
 }

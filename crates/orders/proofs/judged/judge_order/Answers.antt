@@ -1,7 +1,7 @@
 use Rattle.std.proofs.Common.{◌≡◌, ◌∙◌, Ok, Err, sym}
 use Rattle.std.proofs.lemmas.Result.{err_from_is_err_and}
 use Rattle.orders.specs.Orders.{count_from}
-use Rattle.orders.proofs.OrderLemmas.{whole_text, counted_faulty, counted_long, counted_short, counted_good}
+use Rattle.orders.proofs.OrderLemmas.{whole_text, counted_faulty, counted_long, counted_short, counted_good, counted_left}
 use Rattle.orders.proofs.judged.judge_order.Goals as goal
 
 pub returns-in_err-count-clause-meaning : goal.returns-in_err-count-clause-meaning
@@ -30,4 +30,4 @@ returns-clause-meaning c =
 pub invariant_of-result : goal.invariant_of-result
 invariant_of-result c =
     let counted : Ok c.in_ok-count.count ≡ count_from c.args.text.now c.body_start-place.result = sym c.in_ok-count.was ∙ c.operation_count.ensures.count in
-    record { inside = c.body_start-place.ensures.room; good = counted_good _ _ counted }
+    (record { inside = c.body_start-place.ensures.room; good = counted_good _ _ counted }, counted_left _ _ counted)

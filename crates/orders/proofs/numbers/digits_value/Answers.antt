@@ -1,4 +1,4 @@
-use Rattle.std.proofs.Common.{◌≡◌, ℕ, ◌+◌, ◌-◌, ◌*◌, ◌^◌, ◌∙◌, min, fold, rules}
+use Rattle.std.proofs.Common.{◌≡◌, ◌+◌, ◌-◌, ◌*◌, ◌^◌, ◌∙◌, min, fold, rules}
 use Rattle.std.specs.Char.{digit_value}
 use Rattle.orders.proofs.NumberLemmas.{digits_folded}
 use Rattle.orders.proofs.numbers.digits_value.Goals as goal

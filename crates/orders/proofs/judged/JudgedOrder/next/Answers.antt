@@ -1,42 +1,41 @@
--- A token that was read is passed over; what is left is one operation less, or as much as before.
-use Rattle.std.proofs.Common.{◌∙◌, sym}
-use Rattle.orders.specs.Orders.{left_from}
+-- Blanks are passed over, and then an operation; what is left is one operation less.
+use Rattle.std.proofs.Common.{◌<◌, ◌∙◌, Some, IsOk, length, arith, sym, ap}
+use Rattle.orders.specs.Orders.{from_place, or_none, left_from}
 use Rattle.orders.proofs.AskedLemmas.{asked_of_token}
-use Rattle.orders.proofs.OrderLemmas.{token_passed, found, skipped, none_left}
+use Rattle.orders.proofs.OrderLemmas.{token_passed, room_left}
 use Rattle.orders.proofs.judged.JudgedOrder.next.Goals as goal
 
-pub invariant_of-self-then-is_some : goal.invariant_of-self-then-is_some
-invariant_of-self-then-is_some c =
-    let i = c.loop-self.invariant in
-    let text = c.loop-self.self-inside.text.now in
-    let token = c.good_token-operation in
-    let passed = token_passed text c.loop-self.self-inside.place token.result.0 token.result.1 c.loop-self-test.true i.good.good token.ensures.token token.ensures.next.0 in
-    record { inside = token.ensures.next.1; good = passed.good }
+pub good_operation-operation-requires-clause-inside : goal.good_operation-operation-requires-clause-inside
+good_operation-operation-requires-clause-inside c =
+    let text = c.self.inside.text.now in
+    let same = ap or_none c.after_blanks-place.ensures.same in
+    let some : 0 < length (left_from text c.after_blanks-place.result) = rw same (omega (arith, c.self.invariant.1, c.if-self-eq0.false)) in
+    room_left text c.after_blanks-place.result some
 
-pub returns-then-is_some-clause-next : goal.returns-then-is_some-clause-next
-returns-then-is_some-clause-next c =
-    let i = c.loop-self.invariant in
-    let text = c.loop-self.self-inside.text.now in
-    let token = c.good_token-operation in
-    let passed = token_passed text c.loop-self.self-inside.place token.result.0 token.result.1 c.loop-self-test.true i.good.good token.ensures.token token.ensures.next.0 in
-    found token.result.0 c.args.self.now (left_from text token.result.1) (sym c.is_some.ensures ∙ c.if-is_some.true) (sym i.left ∙ passed.left)
-
-pub returns-then-is_some-clause-asked : goal.returns-then-is_some-clause-asked
-returns-then-is_some-clause-asked c =
-    let token = c.good_token-operation in
-    asked_of_token c.loop-self.self-inside.text.now c.loop-self.self-inside.place _ token.result.0 token.result.1 token.ensures.token
-
-pub loop-self-preserved : goal.loop-self-preserved
-loop-self-preserved c =
-    let i = c.loop-self.invariant in
-    let text = c.loop-self.self-inside.text.now in
-    let token = c.good_token-operation in
-    let passed = token_passed text c.loop-self.self-inside.place token.result.0 token.result.1 c.loop-self-test.true i.good.good token.ensures.token token.ensures.next.0 in
-    let same = skipped token.result.0 (left_from text c.loop-self.self-inside.place) (left_from text token.result.1) (sym c.is_some.ensures ∙ c.if-is_some.false) passed.left in
-    record { good = record { inside = token.ensures.next.1; good = passed.good }; left = same ∙ i.left }
+pub invariant_of-self : goal.invariant_of-self
+invariant_of-self c =
+    let text = c.self.inside.text.now in
+    let place = c.after_blanks-place.result in
+    let operation = c.good_operation-operation in
+    let same = ap or_none c.after_blanks-place.ensures.same in
+    let some : 0 < length (left_from text place) = rw same (omega (arith, c.self.invariant.1, c.if-self-eq0.false)) in
+    let good : IsOk (from_place text place) = rw c.after_blanks-place.ensures.same c.self.invariant.0.good in
+    let passed = token_passed text place (Some operation.result.0) operation.result.1 (room_left text place some) good operation.ensures.token operation.ensures.next.0 in
+    let count = ap length (sym same ∙ passed.left) in
+    (record { inside = operation.ensures.next.1; good = passed.good }, omega (arith, c.self.invariant.1, count))
 
 pub returns-clause-next : goal.returns-clause-next
 returns-clause-next c =
-    let i = c.loop-self.invariant in
-    let none = none_left c.loop-self.self-inside.text.now c.loop-self.self-inside.place c.loop-self-test.false in
-    (sym i.left ∙ none, none)
+    let text = c.self.inside.text.now in
+    let place = c.after_blanks-place.result in
+    let operation = c.good_operation-operation in
+    let same = ap or_none c.after_blanks-place.ensures.same in
+    let some : 0 < length (left_from text place) = rw same (omega (arith, c.self.invariant.1, c.if-self-eq0.false)) in
+    let good : IsOk (from_place text place) = rw c.after_blanks-place.ensures.same c.self.invariant.0.good in
+    let passed = token_passed text place (Some operation.result.0) operation.result.1 (room_left text place some) good operation.ensures.token operation.ensures.next.0 in
+    sym c.self.view_is ∙ sym same ∙ passed.left
+
+pub returns-clause-asked : goal.returns-clause-asked
+returns-clause-asked c =
+    let operation = c.good_operation-operation in
+    asked_of_token c.self.inside.text.now c.after_blanks-place.result _ (Some operation.result.0) operation.result.1 operation.ensures.token
