@@ -98,11 +98,15 @@ fn tables_follow_swaps(rt: HostRuntime) -> Result<(), Fail> {
     let mut origins = OriginTable::open(rt.alloc(), 2, 4)?;
     let register = Place::RegisterOf { hart: 1, number: 5 };
     assert_eq!(rt; origins.origin(register), register);
-    let swap = StepFlows::Two(
-        flow(Spot::Granule(3), Spot::Register(5)),
-        flow(Spot::Register(5), Spot::Granule(3)),
-    );
-    origins.follow(1, swap);
+    let stored = Flow {
+        set: Spot::Granule(3),
+        source: Spot::Register(5),
+    };
+    let loaded = Flow {
+        set: Spot::Register(5),
+        source: Spot::Granule(3),
+    };
+    origins.follow(1, StepFlows::Two(stored, loaded));
     assert_eq!(rt; origins.origin(register), Place::GranuleOf(3));
     assert_eq!(rt; origins.origin(Place::GranuleOf(3)), register);
     let other = Place::RegisterOf { hart: 0, number: 5 };
