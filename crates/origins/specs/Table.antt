@@ -80,7 +80,8 @@ pub record IsAfter (number : ℕ) (flows : List Flow) (old new : Table) : Type 0
 -- it tells the origins after an order, for each place that it has
 abbrev pub TellsOrigins : ImageParts → List Op → Table → Type 0
 TellsOrigins image order table =
-    (place : Place) → IsPlace table place → origin_in table place ≡ replayed_origins image order place
+    (place : Place) → IsPlace table place
+    → origin_in table place ≡ replayed_origins image order place
 
 -- the flows of the step of a hart after an order
 abbrev pub next_flows : ImageParts → List Op → ℕ → List Flow

@@ -80,8 +80,8 @@ fn and_into(first: Flow, cd: Reg, source: Spot) -> StepFlows
     )
 }
 
-/// What an instruction that is done sets, and where from (CHERI ISA v9, "provenance"). Its access of
-/// memory, if it has one, is at `address`.
+/// What an instruction that is done sets, and where from (CHERI ISA v9, "provenance"). Its access
+/// of memory, if it has one, is at `address`.
 #[tactic(auto, unfolding(crate::specs::Flows::flows_at))]
 pub fn flows(instr: &Instr, address: u64) -> StepFlows
     requires { address < ram_base + 2 ^ 20 }

@@ -74,8 +74,8 @@ fn place_at(harts: u8, slot: usize) -> Place
 }
 
 impl OriginTable {
-    /// A table of so many harts and granules of memory, in which each place is its own origin. Fails
-    /// only when out of memory.
+    /// A table of so many harts and granules of memory, in which each place is its own origin.
+    /// Fails only when out of memory.
     pub fn open(alloc: Global, harts: u8, granules: u32) -> Result<OriginTable, AllocError>
         ensures { IfOk result (λ table. IsOpening harts granules table) }
     {

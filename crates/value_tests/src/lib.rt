@@ -1,5 +1,5 @@
-//! Tests of `cap_model`, `cheri_model`, `cap_bounds`, `cap_ops` and `tagged_mem` by their public calls alone, as
-//! their users make them.
+//! Tests of `cap_model`, `cheri_model`, `cap_bounds`, `cap_ops`, `tagged_mem` and `origins` by
+//! their public calls alone, as their users make them.
 #![tactic(auto)]
 
 #[cfg(test)]
@@ -10,3 +10,5 @@ mod capabilities;
 mod images;
 #[cfg(test)]
 mod memory;
+#[cfg(test)]
+mod provenance;
