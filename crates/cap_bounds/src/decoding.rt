@@ -40,6 +40,16 @@ pub fn decode(upper: u64, addr: u64) -> (u64, u128)
     (base, with_top_bit(e, base, top))
 }
 
+/// The base of the word alone, which takes a fraction of the time of `decode`.
+#[tactic(auto, using(crate::proofs::Regions::same_bounds), unfolding(crate::proofs::Open::raw))]
+pub fn decode_base(upper: u64, addr: u64) -> u64
+    ensures { result ≡ raw_base upper addr }
+{
+    let e = exponent_field(upper);
+    let b = b_digits(upper);
+    address_of_steps(e, region_steps(e, b, addr) + offset_steps(b, b))
+}
+
 /// Where the region of the address begins, modulo 2^64.
 pub(crate) fn region_origin(upper: u64, addr: u64) -> u64
     ensures { result ≡ region_start (word_exponent upper) (word_b upper) addr % 2 ^ 64 }

@@ -12,7 +12,7 @@ mod rounding;
 mod word;
 
 pub use alignment::{cram, crrl};
-pub use decoding::decode;
+pub use decoding::{decode, decode_base};
 pub use parts::Fields;
 pub use representability::representable;
 pub use rounding::{Rounded, set_bounds};

@@ -5,4 +5,5 @@ pub mod MadeAgain
 pub mod Unpacking
 pub mod Open
 pub mod BuiltAgain
+pub mod RawLengths
 pub mod Encodings

@@ -1,7 +1,8 @@
 -- Short names for hints: each definition opens what its own line names.
 use Rattle.std.specs.Prelude.{ℕ, Bool}
 use Rattle.std.proofs.lemmas.Nat.{and_le_l}
-use Rattle.cap_model.specs.words.Fields.{with_null_fields, word_otype}
+use Rattle.cap_model.specs.words.Fields.{with_null_fields, word_otype, word_ie}
+use Rattle.cap_model.specs.words.Fields.{stored_t, stored_b, word_b, word_t}
 use Rattle.cap_model.specs.values.Capability.{capability_at}
 use Rattle.cap_model.specs.values.CapValue.{CapValue}
 use Rattle.cap_model.specs.results.EditedWords.{with_perms, with_flag, with_otype}
@@ -12,6 +13,7 @@ use Rattle.cap_model.specs.results.Fields.{set_high}
 use Rattle.cap_model.specs.results.Readings.{offset_of, type_number_of, is_subset, is_equal_exact}
 use Rattle.cap_model.proofs.Results.Values.{perms_known, top_lt}
 use Rattle.cap_model.proofs.Results.FieldResultsMade.{unsealed_perms_known}
+use Rattle.cap_ops.specs.Tagged.{stored_exponent}
 
 unfoldable pub address : CapValue → ℕ
 unfolding capability_at address_of
@@ -36,6 +38,18 @@ changes v distance = inc_offset v distance
 unfoldable pub comparisons : CapValue → CapValue → Bool
 unfolding is_subset is_equal_exact
 comparisons v w = is_subset v w
+
+unfoldable pub stored : ℕ → ℕ
+unfolding stored_exponent word_ie stored_t stored_b
+stored upper = stored_exponent upper
+
+unfoldable pub base_digits : ℕ → ℕ
+unfolding word_b word_ie stored_b
+base_digits upper = word_b upper
+
+unfoldable pub top_digits : ℕ → ℕ
+unfolding word_t word_ie stored_t
+top_digits upper = word_t upper
 
 -- the bounds and the permissions of a lawful value
 pub ruleset known = (top_lt, perms_known)

@@ -43,7 +43,7 @@ steps_above ie b t i p q base_eighths top_eighths = elim (cases_lt t (b % 2 ^ 12
   )
 ]
 
-word_ie_lt : (upper : ℕ) → word_ie upper < 2
+pub word_ie_lt : (upper : ℕ) → word_ie upper < 2
 unfolding word_ie
 word_ie_lt upper = omega arith
 
@@ -81,7 +81,8 @@ top_offset e b t l h digits fewer =
     rw steps refl
 
 -- the region's start in steps of 2^E, of which 8 make a multiple
-start_steps : (e b a : ℕ) → e ≤ 52 → (k : ℕ) × (region_start e b a ≡ k * 2 ^ 11 * 2 ^ e)
+start_steps : (e b a : ℕ) → e ≤ 52 →
+    (k : ℕ) × ((region_start e b a ≡ k * 2 ^ 11 * 2 ^ e) × (k % 8 ≡ (b / 2 ^ 11 + 7) % 8))
 unfolding region_floor
 start_steps e b a h =
     let greatest = region_start_greatest e b a h in
@@ -89,7 +90,7 @@ start_steps e b a h =
     let size : 2 ^ (e + 14) ≡ 2 ^ 14 * 2 ^ e = omega (arith, pow-add 2 e 14) in
     let scaled = ap (λ (z : ℕ). region_start e b a / 2 ^ (e + 14) * z) size in
     let congruent = greatest.congruent in
-    (region_start e b a / 2 ^ (e + 14) * 8 + (b / 2 ^ 11 + 7) % 8, omega arith)
+    (region_start e b a / 2 ^ (e + 14) * 8 + (b / 2 ^ 11 + 7) % 8, (omega arith, omega arith))
 
 -- a number of steps that is a multiple of 8 makes a multiple of 2^(E+3)
 eighths_multiple : (e x : ℕ) → x % 8 ≡ 0 → x * 2 ^ e % 2 ^ (e + 3) ≡ 0
@@ -144,14 +145,16 @@ corrected_near e base t n h p q r =
     ])
 
 -- the bounds of a word, x steps of 2^E up for the base before it goes round, and l more for the top
-record AreSteps (upper a x l : ℕ) : Type 0 where
-  base : raw_base upper a ≡ x * 2 ^ word_exponent upper % 2 ^ 64
-  top : uncorrected_top upper a ≡ (x * 2 ^ word_exponent upper + l * 2 ^ word_exponent upper) % 2 ^ 65
-  fewer : l < word_ie upper * 2 ^ 12 + 2 ^ 12
-  base_eighths : word_ie upper ≡ 1 → x % 8 ≡ 0
-  top_eighths : word_ie upper ≡ 1 → (x + l) % 8 ≡ 0
+pub record AreSteps (upper a x l : ℕ) : Type 0 where
+  pub base : raw_base upper a ≡ x * 2 ^ word_exponent upper % 2 ^ 64
+  pub top : uncorrected_top upper a ≡ (x * 2 ^ word_exponent upper + l * 2 ^ word_exponent upper) % 2 ^ 65
+  pub base_digits : x % 2 ^ 14 ≡ word_b upper
+  pub top_digits : word_t14 upper ≡ (word_b upper + l) % 2 ^ 14
+  pub fewer : l < word_ie upper * 2 ^ 12 + 2 ^ 12
+  pub base_eighths : word_ie upper ≡ 1 → x % 8 ≡ 0
+  pub top_eighths : word_ie upper ≡ 1 → (x + l) % 8 ≡ 0
 
-bounds_steps : (upper a : ℕ) → (x : ℕ) × ((l : ℕ) × AreSteps upper a x l)
+pub bounds_steps : (upper a : ℕ) → (x : ℕ) × ((l : ℕ) × AreSteps upper a x l)
 unfolding raw_base uncorrected_top
 bounds_steps upper a =
     let e : ℕ = word_exponent upper in
@@ -163,7 +166,8 @@ bounds_steps upper a =
     let internal = word_ie_lt upper in
     let base_in = base_offset e b b_below in
     let top_in = top_offset e b (word_t14 upper) steps.0 b_below steps.1.digits (omega arith) in
-    let start_is = start.1 in
+    let start_is = start.1.0 in
+    let turned = start.1.1 in
     let x : ℕ = start.0 * 2 ^ 11 + 2 ^ 11 + b % 2 ^ 11 in
     let base_sum : region_start e b a + region_offset e b b ≡ x * 2 ^ e = omega arith in
     let top_sum : region_start e b a + region_offset e b (word_t14 upper) ≡ x * 2 ^ e + steps.0 * 2 ^ e = omega arith in (
@@ -173,6 +177,8 @@ bounds_steps upper a =
         record {
           base = rw base_sum refl;
           top = rw top_sum refl;
+          base_digits = omega arith;
+          top_digits = steps.1.digits;
           fewer = fewer;
           base_eighths = λ one. let eighths = word_b_eighths upper one in omega arith;
           top_eighths = λ one. let eighths = word_b_eighths upper one in let more = steps.1.eighths one in omega arith;
@@ -185,12 +191,12 @@ module _ (upper a x l : ℕ) (steps : AreSteps upper a x l) where
   e = word_exponent upper
 
   -- with IE 1 both bounds are multiples of 2^(E+3)
-  base_multiple : word_ie upper ≡ 1 → raw_base upper a % 2 ^ (e + 3) ≡ 0
+  pub base_multiple : word_ie upper ≡ 1 → raw_base upper a % 2 ^ (e + 3) ≡ 0
   base_multiple one =
       let most = word_exponent_at_most upper in
       rw steps.base (multiple_round (e + 3) 64 (x * 2 ^ e) (omega arith) (eighths_multiple e x (steps.base_eighths one)))
 
-  top_multiple : word_ie upper ≡ 1 → raw_top upper a % 2 ^ (e + 3) ≡ 0
+  pub top_multiple : word_ie upper ≡ 1 → raw_top upper a % 2 ^ (e + 3) ≡ 0
   unfolding raw_top
   top_multiple one =
       let most = word_exponent_at_most upper in
@@ -200,7 +206,7 @@ module _ (upper a x l : ℕ) (steps : AreSteps upper a x l) where
       corrected_multiple (e + 3) e (raw_base upper a) (uncorrected_top upper a) (omega arith) round
 
   -- up to exponent 50 the top is l steps above the base
-  top_is : e < 51 → raw_top upper a ≡ raw_base upper a + l * 2 ^ e
+  pub top_is : e < 51 → raw_top upper a ≡ raw_base upper a + l * 2 ^ e
   unfolding raw_top
   top_is low =
       let internal = word_ie_lt upper in

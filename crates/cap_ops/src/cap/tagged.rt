@@ -1,89 +1,115 @@
 //! Values of a tag and a word from outside, where nothing says that a capability has that word.
 
-ghost use Rattle.std.specs.Prelude.{◌≡◌, ◌+◌, ◌*◌, ◌%◌, ◌^◌, ◌<◌, ◌≤◌};
-ghost use Rattle.cap_model.specs.values.Capability.{b_field, t_field};
-ghost use Rattle.cap_model.specs.values.CapValue.{bits_of};
+ghost use Rattle.std.specs.Prelude.{◌≡◌, ◌^◌, ◌<◌, ◌&&◌};
+ghost use Rattle.cap_model.specs.words.Fields.{word_b, word_t};
 ghost use Rattle.cap_model.specs.results.EditedWords.{word_of_halves};
-ghost use Rattle.cap_ops.specs.Tagged.{is_encoding, value_from};
+ghost use Rattle.cap_ops.specs.Tagged.{is_encoding, stored_exponent, length_steps, value_from};
 
 use super::Cap;
 use crate::fields::exclusive_or_null;
-use cap_bounds::fields;
-use cap_model::{ADDRESS_SPACE, LAST_SEALABLE_TYPE};
+use cap_bounds::{decode_base, fields};
+use cap_model::{ADDRESS_SPACE, LAST_SEALABLE_TYPE, MAX_EXPONENT};
 
 impl Cap {
     /// The value of this tag and the word of these halves. A tag on a word that no capability has
     /// counts as none.
+    #[inline(always)]
     pub fn from_tagged(tag: bool, upper: u64, addr: u64) -> Cap
         ensures { result ≡ value_from tag (word_of_halves upper addr) }
     {
-        let word = Cap::from_halves(false, upper, addr);
-        if !tag {
-            return word;
-        }
-        if !word.is_encoding() {
-            return word;
-        }
-        Cap { tag: true, ..word }
-    }
-
-    /// Whether a capability has this word: it has no reserved bit, a type that capabilities have,
-    /// and bounds whose length, granule and fields are those that the word has. The address needs
-    /// no test: these bounds were decoded with it, so that it is in their window.
-    fn is_encoding(self) -> bool
-        ensures { result ≡ is_encoding (bits_of self) }
-    {
-        let parts = fields(self.upper);
-        let (ie, e) = (parts.ie, parts.e);
-        if parts.reserved != 0 {
-            return false;
-        }
-        if self.otype == LAST_SEALABLE_TYPE + 1 {
-            return false;
-        }
-        if self.otype == LAST_SEALABLE_TYPE + 2 {
-            return false;
-        }
-        if self.top > ADDRESS_SPACE {
-            return false;
-        }
-        if u128::from(self.base) > self.top {
-            return false;
-        }
-        let len = self.top - u128::from(self.base);
-        if len >> (e + 12) != u128::from(ie) {
-            return false;
-        }
-        let granule = granule(ie, e);
-        if self.base % granule != 0 {
-            return false;
-        }
-        if self.top % u128::from(granule) != 0 {
-            return false;
-        }
-        exclusive_or_null(self.upper) % (1 << 27) == bounds_fields(ie, e, self.base, self.top)
+        Cap::from_halves(tag_counts(tag, upper, addr), upper, addr)
     }
 }
 
-/// What bounds are multiples of that have this IE and this exponent (CHERI Concentrate, "internal
-/// exponents").
-fn granule(ie: u8, e: u8) -> u64
-    requires ie { ie < 2 }
-    requires e { e ≤ 52 }
-    ensures value { result ≡ 2 ^ (ie * (e + 3)) }
-    ensures some { 0 < result }
+/// Whether this tag counts on the word of these halves. It decodes the base alone, so that what
+/// needs no bounds never has them decoded.
+fn tag_counts(tag: bool, upper: u64, addr: u64) -> bool
+    ensures { result ≡ (tag && is_encoding (word_of_halves upper addr)) }
 {
-    if ie == 0 { 1 } else { 1 << (e + 3) }
+    if !tag {
+        return false;
+    }
+    is_encoding(upper, addr)
 }
 
-/// The fields IE, T and B that bounds have, as a word has them below the others. Where the bounds
-/// are no multiples of the granule, the fields may reach into one another.
-fn bounds_fields(ie: u8, e: u8, base: u64, top: u128) -> u64
-    requires ie { ie < 2 }
-    requires e { e ≤ 52 }
-    ensures { result ≡ ie * 2 ^ 26 + t_field ie e top * 2 ^ 14 + b_field ie e base }
+/// Whether a capability has the word of these halves: it has no reserved bit, a type that
+/// capabilities have, and fields that say bounds of the address space in one way alone. The window
+/// needs no test: the bounds that are decoded with an address have it there.
+fn is_encoding(upper: u64, addr: u64) -> bool
+    ensures { result ≡ is_encoding (word_of_halves upper addr) }
 {
-    let t = ((top >> e) % (1 << 12)) as u64 + u64::from(ie * (e / 8));
-    let b = (base >> e) % (1 << 14) + u64::from(ie * (e % 8));
-    (u64::from(ie) << 26) + (t << 14) + b
+    let parts = fields(upper);
+    if parts.reserved != 0 {
+        return false;
+    }
+    if parts.otype == LAST_SEALABLE_TYPE + 1 {
+        return false;
+    }
+    if parts.otype == LAST_SEALABLE_TYPE + 2 {
+        return false;
+    }
+    if stored_exponent(upper) > MAX_EXPONENT {
+        return false;
+    }
+    let base = decode_base(upper, addr);
+    // From exponent 51 on, B has digits above the address space.
+    if (base >> parts.e) % (1 << 14) != base_digits(upper) {
+        return false;
+    }
+    // The top by its distance, which needs no decoding.
+    let len = u128::from(length_steps(upper)) << parts.e;
+    u128::from(base) + len <= ADDRESS_SPACE
+}
+
+/// The exponent as the fields have it, which may be above the greatest.
+#[tactic(auto, unfolding(crate::proofs::Open::stored))]
+fn stored_exponent(upper: u64) -> u8
+    ensures { result ≡ stored_exponent upper }
+{
+    let fields = exclusive_or_null(upper);
+    if fields >> 26 & 1 == 0 {
+        return 0;
+    }
+    (8 * (fields >> 14 & 7) + (fields & 7)) as u8
+}
+
+/// B, in which the bits of the exponent count as 0.
+#[tactic(auto, unfolding(crate::proofs::Open::base_digits))]
+fn base_digits(upper: u64) -> u64
+    ensures value { result ≡ word_b upper }
+    ensures below { result < 2 ^ 14 }
+{
+    let fields = exclusive_or_null(upper);
+    let stored = fields & 0x3fff;
+    if fields >> 26 & 1 == 0 {
+        stored
+    } else {
+        stored >> 3 << 3
+    }
+}
+
+/// The twelve stored bits of T, in which the bits of the exponent count as 0.
+#[tactic(auto, unfolding(crate::proofs::Open::top_digits))]
+fn top_digits(upper: u64) -> u64
+    ensures value { result ≡ word_t upper }
+    ensures below { result < 2 ^ 12 }
+{
+    let fields = exclusive_or_null(upper);
+    let stored = fields >> 14 & 0xfff;
+    if fields >> 26 & 1 == 0 {
+        stored
+    } else {
+        stored >> 3 << 3
+    }
+}
+
+/// How many steps of 2^E the top lies above the base: with IE 1 the length has its leading bit, at
+/// 2^12, there (CHERI Concentrate, "decoding of bounds").
+#[tactic(auto, using(crate::proofs::Encodings::ie_lt), unfolding(crate::specs::Tagged::length_steps))]
+fn length_steps(upper: u64) -> u64
+    ensures value { result ≡ length_steps upper }
+    ensures below { result < 2 ^ 13 }
+{
+    let leading = u64::from(fields(upper).ie) << 12;
+    leading + (top_digits(upper) + (1 << 12) - base_digits(upper) % (1 << 12)) % (1 << 12)
 }
