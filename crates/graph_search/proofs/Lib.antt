@@ -1,0 +1,5 @@
+pub mod OrderLemmas
+pub mod SearchLemmas
+pub mod WitnessLemmas
+pub mod TreeLemmas
+pub mod DoublingLemmas

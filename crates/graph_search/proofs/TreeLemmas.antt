@@ -1,0 +1,314 @@
+-- What is so of the lists of a search.
+use Rattle.std.proofs.Common.{◌≡◌, ◌≢◌, ℕ, zero, suc, ◌+◌, ◌<◌, ◌≤◌, List, [], ◌∷◌, ◌++◌, length, get_or, arith, ap, sym, ◌∙◌, refl, inl, inr, ◌⊎◌, subst, length-append}
+use Rattle.std.specs.Prelude.{Option, Some, None, IsSome, IfSome, is_some, Bool, true, false, option_and_then, slice_get}
+use Rattle.std.proofs.Math.Path.{fun_ext}
+use Rattle.std.proofs.Math.Seq.{get_or-append_seam}
+use Rattle.std.proofs.lemmas.List.{get_or_append_left}
+use Rattle.std.proofs.lemmas.Option.{none-some, same_Some, slice_get_within, option_and_then_some}
+use Rattle.graph_search.specs.declared.edges.Edge.{Edge}
+use Rattle.graph_search.specs.Graphs.{LeadsTo}
+use Rattle.graph_search.specs.Trees.{state_at, edge_at, IsFound, Adds, IsOrderly}
+use Rattle.graph_search.specs.Searches.{IsSearched, IsSearching, IsCut, IsExplored, IsEarlier, GoesOn}
+use Rattle.graph_search.proofs.SearchLemmas.{moved, added, next_node}
+use Rattle.graph_search.proofs.WitnessLemmas.{finished, stopped}
+
+slice_get-more : {A : Type 0} (xs : List A) (x : A) (i : ℕ) → i ≢ length xs →
+    slice_get (xs ++ x ∷ []) i ≡ slice_get xs i
+slice_get-more [] x zero other = absurd (other refl)
+slice_get-more [] x (suc i) other = refl
+slice_get-more (y ∷ ys) x zero other = refl
+slice_get-more (y ∷ ys) x (suc i) other = slice_get-more ys x i (λ same. other (ap suc same))
+
+slice_get-last : {A : Type 0} (xs : List A) (x : A) → slice_get (xs ++ x ∷ []) (length xs) ≡ Some x
+slice_get-last [] x = refl
+slice_get-last (y ∷ ys) x = slice_get-last ys x
+
+-- the row that means a node's state
+row_of : {S : Type 0} (meaning : List ℕ → Option S) (nodes : List (List ℕ)) (i : ℕ) (s : S) →
+    state_at meaning nodes i ≡ Some s → (row : List ℕ) × (slice_get nodes i ≡ Some row) × (meaning row ≡ Some s)
+row_of {S} meaning nodes i s is =
+    option_and_then_some meaning (slice_get nodes i) s is (λ row here means. (row, here, means))
+
+-- meanings that are kept keep the states of all nodes
+pub same_states : {S : Type 0} (meaning meaning' : List ℕ → Option S) (nodes : List (List ℕ)) →
+    ((n : List ℕ) (s : S) → meaning n ≡ Some s → meaning' n ≡ Some s) →
+    ((i : ℕ) → i < length nodes → (s : S) × (state_at meaning nodes i ≡ Some s)) →
+    state_at meaning nodes ≡ state_at meaning' nodes
+same_states {S} meaning meaning' nodes kept meant = fun_ext (λ i.
+    let split : (o : Option (List ℕ)) → slice_get nodes i ≡ o →
+    option_and_then meaning o ≡ option_and_then meaning' o = λ o. elim o as (λ (o : Option (List ℕ)).
+    slice_get nodes i ≡ o → option_and_then meaning o ≡ option_and_then meaning' o) [
+      | None ↦ λ _. refl
+      | Some row ↦ λ here.
+          let s = meant i (slice_get_within nodes i row here) in
+          let means : meaning row ≡ Some s.0 =
+          sym (ap (λ (o : Option (List ℕ)). option_and_then meaning o) here) ∙ s.1 in
+          means ∙ sym (kept row s.0 means)
+    ] in
+    split (slice_get nodes i) refl)
+
+module _ {S : Type 0} (next next' : S → ℕ → Option S) (meaning meaning' : List ℕ → Option S) (limit : ℕ)
+    (nodes : List (List ℕ)) (edges : List Edge) (f l : ℕ)
+    (h : IsSearching next meaning limit nodes edges f l)
+    (same : next' ≡ next) (kept : (n : List ℕ) (s : S) → meaning n ≡ Some s → meaning' n ≡ Some s) where
+  -- a step of the graph changes nothing of the search
+  pub same_search : IsSearching next' meaning' limit nodes edges f l
+  same_search =
+      let states = same_states meaning meaning' nodes kept h.searched.meant in
+      record {
+        some = h.some;
+        within = h.within;
+        even = h.even;
+        searched = subst (λ (n : S → ℕ → Option S). IsSearched n (state_at meaning' nodes) (edge_at edges)
+            (length nodes) f l) (sym same)
+            (subst (λ (at : ℕ → Option S). IsSearched next at (edge_at edges) (length nodes) f l) states h.searched);
+      }
+
+  pub same_first : state_at meaning' nodes 0 ≡ state_at meaning nodes 0
+  same_first = sym (ap (λ (at : ℕ → Option S). at 0) (same_states meaning meaning' nodes kept h.searched.meant))
+
+-- the edge leads nowhere, or to a state that was found
+pub searching_moved : {S : Type 0} (next : S → ℕ → Option S) (meaning : List ℕ → Option S) (limit : ℕ)
+    (nodes : List (List ℕ)) (edges : List Edge) (f l : ℕ) → IsSearching next meaning limit nodes edges f l →
+    ((s t : S) → state_at meaning nodes f ≡ Some s → next s l ≡ Some t → IsFound (state_at meaning nodes) t) →
+    IsSearching next meaning limit nodes edges f (l + 1)
+searching_moved {S} next meaning limit nodes edges f l h found = record {
+  some = h.some;
+  within = h.within;
+  even = h.even;
+  searched = moved next (state_at meaning nodes) (edge_at edges) (length nodes) f l h.searched found;
+}
+
+pub searching_next : {S : Type 0} (next : S → ℕ → Option S) (meaning : List ℕ → Option S) (limit : ℕ)
+    (nodes : List (List ℕ)) (edges : List Edge) (f l : ℕ) → IsSearching next meaning limit nodes edges f l →
+    ((s : S) (m : ℕ) → l ≤ m → next s m ≡ None) → IsSearching next meaning limit nodes edges (f + 1) 0
+searching_next {S} next meaning limit nodes edges f l h beyond = record {
+  some = h.some;
+  within = h.within;
+  even = h.even;
+  searched = next_node next (state_at meaning nodes) (edge_at edges) (length nodes) f l h.searched beyond;
+}
+
+-- no node means the state of a row that is none of them
+pub absent_state : {S : Type 0} (meaning : List ℕ → Option S) (nodes : List (List ℕ)) (row : List ℕ) (t : S) →
+    ((m n : List ℕ) (s : S) → meaning m ≡ Some s → meaning n ≡ Some s → m ≡ n) →
+    meaning row ≡ Some t → ((i : ℕ) → slice_get nodes i ≢ Some row) →
+    (i : ℕ) → state_at meaning nodes i ≢ Some t
+absent_state {S} meaning nodes row t one means absent i is =
+    let r = row_of meaning nodes i t is in
+    absent i (r.1 ∙ ap (λ (n : List ℕ). Some n) (one r.0 row t r.2 means))
+
+-- a row that is a node
+pub found_state : {S : Type 0} (meaning : List ℕ → Option S) (nodes : List (List ℕ)) (row : List ℕ) (t : S) (i : ℕ) →
+    meaning row ≡ Some t → slice_get nodes i ≡ Some row → IsFound (state_at meaning nodes) t
+found_state {S} meaning nodes row t i means here =
+    (i, ap (λ (o : Option (List ℕ)). option_and_then meaning o) here ∙ means)
+
+pub searching_added : {S : Type 0} (next : S → ℕ → Option S) (meaning : List ℕ → Option S) (limit : ℕ)
+    (nodes : List (List ℕ)) (edges : List Edge) (edge : Edge) (s t : S) (row : List ℕ) →
+    IsSearching next meaning limit nodes edges edge.from edge.label → length nodes < limit →
+    state_at meaning nodes edge.from ≡ Some s → next s edge.label ≡ Some t → meaning row ≡ Some t →
+    ((i : ℕ) → state_at meaning nodes i ≢ Some t) →
+    IsSearching next meaning limit (nodes ++ row ∷ []) (edges ++ edge ∷ []) edge.from (edge.label + 1)
+searching_added {S} next meaning limit nodes edges edge s t row h room here leads means absent =
+    let count : length (nodes ++ row ∷ []) ≡ length nodes + 1 = length-append nodes (row ∷ []) in
+    let edge_count : length (edges ++ edge ∷ []) ≡ length edges + 1 = length-append edges (edge ∷ []) in
+    let some = h.some in
+    let even = h.even in
+    let last : edge_at (edges ++ edge ∷ []) (length nodes) ≡ edge =
+    ap (edge_at (edges ++ edge ∷ [])) (sym even) ∙ get_or-append_seam edges edge [] (record { from = 0; label = 0 }) in
+    record {
+      some = omega arith;
+      within = omega arith;
+      even = omega arith;
+      searched = subst (λ (n : ℕ). IsSearched next (state_at meaning (nodes ++ row ∷ []))
+          (edge_at (edges ++ edge ∷ [])) n edge.from (edge.label + 1)) (sym count)
+          (added next (state_at meaning nodes) (state_at meaning (nodes ++ row ∷ [])) (edge_at edges)
+          (edge_at (edges ++ edge ∷ [])) (length nodes) edge.from edge.label s t h.searched here leads absent
+          (λ i other. ap (λ (o : Option (List ℕ)). option_and_then meaning o) (slice_get-more nodes row i other))
+          (ap (λ (o : Option (List ℕ)). option_and_then meaning o) (slice_get-last nodes row) ∙ means)
+          (λ i below. get_or_append_left edges (edge ∷ []) (record { from = 0; label = 0 }) i (omega arith))
+          (ap (λ (e : Edge). e.from) last) (ap (λ (e : Edge). e.label) last));
+    }
+
+pub first_stays : {S : Type 0} (meaning : List ℕ → Option S) (nodes : List (List ℕ)) (row : List ℕ) →
+    0 < length nodes → state_at meaning (nodes ++ row ∷ []) 0 ≡ state_at meaning nodes 0
+first_stays {S} meaning nodes row some =
+    let other : 0 ≢ length nodes = λ same. omega arith in
+    ap (λ (o : Option (List ℕ)). option_and_then meaning o) (slice_get-more nodes row 0 other)
+
+-- where a search begins
+pub searching_begins : {S : Type 0} (next : S → ℕ → Option S) (meaning : List ℕ → Option S) (limit : ℕ)
+    (row : List ℕ) (edges : List Edge) (s : S) → 0 < limit → length edges ≡ 1 → meaning row ≡ Some s →
+    IsSearching next meaning limit (row ∷ []) edges 0 0
+searching_begins {S} next meaning limit row edges s some even means =
+    let only : (i : ℕ) (u : S) → state_at meaning (row ∷ []) i ≡ Some u → i ≡ 0 = λ i u is.
+    let r = row_of meaning (row ∷ []) i u is in
+    let below : i < 1 = slice_get_within (row ∷ []) i r.0 r.1 in
+    omega arith in
+    record {
+      some = omega arith;
+      within = omega arith;
+      even = even;
+      searched = record {
+        meant = λ i below. let none : 0 ≡ i = omega arith in (s, subst (λ (k : ℕ). state_at meaning (row ∷ []) k ≡ Some s) none means);
+        within = λ i u is. let none = only i u is in omega arith;
+        distinct = λ i j u is js. only i u is ∙ sym (only j u js);
+        older = λ i more below. absurd (omega arith);
+        leads = λ i u more below is. absurd (omega arith);
+        rising = λ i j more order below. absurd (omega arith);
+        followed = λ i more below. absurd (omega arith);
+        closed = λ i m u v earlier is goes.
+            let none = only i u is in
+            let low : m < 0 = earlier.1 none in
+            absurd (omega arith);
+        earliest = λ i m j u v is goes js more earlier. let none = only j v js in omega arith;
+      };
+    }
+
+-- how a search ends
+pub ends : {S : Type 0} (next : S → ℕ → Option S) (meaning : List ℕ → Option S) (limit : ℕ)
+    (nodes : List (List ℕ)) (edges : List Edge) (on : Bool) (start : S) →
+    GoesOn next meaning limit (length nodes) 0 nodes edges on → state_at meaning nodes 0 ≡ Some start →
+    IsExplored next start limit (state_at meaning nodes) (edge_at edges) (length nodes) on
+ends {S} next meaning limit nodes edges true start h first =
+    finished next (state_at meaning nodes) (edge_at edges) (length nodes) limit h.searched start first h.within
+ends {S} next meaning limit nodes edges false start h first =
+    stopped next (state_at meaning nodes) (edge_at edges) (length nodes) limit h.0 h.1 h.2.searched start first
+    h.2.within h.3
+
+pub orderly : {S : Type 0} (next : S → ℕ → Option S) (meaning : List ℕ → Option S) (limit : ℕ)
+    (nodes : List (List ℕ)) (edges : List Edge) (f l : ℕ) → IsSearching next meaning limit nodes edges f l →
+    IsOrderly nodes edges
+orderly {S} next meaning limit nodes edges f l h = record { even = h.even; older = h.searched.older }
+
+pub ends_orderly : {S : Type 0} (next : S → ℕ → Option S) (meaning : List ℕ → Option S) (limit : ℕ)
+    (nodes : List (List ℕ)) (edges : List Edge) (on : Bool) →
+    GoesOn next meaning limit (length nodes) 0 nodes edges on → IsOrderly nodes edges
+ends_orderly {S} next meaning limit nodes edges true h = orderly next meaning limit nodes edges (length nodes) 0 h
+ends_orderly {S} next meaning limit nodes edges false h = orderly next meaning limit nodes edges h.0 h.1 h.2
+
+-- what the node's row means
+pub node_means : {S : Type 0} (meaning : List ℕ → Option S) (nodes : List (List ℕ)) (i : ℕ) (row : List ℕ) (s : S) →
+    slice_get nodes i ≡ Some row → state_at meaning nodes i ≡ Some s → meaning row ≡ Some s
+node_means {S} meaning nodes i row s here is = sym (ap (λ (o : Option (List ℕ)). option_and_then meaning o) here) ∙ is
+
+pub node_has_meaning : {S : Type 0} (next : S → ℕ → Option S) (meaning : List ℕ → Option S) (limit : ℕ)
+    (nodes : List (List ℕ)) (edges : List Edge) (f l : ℕ) (row : List ℕ) →
+    IsSearching next meaning limit nodes edges f l → f < length nodes → slice_get nodes f ≡ Some row →
+    IsSome (meaning row)
+node_has_meaning {S} next meaning limit nodes edges f l row h below here =
+    let s = h.searched.meant f below in
+    subst (λ (o : Option S). IsSome o) (sym (node_means meaning nodes f row s.0 here s.1)) refl
+
+-- The edge with a label of a node was followed, in a step of the graph that may have given meanings to rows.
+module _ {S : Type 0} (next next' : S → ℕ → Option S) (meaning meaning' : List ℕ → Option S) (limit : ℕ)
+    (nodes : List (List ℕ)) (edges : List Edge) (edge : Edge)
+    (h : IsSearching next meaning limit nodes edges edge.from edge.label)
+    (same : next' ≡ next) (kept : (n : List ℕ) (s : S) → meaning n ≡ Some s → meaning' n ≡ Some s)
+    (below : edge.from < length nodes) (node to : List ℕ) (here : slice_get nodes edge.from ≡ Some node)
+    (leads : Bool)
+    (value : (s : S) → meaning node ≡ Some s → LeadsTo meaning' leads to (next s edge.label)) where
+  after_step : IsSearching next' meaning' limit nodes edges edge.from edge.label
+  after_step = same_search next next' meaning meaning' limit nodes edges edge.from edge.label h same kept
+
+  -- the state of the node, and what its edge leads to
+  node_state : (s : S) × (meaning node ≡ Some s) × (state_at meaning' nodes edge.from ≡ Some s)
+      × (next' s edge.label ≡ next s edge.label)
+  node_state =
+      let s = h.searched.meant edge.from below in
+      let means = node_means meaning nodes edge.from node s.0 here s.1 in (
+        s.0,
+        means,
+        ap (λ (o : Option (List ℕ)). option_and_then meaning' o) here ∙ kept node s.0 means,
+        ap (λ (n : S → ℕ → Option S). n s.0 edge.label) same,
+      )
+
+  only_state : (s : S) → state_at meaning' nodes edge.from ≡ Some s → node_state.0 ≡ s
+  only_state s is = same_Some node_state.0 s (sym node_state.2 ∙ is)
+
+  target : leads ≡ true → (t : S) × (meaning' to ≡ Some t) × (next' node_state.0 edge.label ≡ Some t)
+  target leading =
+      let v : LeadsTo meaning' true to (next node_state.0 edge.label) =
+      subst (λ (b : Bool). LeadsTo meaning' b to (next node_state.0 edge.label)) leading
+      (value node_state.0 node_state.1) in
+      (v.0, v.1, node_state.3 ∙ v.2)
+
+  pub step_nowhere : leads ≡ false → IsSearching next' meaning' limit nodes edges edge.from (edge.label + 1)
+  step_nowhere idle =
+      let v : LeadsTo meaning' false to (next node_state.0 edge.label) =
+      subst (λ (b : Bool). LeadsTo meaning' b to (next node_state.0 edge.label)) idle
+      (value node_state.0 node_state.1) in
+      searching_moved next' meaning' limit nodes edges edge.from edge.label after_step
+      (λ s t is goes. absurd (none-some t (sym (node_state.3 ∙ v)
+      ∙ (ap (λ (u : S). next' u edge.label) (only_state s is) ∙ goes))))
+
+  step_found : leads ≡ true → (i : ℕ) → slice_get nodes i ≡ Some to →
+      IsSearching next' meaning' limit nodes edges edge.from (edge.label + 1)
+  step_found leading i there =
+      let t = target leading in
+      searching_moved next' meaning' limit nodes edges edge.from edge.label after_step
+      (λ s u is goes.
+      let same_target : t.0 ≡ u = same_Some t.0 u (sym t.2
+      ∙ (ap (λ (x : S). next' x edge.label) (only_state s is) ∙ goes)) in
+      found_state meaning' nodes to u i (t.1 ∙ ap (λ (x : S). Some x) same_target) there)
+
+  pub step_adds : leads ≡ true → length nodes < limit →
+      ((m n : List ℕ) (s : S) → meaning' m ≡ Some s → meaning' n ≡ Some s → m ≡ n) →
+      (nodes' : List (List ℕ)) (edges' : List Edge) → Adds to edge nodes edges nodes' edges' →
+      IsSearching next' meaning' limit nodes' edges' edge.from (edge.label + 1)
+  step_adds leading room one nodes' edges' adds = elim adds [
+    | inl there ↦
+        subst (λ (ns : List (List ℕ)). IsSearching next' meaning' limit ns edges' edge.from (edge.label + 1))
+        (sym there.2)
+        (subst (λ (es : List Edge). IsSearching next' meaning' limit nodes es edge.from (edge.label + 1))
+        (sym there.3) (step_found leading there.0 there.1))
+    | inr absent ↦
+        let t = target leading in
+        subst (λ (ns : List (List ℕ)). IsSearching next' meaning' limit ns edges' edge.from (edge.label + 1))
+        (sym absent.1)
+        (subst (λ (es : List Edge). IsSearching next' meaning' limit (nodes ++ to ∷ []) es edge.from (edge.label + 1))
+        (sym absent.2)
+        (searching_added next' meaning' limit nodes edges edge node_state.0 t.0 to after_step room node_state.2 t.2 t.1
+        (absent_state meaning' nodes to t.0 one t.1 absent.0)))
+  ]
+
+  pub step_first : (nodes' : List (List ℕ)) (edges' : List Edge) → Adds to edge nodes edges nodes' edges' →
+      state_at meaning' nodes' 0 ≡ state_at meaning nodes 0
+  step_first nodes' edges' adds =
+      let first = same_first next next' meaning meaning' limit nodes edges edge.from edge.label h same kept in
+      elim adds [
+        | inl there ↦ ap (λ (ns : List (List ℕ)). state_at meaning' ns 0) there.2 ∙ first
+        | inr absent ↦ ap (λ (ns : List (List ℕ)). state_at meaning' ns 0) absent.1
+            ∙ (first_stays meaning' nodes to h.some ∙ first)
+      ]
+
+  pub step_at_limit : leads ≡ true → limit ≤ length nodes →
+      ((m n : List ℕ) (s : S) → meaning' m ≡ Some s → meaning' n ≡ Some s → m ≡ n) →
+      (number : Option ℕ) → IfSome number (λ i. slice_get nodes i ≡ Some to) →
+      (number ≡ None → (i : ℕ) → slice_get nodes i ≢ Some to) →
+      GoesOn next' meaning' limit edge.from (edge.label + 1) nodes edges (is_some number)
+  step_at_limit leading full one (Some i) there absent = step_found leading i there
+  step_at_limit leading full one None there absent =
+      let t = target leading in
+      let few = h.within in (
+        edge.from,
+        edge.label,
+        after_step,
+        record {
+          full = omega arith;
+          more = (
+            edge.from,
+            edge.label,
+            node_state.0,
+            t.0,
+            node_state.2,
+            t.2,
+            absent_state meaning' nodes to t.0 one t.1 (absent refl),
+          );
+        },
+      )
+
+pub some_of : {A : Type 0} (o : Option A) → IsSome o → (x : A) × (o ≡ Some x)
+some_of None some = absurd (cc)
+some_of (Some x) some = (x, refl)

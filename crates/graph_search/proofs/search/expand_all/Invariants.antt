@@ -1,0 +1,22 @@
+use Rattle.std.proofs.Common.{◌≡◌, ◌<◌, ◌≤◌, ◌-◌, length}
+use Rattle.graph_search.specs.Trees.{state_at}
+use Rattle.graph_search.specs.Searches.{IsSearching}
+use Rattle.graph_search.proofs.search.expand_all.Given as goal
+
+abbrev pub invariant-loop-node : goal.invariant-loop-node
+invariant-loop-node g l = record {
+  same_graph : g.G.Graph.next l.graph ≡ g.G.Graph.next l.fn.graph;
+  same_labels : g.G.Graph.label_count l.graph ≡ g.G.Graph.label_count l.fn.graph;
+  same_width : g.G.Graph.width l.graph ≡ g.G.Graph.width l.fn.graph;
+  room : length l.row ≡ g.G.Graph.width l.graph;
+  wide : l.tree.nodes.width ≡ g.G.Graph.width l.graph;
+  there : l.node ≤ length l.tree.nodes.rows;
+  first : state_at (g.G.Graph.meaning l.graph) l.tree.nodes.rows 0
+      ≡ state_at (g.G.Graph.meaning l.fn.graph) l.fn.tree.nodes.rows 0;
+  few : length l.tree.nodes.rows ≤ l.limit;
+  before : IsSearching (g.G.Graph.next l.graph) (g.G.Graph.meaning l.graph) l.limit
+      l.tree.nodes.rows l.tree.edges.items l.node 0;
+}
+
+abbrev pub decreases-loop-node : goal.decreases-loop-node
+decreases-loop-node g l = l.limit - l.node

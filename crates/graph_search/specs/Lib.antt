@@ -1,0 +1,5 @@
+pub mod Walks
+pub mod Graphs
+pub mod Trees
+pub mod Searches
+pub mod Doubling

@@ -1,0 +1,16 @@
+//! The states of a graph, found breadth first, each with the shortest walk that leads to it. Knows
+//! nothing of what the states are.
+#![tactic(auto)]
+
+mod edges;
+mod graphs;
+mod reached;
+mod search;
+#[cfg(test)]
+mod tests;
+mod trees;
+
+pub use edges::Edge;
+pub use graphs::Graph;
+pub use reached::Reached;
+pub use search::explore;

@@ -1,0 +1,87 @@
+//! What a search found.
+
+ghost use Rattle.std.specs.Prelude.{
+  ◌≡◌,
+  ◌+◌,
+  ◌<◌,
+  length,
+  slice_get,
+  option_copied,
+  reverse,
+  IfOk,
+};
+ghost use Rattle.graph_search.specs.Trees.{IsTrace, IsOrderly, edge_at};
+
+use crate::trees::Tree;
+use std::alloc::{AllocError, Global};
+use std::marker::Model;
+
+/// The nodes that a search found, numbered from 0 in the order of their witnesses.
+#[derive(Drop)]
+pub struct Reached {
+    tree: Tree,
+    complete: bool,
+}
+
+impl Model for Reached {
+    ghost use Rattle.graph_search.specs.Trees.{Found, IsOrderly};
+
+    ghost Value = { Found };
+
+    ghost view = { λ a. record {
+      nodes = a.tree.nodes.rows;
+      edges = a.tree.edges.items;
+      complete = a.complete;
+    } };
+
+    ghost invariant = { λ a. IsOrderly a.tree.nodes.rows a.tree.edges.items };
+}
+
+impl Reached {
+    pub(crate) fn new(tree: Tree, complete: bool) -> Reached
+        requires { IsOrderly tree.nodes.rows tree.edges.items }
+        ensures nodes { result.nodes ≡ tree.nodes.rows }
+        ensures edges { result.edges ≡ tree.edges.items }
+        ensures complete { result.complete ≡ complete }
+    {
+        Reached { tree, complete }
+    }
+
+    /// Whether every state that can be reached was found.
+    pub fn is_complete(&self) -> bool
+        ensures { result ≡ self.now.complete }
+    {
+        self.complete
+    }
+
+    /// How many nodes were found.
+    pub fn len(&self) -> u32
+        ensures { result ≡ length self.now.nodes }
+    {
+        self.tree.len()
+    }
+
+    /// The node of this number, if there is one.
+    pub fn node(&self, number: u32) -> Option<&[u32]>
+        ensures { option_copied result ≡ slice_get self.now.nodes number }
+    {
+        self.tree.nodes.row(number)
+    }
+
+    /// The labels of the edges that lead from the first node to this one: the witness of its state.
+    pub fn witness(&self, alloc: Global, number: u32) -> Result<Vec<u32>, AllocError>
+        requires { number < length self.now.nodes }
+        ensures { IfOk result (λ labels.
+            IsTrace (edge_at self.now.edges) number (reverse labels.items)) }
+    {
+        let mut labels = Vec::new(alloc);
+        let mut node = number;
+        while node != 0 {
+            let edge = self.tree.edges[node as usize];
+            labels.push(edge.label)?;
+            node = edge.from;
+        }
+        labels.reverse();
+        Ok(labels)
+    }
+}

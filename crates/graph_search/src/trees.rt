@@ -1,0 +1,79 @@
+//! The nodes that were found, each with the edge by which it was.
+
+ghost use Rattle.std.specs.Prelude.{
+  ◌≡◌,
+  ◌≢◌,
+  ℕ,
+  ◌+◌,
+  ◌^◌,
+  ◌<◌,
+  [],
+  ◌∷◌,
+  ◌++◌,
+  Some,
+  length,
+  slice_get,
+  slice_index_or,
+  IfOk,
+};
+ghost use Rattle.graph_search.specs.Trees.{Adds};
+
+use crate::edges::Edge;
+use interner::Interner;
+use std::alloc::{AllocError, Global};
+
+/// The nodes found so far, and an edge for each: that of the first node means nothing.
+#[derive(Drop)]
+pub struct Tree {
+    pub nodes: Interner,
+    pub edges: Vec<Edge>,
+}
+
+impl Tree {
+    /// The tree of one node.
+    pub fn new(alloc: Global, start: &[u32]) -> Result<Tree, AllocError>
+        ensures nodes { IfOk result (λ tree. tree.nodes.rows ≡ start.now ∷ []) }
+        ensures edges { IfOk result (λ tree. length tree.edges.items ≡ 1) }
+        ensures width { IfOk result (λ tree. tree.nodes.width ≡ length start.now) }
+    {
+        let mut nodes = Interner::new(alloc, start.len());
+        nodes.insert(start)?;
+        let mut edges = Vec::new(alloc);
+        edges.push(Edge { from: 0, label: 0 })?;
+        Ok(Tree { nodes, edges })
+    }
+
+    /// How many nodes there are.
+    pub fn len(&self) -> u32
+        ensures { result ≡ length self.now.nodes.rows }
+    {
+        self.nodes.len() as u32
+    }
+
+    /// The node of this number.
+    pub fn node(&self, number: u32) -> &[u32]
+        requires { number < length self.now.nodes.rows }
+        ensures { slice_get self.now.nodes.rows number ≡ Some result.now }
+    {
+        let Some(node) = self.nodes.row(number) else {
+            unreachable!()
+        };
+        node
+    }
+
+    /// Adds a node with this edge, unless it is there. Fails only when out of memory, or of numbers for
+    /// nodes.
+    pub fn add(&mut self, node: &[u32], edge: Edge) -> Result<(), AllocError>
+        requires { length node.now ≡ self.old.nodes.width }
+        ensures added { IfOk result (λ _. Adds node.now edge
+            self.old.nodes.rows self.old.edges.items self.new.nodes.rows self.new.edges.items) }
+        ensures same_width { self.new.nodes.width ≡ self.old.nodes.width }
+    {
+        let before = self.nodes.len();
+        self.nodes.insert(node)?;
+        if self.nodes.len() > before {
+            self.edges.push(edge)?;
+        }
+        Ok(())
+    }
+}
