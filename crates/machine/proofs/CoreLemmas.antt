@@ -12,8 +12,10 @@ use Rattle.cheri_model.specs.declared.operation.Event.{Event}
 use Rattle.cheri_model.specs.declared.operation.Event.TheVariants as event
 use Rattle.cheri_model.specs.declared.trace.Entry.{Entry}
 use Rattle.cap_model.specs.values.CapValue.{CapValue, IsLawfulValue}
+use Rattle.cap_model.specs.results.Addresses.{address_of}
 use Rattle.cheri_model.specs.steps.Memory.{IsMemory}
 use Rattle.cheri_model.specs.steps.Hart.{HartState}
+use Rattle.cheri_model.specs.steps.HartStep.{hart_step}
 use Rattle.cheri_model.specs.runs.Image.{ImageParts, opening_hart, opening_memory}
 use Rattle.cheri_model.specs.runs.Sweeps.{is_range, swept_hart, swept_memory, cleared_in_hart, cleared_in_memory}
 use Rattle.cheri_model.specs.runs.Machine.{MachineState, opening_state, is_running, hart_at, no_hart, may_take, entry_of, event_of, state_after_step, state_after_one, swept_state, cleared}
@@ -24,7 +26,7 @@ use Rattle.cheri_model.proofs.Runs.Replays.{IsReplay-opening, IsReplay_push, ope
 use Rattle.cheri_model.proofs.Runs.RunsConfined.{memory_lawful, run_lawful, replay_monotone}
 use Rattle.machine.specs.declared.faults.StepFault.{StepFault}
 use Rattle.machine.specs.declared.faults.StepFault.TheVariants.{NoSuchHart, TraceFull, HartStopped, BadRange}
-use Rattle.machine.specs.Cores.{CoreParts, parts_of_core, is_limit, IsCore, IsHartStep, refused, unless_refused, answered, answered_step, core_after}
+use Rattle.machine.specs.Cores.{CoreParts, parts_of_core, is_limit, IsCore, opening_core, refused, unless_refused, answered, answered_step, core_after}
 
 -- the opening state of an image, from its opened harts and memory
 pub state_opened : (image : ImageParts) (harts : List HartState) (memory : List CapValue) →
@@ -45,6 +47,16 @@ booted image limit harts memory e f lawful is limited =
       limited = limited;
       within = omega arith;
     }
+
+-- the core of an image before its first operation
+pub opened : (image : ImageParts) (limit : ℕ) → IsLawfulState (opening_state image) → is_limit limit ≡ true →
+    IsCore (opening_core image limit)
+opened image limit lawful limited = record {
+  replay = IsReplay-opening image;
+  lawful = lawful;
+  limited = limited;
+  within = omega arith;
+}
 
 -- where a step is not refused there is this hart, the trace has room, and the hart may step
 pub record CanStep (core : CoreParts) (hart : ℕ) : Type 0 where
@@ -109,6 +121,15 @@ core_with core op is room may = record {
   within = rw (length-append core.trace _) (omega arith);
 }
 
+-- and after one that is not refused
+pub core_applied : (core : CoreParts) (op : Op) → IsCore core → refused core op ≡ None → IsCore (core_after core op)
+core_applied core (operation.Step hart) is none =
+    let can = not_refused core hart none in
+    core_with core (operation.Step hart) is can.room can.may
+core_applied core (operation.Sweep lo hi) is none =
+    let can = sweep_not_refused core lo hi none in
+    core_with core (operation.Sweep lo hi) is can.room can.may
+
 -- every tagged value of a core lies within an initial capability
 pub core_confined : (core : CoreParts) → IsCore core → IsConfined core.image core.state
 core_confined core is =
@@ -118,18 +139,25 @@ core_confined core is =
 pub core_monotone : (core : CoreParts) → IsCore core → IsMonotone core.image core.trace core.state
 core_monotone core is = replay_monotone core.image core.trace core.state is.replay is.lawful
 
--- what a step of a hart by itself says of the core
+-- what a step of a hart by itself leaves, of the hart and of memory, and answers
+pub record IsHartStep (program : List Instr) (before : HartState) (memory : List CapValue) (number : ℕ)
+    (after : HartState) (left : List CapValue) (added : Entry) : Type 0 where
+  pub hart : after ≡ (hart_step program before memory).hart
+  pub ram : left ≡ (hart_step program before memory).memory
+  pub entry : added ≡ record { hart = number; pc = address_of before.pcc; outcome = (hart_step program before memory).outcome }
+
+-- what it says of the core
 module _ (core : CoreParts) (hart : ℕ) (after : HartState) (memory : List CapValue) (entry : Entry)
     (step : IsHartStep core.image.program (hart_at core.state hart) core.state.memory hart after memory entry) where
   pub entry_taken : entry ≡ entry_of core.image core.state hart
   unfolding entry_of
-  entry_taken = step.entry_is
+  entry_taken = step.entry
 
   state_taken : ◌≡◌ {A = MachineState} (record { harts = slice_set core.state.harts hart after; memory = memory }) (state_after_step core.image core.state hart)
   unfolding state_after_step
   state_taken i = record {
-    harts = slice_set core.state.harts hart (sym step.after_is i);
-    memory = sym step.memory_is i;
+    harts = slice_set core.state.harts hart (step.hart i);
+    memory = step.ram i;
   }
 
   pub core_taken : parts_of_core core.image core.limit (core.trace ++ event.Step entry ∷ []) (slice_set core.state.harts hart after) memory ≡ core_after core (operation.Step hart)

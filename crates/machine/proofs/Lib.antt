@@ -1,5 +1,6 @@
 pub mod CoreLemmas
 pub mod CopyLemmas
 pub mod RunLemmas
+pub mod SimulationLemmas
 pub mod ShareLemmas
 pub mod SweepLemmas

@@ -1,22 +1,22 @@
 -- What contracts see of a core, what it keeps, and what it answers.
-use Rattle.std.specs.Prelude.{◌≡◌, ℕ, ◌≤◌, nat_lt, nat_le, not, ◌&&◌, if◌then◌else◌, Bool, true, List, [], ◌∷◌, ◌++◌, length, Option, Some, None, Result, Ok, Err}
-use Rattle.cheri_model.specs.declared.instr.Instr.{Instr}
+use Rattle.std.specs.Prelude.{◌≡◌, ℕ, ◌≤◌, nat_lt, nat_le, not, ◌&&◌, if◌then◌else◌, Bool, true}
+use Rattle.std.specs.Prelude.{List, [], ◌∷◌, ◌++◌, length, Option, Some, None, Result, Ok, Err}
 use Rattle.cheri_model.specs.declared.operation.Op.{Op}
 use Rattle.cheri_model.specs.declared.operation.Op.TheVariants as operation
 use Rattle.cheri_model.specs.declared.operation.Event.{Event}
 use Rattle.cheri_model.specs.declared.trace.Entry.{Entry}
 use Rattle.cap_model.specs.values.CapValue.{CapValue}
 use Rattle.cheri_model.specs.steps.Hart.{HartState}
-use Rattle.cheri_model.specs.steps.HartStep.{hart_step}
-use Rattle.cap_model.specs.results.Addresses.{address_of}
 use Rattle.cheri_model.specs.runs.Image.{ImageParts}
 use Rattle.cheri_model.specs.runs.Sweeps.{is_range}
-use Rattle.cheri_model.specs.runs.Machine.{MachineState, opening_state, is_running, hart_at, entry_of, state_after_one, event_of}
+use Rattle.cheri_model.specs.runs.Machine.{MachineState, opening_state, is_running, hart_at}
+use Rattle.cheri_model.specs.runs.Machine.{entry_of, state_after_one, event_of}
 use Rattle.cheri_model.specs.runs.Replay.{IsReplay}
 use Rattle.cheri_model.specs.runs.Authority.{IsLawfulState}
 use Rattle.machine.specs.declared.cores.TheConstants.{GREATEST_TRACE_LIMIT}
 use Rattle.machine.specs.declared.faults.StepFault.{StepFault}
-use Rattle.machine.specs.declared.faults.StepFault.TheVariants.{NoSuchHart, TraceFull, HartStopped, BadRange}
+use Rattle.machine.specs.declared.faults.StepFault.TheVariants.{NoSuchHart, TraceFull, HartStopped}
+use Rattle.machine.specs.declared.faults.StepFault.TheVariants.{BadRange}
 
 -- the stored image, the limit of the trace, the trace so far and the state now
 pub record CoreParts : Type 0 where
@@ -26,16 +26,27 @@ pub record CoreParts : Type 0 where
   pub state : MachineState
 
 -- those parts, of what a core is made of
-abbrev pub parts_of_core : ImageParts → ℕ → List Event → List HartState → List CapValue → CoreParts
+abbrev pub parts_of_core : ImageParts → ℕ → List Event → List HartState → List CapValue
+    → CoreParts
 parts_of_core image limit trace harts memory =
-    record { image = image; limit = limit; trace = trace; state = record { harts = harts; memory = memory } }
+    record {
+      image = image;
+      limit = limit;
+      trace = trace;
+      state = record { harts = harts; memory = memory };
+    }
+
+-- the core of an image before its first operation
+abbrev pub opening_core : ImageParts → ℕ → CoreParts
+opening_core image limit =
+    record { image = image; limit = limit; trace = []; state = opening_state image }
 
 -- the limits that a trace may have
 abbrev pub is_limit : ℕ → Bool
 is_limit limit = nat_le 1 limit && nat_le limit GREATEST_TRACE_LIMIT
 
--- The trace and the state are the replay of the trace from the stored image, the trace is no longer than its limit,
--- and the image's values are lawful.
+-- The trace and the state are the replay of the trace from the stored image, the trace is no longer
+-- than its limit, and the image's values are lawful.
 pub record IsCore (core : CoreParts) : Type 0 where
   pub replay : IsReplay core.image core.trace core.state
   pub lawful : IsLawfulState (opening_state core.image)
@@ -74,17 +85,10 @@ core_after core op = record core {
   state = state_after_one core.image core.state op;
 }
 
--- The core after an operation, whatever it is: one more where it is not refused, else the same core.
+-- The core after an operation, whatever it is: one more where it is not refused, else the same.
 abbrev pub unless_kept : Option StepFault → CoreParts → CoreParts → CoreParts
 unless_kept None core after = after
 unless_kept (Some fault) core after = core
 
 unfoldable pub applied : CoreParts → Op → CoreParts
 applied core op = unless_kept (refused core op) core (core_after core op)
-
--- what a step of a hart by itself leaves, of the hart and of memory, and answers
-pub record IsHartStep (program : List Instr) (before : HartState) (memory : List CapValue) (number : ℕ) (after : HartState) (memory_after : List CapValue) (entry : Entry) : Type 0 where
-  pub after_is : (hart_step program before memory).hart ≡ after
-  pub memory_is : (hart_step program before memory).memory ≡ memory_after
-  pub entry_is :
-      entry ≡ record { hart = number; pc = address_of before.pcc; outcome = (hart_step program before memory).outcome }

@@ -1,49 +1,51 @@
 -- The run of a listing in an order, from two texts to what a sink took.
-use Rattle.std.specs.Prelude.{◌≡◌, ℕ, List, Option, Result, Ok, Err, IsOk, Bool, true, false, codes}
-use Rattle.listings.specs.Faults.{Gives}
+use Rattle.std.specs.Prelude.{◌≡◌, ℕ, List, Result, Ok, Err, IsOk, IsOkAnd, ◌⊎◌}
+use Rattle.std.specs.Prelude.{Bool, true, false, if◌then◌else◌, codes}
+use Rattle.listings.specs.declared.fault.ListingFault.{ListingFault}
+use Rattle.listings.specs.Faults.{no_memory}
 use Rattle.listings.specs.Meaning.{listing_meaning}
-use Rattle.orders.specs.Orders.{GivesFault, order_of}
+use Rattle.orders.specs.declared.fault.OrderFault.{OrderFault}
+use Rattle.orders.specs.Orders.{order_of}
 use Rattle.cheri_model.specs.declared.operation.Op.{Op}
 use Rattle.cheri_model.specs.runs.Image.{ImageParts}
 use Rattle.reports.specs.Report.{report}
 use Rattle.reports.specs.ReportFaults.{failures_of}
 use Rattle.machine.specs.declared.faults.BootFault.{BootFault}
 use Rattle.machine.specs.declared.faults.BootFault.TheVariants as boot
-use Rattle.machine.specs.declared.faults.StepFault.{StepFault}
 use Rattle.machine.specs.declared.simulation.SimFault.{SimFault}
 use Rattle.machine.specs.declared.simulation.SimFault.TheVariants.{Listing, Order, Boot, Report}
-use Rattle.machine.specs.Cores.{CoreParts, is_limit}
-use Rattle.machine.specs.Runs.{IsRunOf}
+use Rattle.machine.specs.Cores.{is_limit}
+use Rattle.machine.specs.Runs.{Run, run_of}
 
--- A run of a listing in an order, which ended at a refused operation or at none, is shown: of its report this is so. The
--- report is that of a machine which began as the image that the listing means and took the order as far as it can be
--- taken.
-pub record IsShownRun (listing order : List ℕ) (limit : ℕ) (IsSo : List ℕ → Type 0) (end : Option (ℕ × StepFault)) : Type 0 where
-  pub image : ImageParts
-  pub ops : List Op
-  pub core : CoreParts
-  pub listing_is : listing_meaning listing ≡ Ok image
-  pub order_is : order_of order ≡ Ok ops
-  pub run_is : IsRunOf image ops limit core end
-  pub shown : IsSo (report core.image core.trace core.state)
+-- the run that two texts mean; where there is none, the listing's fault, else the order's, else the
+-- limit's
+unfoldable pub run_meant : Result ImageParts ListingFault → Result (List Op) OrderFault → ℕ
+    → Result Run SimFault
+run_meant (Err fault) order limit = Err (Listing fault)
+run_meant (Ok image) (Err fault) limit = Err (Order fault)
+run_meant (Ok image) (Ok operations) limit =
+    if is_limit limit then Ok (run_of image operations limit) else Err (Boot boot.Limit)
+
+abbrev pub run_of_texts : List ℕ → List ℕ → ℕ → Result Run SimFault
+run_of_texts listing order limit = run_meant (listing_meaning listing) (order_of order) limit
+
+-- the report of a run
+abbrev pub report_of : Run → List ℕ
+report_of run = report run.0.image run.0.trace run.0.state
 
 -- a machine is not booted for its limit, or with a good one when out of memory
-abbrev pub IsRefusedBoot : BootFault → ℕ → Type 0
-IsRefusedBoot boot.Limit limit = is_limit limit ≡ false
-IsRefusedBoot boot.NoMemory limit = is_limit limit ≡ true
+abbrev pub IsUnbooted : BootFault → Result Run SimFault → Type 0
+IsUnbooted boot.Limit run = run ≡ Err (Boot boot.Limit)
+IsUnbooted boot.NoMemory run = IsOk run
 
--- A run was refused: for the listing's own fault, after a good listing for the order's, after good texts for the
--- limit, and after a run because its report was not taken whole, of which this is so. Running out of memory says
--- nothing of the texts. So where both texts are good and the limit isn't, the answer is its refusal, or that a text found
--- no memory.
-abbrev pub IsRefusedRun : List ℕ → List ℕ → ℕ → (List ℕ → Type 0) → SimFault → Type 0
-IsRefusedRun listing order limit IsSo (Listing fault) = Gives (Err fault) (listing_meaning listing)
-IsRefusedRun listing order limit IsSo (Order fault) =
-    (IsOk (listing_meaning listing)) × GivesFault fault.kind fault (order_of order)
-IsRefusedRun listing order limit IsSo (Boot fault) =
-    (IsOk (listing_meaning listing)) × (IsOk (order_of order)) × IsRefusedBoot fault limit
-IsRefusedRun listing order limit IsSo (Report fault) =
-    (end : Option (ℕ × StepFault)) × IsShownRun listing order limit IsSo end
+-- Each fault of a simulation: when it holds. Running out of memory says nothing of the listing; the
+-- order is judged without memory, and a machine is booted after that. Of the run this is so where
+-- its report was not written whole.
+abbrev pub IsRefusedRun : Result Run SimFault → (Run → Type 0) → SimFault → Type 0
+IsRefusedRun run IsSo (Listing fault) = (fault ≡ no_memory) ⊎ (run ≡ Err (Listing fault))
+IsRefusedRun run IsSo (Order fault) = run ≡ Err (Order fault)
+IsRefusedRun run IsSo (Boot fault) = IsUnbooted fault run
+IsRefusedRun run IsSo (Report fault) = IsOkAnd run IsSo
 
 -- whether a run was refused after its report was begun
 abbrev pub is_reported : SimFault → Bool

@@ -5,14 +5,15 @@ ghost use Rattle.std.specs.Prelude.{◌≡◌, ◌↔◌, ◌<◌, ◌≤◌, []
 ghost use Rattle.std.specs.Prelude.{length, vec_len, vec_capacity, false};
 ghost use Rattle.std.specs.Prelude.{IfOk, OnOk, OnErr, Err, None};
 ghost use Rattle.cheri_model.specs.runs.Authority.{EachOfState, IsConfined, IsMonotone};
-ghost use Rattle.cheri_model.specs.runs.Machine.{opening_state, entry_of, event_of};
+ghost use Rattle.cheri_model.specs.runs.Machine.{entry_of, event_of};
 ghost use Rattle.cheri_model.specs.runs.Machine.{swept_state, cleared};
 ghost use Rattle.cheri_model.specs.runs.Replay.{IsReplay};
+ghost use Rattle.cheri_model.specs.steps.HartStep.{hart_step};
+ghost use Rattle.cap_model.specs.results.Addresses.{address_of};
 ghost use Rattle.cap_model.specs.results.Swept.{is_in_sweep};
 ghost use Rattle.hart_step.specs.View.{state_of};
-ghost use Rattle.machine.specs.Cores.{CoreParts, IsCore, IsHartStep};
-ghost use Rattle.machine.specs.Cores.{applied, answered, answered_step};
-ghost use Rattle.machine.specs.Cores.{core_after, is_limit, refused};
+ghost use Rattle.machine.specs.Cores.{CoreParts, IsCore, opening_core, is_limit, refused};
+ghost use Rattle.machine.specs.Cores.{answered, answered_step, core_after, applied};
 
 use crate::faults::{BootFault, StepFault};
 use crate::opening::{copied_ram, opening_harts, opening_ram};
@@ -59,8 +60,7 @@ impl Core {
     /// Fails with `Limit` exactly where the limit is not from 1 to 100,000, and otherwise only when
     /// out of memory.
     pub fn boot(alloc: Global, image: Image, limit: u32) -> Result<Core, BootFault>
-        ensures opened { IfOk result (λ core. core
-            ≡ record { image = image; limit = limit; trace = []; state = opening_state image }) }
+        ensures opened { IfOk result (λ core. core ≡ opening_core image limit) }
         ensures limit { (result ≡ Err BootFault.Limit) ↔ (is_limit limit ≡ false) }
         ensures core { IfOk result (λ core. IsCore core) }
     {
@@ -262,7 +262,13 @@ fn append(trace: &mut Vec<Event>, event: Event)
 
 /// Steps a hart in place, and gives the entry of the step.
 fn step_hart(program: &[Instr], hart: &mut Hart, ram: &mut Ram, number: u8) -> Entry
-    ensures { IsHartStep program.now hart.old ram.old number hart.new ram.new result }
+    ensures hart { hart.new ≡ (hart_step program.now hart.old ram.old).hart }
+    ensures memory { ram.new ≡ (hart_step program.now hart.old ram.old).memory }
+    ensures entry { result ≡ record {
+      hart = number;
+      pc = address_of hart.old.pcc;
+      outcome = (hart_step program.now hart.old ram.old).outcome;
+    } }
 {
     let pc = hart.pcc().addr();
     let outcome = step(program, hart, ram);

@@ -5,6 +5,7 @@
 ghost use Rattle.std.specs.Prelude.{◌≡◌};
 ghost use Rattle.machine.specs.declared.cores.TheConstants.{GREATEST_TRACE_LIMIT};
 ghost use Rattle.machine.specs.declared.pairs.TheConstants.{PLACES};
+ghost use Rattle.machine.specs.Runs.{RunsTakeAll, RunsAreReplays};
 ghost use Rattle.orders.specs.declared.reader.TheConstants.{ORDER_LIMIT};
 
 /// The greatest limit of a trace, the most operations of an order, and the places for watches.
@@ -12,4 +13,11 @@ pub fn limits()
     ensures trace { GREATEST_TRACE_LIMIT ≡ 100000 }
     ensures order { ORDER_LIMIT ≡ 100000 }
     ensures places { PLACES ≡ 8 }
+{}
+
+/// The run of an order, which definitions give as a function: it takes the order as far as it can be
+/// taken, and what it leaves is the replay of what it took.
+pub fn runs()
+    ensures taken { RunsTakeAll }
+    ensures replays { RunsAreReplays }
 {}

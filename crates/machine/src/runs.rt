@@ -1,8 +1,9 @@
 //! The run of an order on one thread.
 
 ghost use Rattle.std.specs.Prelude.{◌≡◌, ◌↔◌, false, IfOk, Err};
-ghost use Rattle.machine.specs.Cores.{is_limit};
-ghost use Rattle.machine.specs.Runs.{IsRunOf};
+ghost use Rattle.cheri_model.specs.runs.Authority.{IsConfined};
+ghost use Rattle.machine.specs.Cores.{IsCore, is_limit};
+ghost use Rattle.machine.specs.Runs.{run_of};
 
 use crate::cores::Core;
 use crate::faults::{BootFault, StepFault};
@@ -10,10 +11,9 @@ use cheri_model::{Image, Op};
 use orders::JudgedOrder;
 use std::alloc::Global;
 
-/// Boots the image and takes the operations of this order, until one is refused. It takes the
-/// longest beginning of the order that is legal and no longer than the limit of the trace. Where
-/// that is shorter than the order, it answers the place of the refused operation, counted from 0,
-/// and the refusal. Fails with `Limit` exactly where the limit is not from 1 to 100,000, and
+/// Boots the image and takes the operations of this order, until one is refused: then it answers
+/// the place of that operation, counted from 0, and the refusal. So it takes the longest beginning
+/// of the order that is legal and no longer than the limit of the trace. Fails with `Limit` exactly where the limit is not from 1 to 100,000, and
 /// otherwise only when out of memory.
 pub fn run_order(
     alloc: Global,
@@ -22,7 +22,9 @@ pub fn run_order(
     limit: u32,
 ) -> Result<(Core, Option<(usize, StepFault)>), BootFault>
     ensures limit { (result ≡ Err BootFault.Limit) ↔ (is_limit limit ≡ false) }
-    ensures run { IfOk result (λ run. IsRunOf image order.now limit run.0 run.1) }
+    ensures run { IfOk result (λ run. run ≡ run_of image order.now limit) }
+    ensures core { IfOk result (λ run. IsCore run.0) }
+    ensures confined { IfOk result (λ run. IsConfined run.0.image run.0.state) }
 {
     let mut core = Core::boot(alloc, image, limit)?;
     for (place, op) in order.iter().enumerate() {
@@ -42,7 +44,9 @@ pub fn run_judged(
     limit: u32,
 ) -> Result<(Core, Option<(usize, StepFault)>), BootFault>
     ensures limit { (result ≡ Err BootFault.Limit) ↔ (is_limit limit ≡ false) }
-    ensures run { IfOk result (λ run. IsRunOf image order.entry limit run.0 run.1) }
+    ensures run { IfOk result (λ run. run ≡ run_of image order.entry limit) }
+    ensures core { IfOk result (λ run. IsCore run.0) }
+    ensures confined { IfOk result (λ run. IsConfined run.0.image run.0.state) }
 {
     let mut core = Core::boot(alloc, image, limit)?;
     let mut place = 0;

@@ -6,9 +6,9 @@ use Rattle.machine.proofs.cores.step_hart.Goals as goal
 pub returns : goal.returns
 unfolding address_of
 returns c = record {
-  after_is = ap (λ s. s.hart) c.step-outcome.ensures.value;
-  memory_is = ap (λ s. s.memory) c.step-outcome.ensures.value;
-  entry_is = λ i. record {
+  hart = sym (ap (λ s. s.hart) c.step-outcome.ensures.value);
+  memory = sym (ap (λ s. s.memory) c.step-outcome.ensures.value);
+  entry = λ i. record {
     hart = c.args.number;
     pc = (c.addr-pc.ensures.value ∙ ap address_of c.pcc.ensures.value) i;
     outcome = sym (ap (λ s. s.outcome) c.step-outcome.ensures.value) i;

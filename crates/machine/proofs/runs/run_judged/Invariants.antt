@@ -1,15 +1,14 @@
--- what was taken, by the machine of the image, and what is left are the order
-use Rattle.std.proofs.Common.{◌≡◌, ◌++◌, length}
-use Rattle.cheri_model.specs.runs.Replay.{operations_of}
+-- the run of what is left, from the core so far, is the run of the order
+use Rattle.std.proofs.Common.{◌≡◌, length}
 use Rattle.machine.specs.Cores.{IsCore}
+use Rattle.machine.specs.Runs.{run_from, run_of}
 use Rattle.machine.proofs.runs.run_judged.Given as goal
 
 abbrev pub invariant-loop-op : goal.invariant-loop-op
 invariant-loop-op l = record {
   core : IsCore l.core;
-  taken : operations_of l.core.trace ++ l.order ≡ l.fn.order;
+  run : run_from l.core l.place l.order ≡ run_of l.fn.image l.fn.order l.limit;
   place : l.place ≡ length l.core.trace;
-  image : l.core.image ≡ l.fn.image;
   limit : l.core.limit ≡ l.limit;
 }
 

@@ -13,10 +13,10 @@ append-requires c =
 
 pub invariant_of-self : goal.invariant_of-self
 invariant_of-self c =
-    let t = took _ _ c.args.hart c.from.result _ c.index_mut-place.result.now _ _ _ c.self.view_is c.self.invariant.0 c.requires c.from.ensures c.program-program.ensures c.index_mut-place.ensures.value c.step_hart-entry.ensures in
+    let t = took _ _ c.args.hart c.from.result _ c.index_mut-place.result.now _ _ _ c.self.view_is c.self.invariant.0 c.requires c.from.ensures c.program-program.ensures c.index_mut-place.ensures.value (record { hart = c.step_hart-entry.ensures.hart; ram = c.step_hart-entry.ensures.memory; entry = c.step_hart-entry.ensures.entry }) in
     (rw c.append.ensures.items t.keeps, omega (arith, c.self.invariant.1, c.append.ensures.capacity))
 
 pub returns : goal.returns
 returns c =
-    let t = took _ _ c.args.hart c.from.result _ c.index_mut-place.result.now _ _ _ c.self.view_is c.self.invariant.0 c.requires c.from.ensures c.program-program.ensures c.index_mut-place.ensures.value c.step_hart-entry.ensures in
+    let t = took _ _ c.args.hart c.from.result _ c.index_mut-place.result.now _ _ _ c.self.view_is c.self.invariant.0 c.requires c.from.ensures c.program-program.ensures c.index_mut-place.ensures.value (record { hart = c.step_hart-entry.ensures.hart; ram = c.step_hart-entry.ensures.memory; entry = c.step_hart-entry.ensures.entry }) in
     record { entry = t.entry_is; after = rw c.append.ensures.items t.core_is; core = rw c.append.ensures.items t.keeps }
