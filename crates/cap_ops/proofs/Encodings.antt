@@ -37,14 +37,14 @@ one_times n p one positive =
 pub record HasLength (len ie e : ℕ) : Type 0 where
   pub exponent_is : exponent len ≡ e
   pub internal : internal_exponent len ≡ ie
-  pub granule_is : alignment len ≡ 2 ^ (ie * (e + 3))
+  pub alignment_is : alignment len ≡ 2 ^ (ie * (e + 3))
 
 short_length : (len ie e : ℕ) → ie ≡ 0 → e ≡ 0 → len / 2 ^ (e + 12) ≡ ie → HasLength len ie e
 short_length len ie e none small same =
     let divided : len / 2 ^ 12 ≡ 0 = rw (none, small) at same in
     let short : len < 2 ^ 12 = omega arith in
     rw (none, small)
-    (record { exponent_is = exponent_small len (omega arith); internal = internal_exponent_small len short; granule_is = alignment_small len short })
+    (record { exponent_is = exponent_small len (omega arith); internal = internal_exponent_small len short; alignment_is = alignment_small len short })
 
 long_length : (len ie e : ℕ) → ie ≡ 1 → e ≤ 52 → len / 2 ^ (e + 12) ≡ ie → HasLength len ie e
 long_length len ie e one most same =
@@ -53,7 +53,7 @@ long_length len ie e one most same =
     let long : 2 ^ 12 ≤ len = omega (arith, fits.0, pow-add 2 e 12, pow_pos e) in
     let is : exponent len ≡ e = exponent_between len e (omega arith) fits.0 (omega (arith, fits.1)) in
     rw one
-    (record { exponent_is = is; internal = internal_exponent_long len long; granule_is = alignment_long len long ∙ rw is (ap (λ n. 2 ^ n) (omega arith)) })
+    (record { exponent_is = is; internal = internal_exponent_long len long; alignment_is = alignment_long len long ∙ rw is (ap (λ n. 2 ^ n) (omega arith)) })
 
 pub length_of_fields : (len ie e : ℕ) → ie < 2 → e ≤ 52 → (ie ≡ 0 → e ≡ 0) → len / 2 ^ (e + 12) ≡ ie → HasLength len ie e
 length_of_fields len ie e low most external same = elim (cases_lt ie 1) [

@@ -88,7 +88,7 @@ length_over e l ie same =
     let size : 2 ^ (e + 12) ≡ 2 ^ 12 * 2 ^ e = omega (arith, pow-add 2 e 12) in
     rw size (mul-div-mul_right l (2 ^ 12) (pow_pos e) ∙ same)
 
--- what is a multiple with IE 1 is one of the alignment
+-- what is a multiple with IE 1 is a multiple of the alignment
 multiple_by_ie : (ie e n : ℕ) → ie < 2 → (ie ≡ 1 → n % 2 ^ (e + 3) ≡ 0) → n % 2 ^ (ie * (e + 3)) ≡ 0
 multiple_by_ie ie e n below multiple = elim (cases_lt ie 1) [
   | inl low ↦ (let none : ie ≡ 0 = omega arith in let flat : 0 * (e + 3) ≡ 0 = omega arith in rw (none, flat) (omega arith))
