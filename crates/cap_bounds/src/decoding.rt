@@ -41,7 +41,6 @@ pub fn decode(upper: u64, addr: u64) -> (u64, u128)
 }
 
 /// The base of the word alone, which takes a fraction of the time of `decode`.
-#[tactic(auto, using(crate::proofs::Regions::same_bounds), unfolding(crate::proofs::Open::raw))]
 pub fn decode_base(upper: u64, addr: u64) -> u64
     ensures { result ≡ raw_base upper addr }
 {
