@@ -82,9 +82,9 @@ module _ (harts count : ℕ) where
       let low_too : n < 32 = b.1 in
       elim (cases_eq number hart) [
         | inl same ↦ elim (cases_eq m n) [
-            | inl alike ↦ rw (same, alike, eq-eqb hart hart refl, eq-eqb n n refl, eq-eqb (33 * hart + 1 + n) (33 * hart + 1 + n) refl) refl
-            | inr apart ↦ rw (same, eq-eqb hart hart refl, ne_eqb m n apart, ne_eqb (33 * hart + 1 + m) (33 * hart + 1 + n) (λ e. apart (omega arith))) refl
-          ]
+          | inl alike ↦ rw (same, alike, eq-eqb hart hart refl, eq-eqb n n refl, eq-eqb (33 * hart + 1 + n) (33 * hart + 1 + n) refl) refl
+          | inr apart ↦ rw (same, eq-eqb hart hart refl, ne_eqb m n apart, ne_eqb (33 * hart + 1 + m) (33 * hart + 1 + n) (λ e. apart (omega arith))) refl
+        ]
         | inr other ↦ rw (ne_eqb number hart other, ne_eqb (33 * number + 1 + m) (33 * hart + 1 + n) (λ e. other (omega arith))) refl
       ]
   before_more number (Register m) source rest (GranuleOf k) a b =
@@ -121,14 +121,14 @@ after_more number f rest table middle fits set after =
           let n = slot_of table.harts place in
           let before = before_more table.harts (length table.slots) number f.set f.source rest place set is in
           let stays : slice_index_or middle.slots n place ≡ origin_in table (before_flows number rest place) =
-              subst (λ h. slice_index_or middle.slots (slot_of h place) place ≡ origin_in table (before_flows number rest place)) after.harts (after.origins place is) in
+          subst (λ h. slice_index_or middle.slots (slot_of h place) place ≡ origin_in table (before_flows number rest place)) after.harts (after.origins place is) in
           let now : slice_index_or (slice_set middle.slots s x) n place ≡ origin_in table (before_flows number (f ∷ rest) place) =
-              elim (cases_Bool (s == n)) [
-                | inl same ↦
-                  rw (before, same, ← eqb-true s n same) (get_or-set_same middle.slots s x place inside)
-                | inr other ↦
-                  rw (before, other) (get_or-set_other middle.slots s n x place (λ e. eqb-false s n other (sym e)) ∙ stays)
-              ] in
+          elim (cases_Bool (s == n)) [
+            | inl same ↦
+                rw (before, same, ← eqb-true s n same) (get_or-set_same middle.slots s x place inside)
+            | inr other ↦
+                rw (before, other) (get_or-set_other middle.slots s n x place (λ e. eqb-false s n other (sym e)) ∙ stays)
+          ] in
           subst (λ h. slice_index_or (slice_set middle.slots (slot_of h (place_of number f.set)) x) (slot_of h place) place ≡ origin_in table (before_flows number (f ∷ rest) place)) (sym after.harts) now;
     }
 
@@ -142,10 +142,10 @@ are_before table number (f ∷ rest) place are is =
     let test = slot_of table.harts (place_of number f.set) == slot_of table.harts place in
     let before = before_more table.harts (length table.slots) number f.set f.source rest place are.0 is in
     let there : IsPlace table (if test then place_of number f.source else before_flows number rest place) =
-        elim test as (λ b. IsPlace table (if b then place_of number f.source else before_flows number rest place)) [
-          | true ↦ are.1
-          | false ↦ are_before table number rest place are.2 is
-        ] in
+    elim test as (λ b. IsPlace table (if b then place_of number f.source else before_flows number rest place)) [
+      | true ↦ are.1
+      | false ↦ are_before table number rest place are.2 is
+    ] in
     subst (IsPlace table) (sym before) there
 
 pub tells_step : (image : ImageParts) (order : List Op) (number : ℕ) (old new : Table) → AreFlows old number (next_flows image order number) →

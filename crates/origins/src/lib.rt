@@ -11,6 +11,6 @@ mod place;
 mod step_flows;
 mod table;
 
-pub use step_flows::{StepFlows, flows};
 pub use place::{Flow, Place, Spot};
+pub use step_flows::{StepFlows, flows};
 pub use table::OriginTable;

@@ -13,8 +13,8 @@ ghost use Rattle.origins.specs.Table.{
   IsAfter,
 };
 
-use crate::step_flows::StepFlows;
 use crate::place::Place;
+use crate::step_flows::StepFlows;
 use std::alloc::{AllocError, Global};
 use std::marker::Model;
 
