@@ -8,7 +8,7 @@ use Rattle.graph_search.specs.Trees.{IsFound}
 use Rattle.graph_search.specs.Searches.{IsSearched, IsEarlier}
 
 -- the label before this one was the last to be followed, or the label was followed before
-earlier_cases : (i m f l : ℕ) → IsEarlier i m f (l + 1) → IsEarlier i m f l ⊎ ((i ≡ f) × (m ≡ l))
+pub earlier_cases : (i m f l : ℕ) → IsEarlier i m f (l + 1) → IsEarlier i m f l ⊎ ((i ≡ f) × (m ≡ l))
 earlier_cases i m f l earlier =
     let in_order = earlier.0 in
     elim (cases_eq i f) [
