@@ -1,5 +1,5 @@
 -- What is so of the lists of a search.
-use Rattle.std.proofs.Common.{◌≡◌, ◌≢◌, ℕ, zero, suc, ◌+◌, ◌<◌, ◌≤◌, List, [], ◌∷◌, ◌++◌, length, get_or, arith, ap, sym, ◌∙◌, refl, inl, inr, ◌⊎◌, subst, length-append}
+use Rattle.std.proofs.Common.{◌≡◌, ◌≢◌, ℕ, zero, suc, ◌+◌, ◌<◌, ◌≤◌, List, [], ◌∷◌, ◌++◌, length, arith, ap, sym, ◌∙◌, refl, inl, inr, subst, length-append}
 use Rattle.std.specs.Prelude.{Option, Some, None, IsSome, IfSome, is_some, Bool, true, false, option_and_then, slice_get}
 use Rattle.std.proofs.Math.Path.{fun_ext}
 use Rattle.std.proofs.Math.Seq.{get_or-append_seam}
@@ -8,7 +8,7 @@ use Rattle.std.proofs.lemmas.Option.{none-some, same_Some, slice_get_within, opt
 use Rattle.graph_search.specs.declared.edges.Edge.{Edge}
 use Rattle.graph_search.specs.Graphs.{LeadsTo}
 use Rattle.graph_search.specs.Trees.{state_at, edge_at, IsFound, Adds, IsOrderly}
-use Rattle.graph_search.specs.Searches.{IsSearched, IsSearching, IsCut, IsExplored, IsEarlier, GoesOn}
+use Rattle.graph_search.specs.Searches.{IsSearched, IsSearching, IsExplored, GoesOn}
 use Rattle.graph_search.proofs.SearchLemmas.{moved, added, next_node}
 use Rattle.graph_search.proofs.WitnessLemmas.{finished, stopped}
 
