@@ -1,8 +1,8 @@
 -- The order of walks, and walks with one more label at their end.
-use Rattle.std.proofs.Common.{◌≡◌, ◌≢◌, ℕ, ◌+◌, ◌<◌, ◌≤◌, List, [], ◌∷◌, ◌++◌, length, arith, ap, sym, ◌∙◌, refl, inl, inr, ◌⊎◌, length-append, subst}
+use Rattle.std.proofs.Common.{◌≡◌, ℕ, ◌<◌, List, [], ◌∷◌, ◌++◌, length, arith, ap, sym, ◌∙◌, refl, inl, inr, ◌⊎◌, length-append}
 use Rattle.std.specs.Prelude.{Option, Some, None, option_and_then}
 use Rattle.std.proofs.lemmas.Bool.{cases_lt}
-use Rattle.graph_search.specs.Walks.{after, IsWalk, IsLess, IsBefore}
+use Rattle.graph_search.specs.Walks.{after, IsLess, IsBefore}
 
 pub less_more : (ls ms : List ℕ) (l m : ℕ) → IsLess ls ms → IsLess (ls ++ l ∷ []) (ms ++ m ∷ [])
 less_more [] ms l m less = absurd less

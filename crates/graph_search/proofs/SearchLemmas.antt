@@ -1,5 +1,5 @@
 -- How a search goes on.
-use Rattle.std.proofs.Common.{◌≡◌, ◌≢◌, ℕ, ◌+◌, ◌<◌, ◌≤◌, arith, ap, sym, ◌∙◌, refl, inl, inr, ◌⊎◌, subst}
+use Rattle.std.proofs.Common.{◌≡◌, ◌≢◌, ℕ, ◌+◌, ◌<◌, ◌≤◌, arith, ap, sym, ◌∙◌, inl, inr, ◌⊎◌, subst}
 use Rattle.std.specs.Prelude.{Option, Some, None}
 use Rattle.std.proofs.lemmas.Bool.{cases_lt, cases_eq}
 use Rattle.std.proofs.lemmas.Option.{none-some, same_Some}
@@ -8,7 +8,7 @@ use Rattle.graph_search.specs.Trees.{IsFound}
 use Rattle.graph_search.specs.Searches.{IsSearched, IsEarlier}
 
 -- the label before this one was the last to be followed, or the label was followed before
-earlier_cases : (i m f l : ℕ) → IsEarlier i m f (l + 1) → IsEarlier i m f l ⊎ ((i ≡ f) × (m ≡ l))
+pub earlier_cases : (i m f l : ℕ) → IsEarlier i m f (l + 1) → IsEarlier i m f l ⊎ ((i ≡ f) × (m ≡ l))
 earlier_cases i m f l earlier =
     let in_order = earlier.0 in
     elim (cases_eq i f) [

@@ -1,5 +1,5 @@
 -- What is so of the lists of a search.
-use Rattle.std.proofs.Common.{◌≡◌, ◌≢◌, ℕ, zero, suc, ◌+◌, ◌<◌, ◌≤◌, List, [], ◌∷◌, ◌++◌, length, get_or, arith, ap, sym, ◌∙◌, refl, inl, inr, ◌⊎◌, subst, length-append}
+use Rattle.std.proofs.Common.{◌≡◌, ◌≢◌, ℕ, zero, suc, ◌+◌, ◌<◌, ◌≤◌, List, [], ◌∷◌, ◌++◌, length, arith, ap, sym, ◌∙◌, refl, inl, inr, subst, length-append}
 use Rattle.std.specs.Prelude.{Option, Some, None, IsSome, IfSome, is_some, Bool, true, false, option_and_then, slice_get}
 use Rattle.std.proofs.Math.Path.{fun_ext}
 use Rattle.std.proofs.Math.Seq.{get_or-append_seam}
@@ -8,9 +8,13 @@ use Rattle.std.proofs.lemmas.Option.{none-some, same_Some, slice_get_within, opt
 use Rattle.graph_search.specs.declared.edges.Edge.{Edge}
 use Rattle.graph_search.specs.Graphs.{LeadsTo}
 use Rattle.graph_search.specs.Trees.{state_at, edge_at, IsFound, Adds, IsOrderly}
-use Rattle.graph_search.specs.Searches.{IsSearched, IsSearching, IsCut, IsExplored, IsEarlier, GoesOn}
+use Rattle.graph_search.specs.Searches.{IsSearched, IsSearching, IsExplored, GoesOn}
 use Rattle.graph_search.proofs.SearchLemmas.{moved, added, next_node}
 use Rattle.graph_search.proofs.WitnessLemmas.{finished, stopped}
+
+pub some_of : {A : Type 0} (o : Option A) → IsSome o → (x : A) × (o ≡ Some x)
+some_of None some = absurd (cc)
+some_of (Some x) some = (x, refl)
 
 slice_get-more : {A : Type 0} (xs : List A) (x : A) (i : ℕ) → i ≢ length xs →
     slice_get (xs ++ x ∷ []) i ≡ slice_get xs i
@@ -232,7 +236,8 @@ module _ {S : Type 0} (next next' : S → ℕ → Option S) (meaning meaning' : 
       let v : LeadsTo meaning' true to (next node_state.0 edge.label) =
       subst (λ (b : Bool). LeadsTo meaning' b to (next node_state.0 edge.label)) leading
       (value node_state.0 node_state.1) in
-      (v.0, v.1, node_state.3 ∙ v.2)
+      let t = some_of (next node_state.0 edge.label) v.0 in
+      (t.0, v.1 ∙ t.1, node_state.3 ∙ t.1)
 
   pub step_nowhere : leads ≡ false → IsSearching next' meaning' limit nodes edges edge.from (edge.label + 1)
   step_nowhere idle =
@@ -308,7 +313,3 @@ module _ {S : Type 0} (next next' : S → ℕ → Option S) (meaning meaning' : 
           );
         },
       )
-
-pub some_of : {A : Type 0} (o : Option A) → IsSome o → (x : A) × (o ≡ Some x)
-some_of None some = absurd (cc)
-some_of (Some x) some = (x, refl)

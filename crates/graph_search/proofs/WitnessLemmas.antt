@@ -1,9 +1,9 @@
 -- The walks along the edges by which nodes were found are the least ones.
 use Rattle.std.proofs.Common.{◌≡◌, ◌≢◌, ℕ, zero, suc, ◌+◌, ◌<◌, ◌≤◌, List, [], ◌∷◌, ◌++◌, arith, ap, sym, ◌∙◌, refl, inl, inr, ◌⊎◌, subst}
-use Rattle.std.specs.Prelude.{Option, Some, None, Bool, true, false, option_and_then, reverse}
+use Rattle.std.specs.Prelude.{Option, Some, Bool, true, false, option_and_then, reverse}
 use Rattle.std.proofs.lemmas.Bool.{cases_lt, cases_eq}
 use Rattle.std.proofs.lemmas.List.{reverse-append, reverse-reverse}
-use Rattle.std.proofs.lemmas.Option.{none-some, same_Some, option_and_then_some}
+use Rattle.std.proofs.lemmas.Option.{option_and_then_some}
 use Rattle.graph_search.specs.declared.edges.Edge.{Edge}
 use Rattle.graph_search.specs.Walks.{after, IsWalk, IsReachable, IsWitness, IsBefore}
 use Rattle.graph_search.specs.Trees.{IsFound, IsTrace}

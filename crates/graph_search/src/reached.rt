@@ -2,13 +2,18 @@
 
 ghost use Rattle.std.specs.Prelude.{
   ◌≡◌,
+  ◌≢◌,
+  ℕ,
   ◌+◌,
   ◌<◌,
   length,
   slice_get,
+  Some,
+  None,
   option_copied,
   reverse,
   IfOk,
+  IfSome,
 };
 ghost use Rattle.graph_search.specs.Trees.{IsTrace, IsOrderly, edge_at};
 
@@ -66,6 +71,14 @@ impl Reached {
         ensures { option_copied result ≡ slice_get self.now.nodes number }
     {
         self.tree.nodes.row(number)
+    }
+
+    /// The number of this node, if it was found.
+    pub fn find(&self, node: &[u32]) -> Option<u32>
+        ensures found { IfSome result (λ number. slice_get self.now.nodes number ≡ Some node.now) }
+        ensures absent { result ≡ None → (i : ℕ) → slice_get self.now.nodes i ≢ Some node.now }
+    {
+        self.tree.nodes.find(node)
     }
 
     /// The labels of the edges that lead from the first node to this one: the witness of its state.

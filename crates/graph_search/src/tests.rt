@@ -1,8 +1,11 @@
 //! A graph whose distances are known: from 1, by doubling and by adding 1.
 
-ghost use Rattle.std.specs.Prelude.{◌<◌};
+ghost use Rattle.std.specs.Prelude.{◌≡◌, length};
+ghost use Rattle.graph_search.specs.Graphs.{LeadsTo};
+ghost use Rattle.graph_search.specs.Doubling.{number_of, below};
 
 use crate::graphs::Graph;
+use crate::reached::Reached;
 use crate::search::explore;
 use std::alloc::AllocError;
 use std::test::Fail;
@@ -15,8 +18,7 @@ struct Numbers {
 
 impl Graph for Numbers {
     ghost use Rattle.std.specs.Prelude.{ℕ};
-    ghost use Rattle.graph_search.specs.Doubling.{number_of, stepped};
-    ghost use Rattle.graph_search.proofs.DoublingLemmas.{number_of_one, stepped_beyond};
+    ghost use Rattle.graph_search.specs.Doubling.{number_of, stepped, number_of_one, stepped_beyond};
 
     ghost State = { ℕ };
 
@@ -38,12 +40,10 @@ impl Graph for Numbers {
 
     fn step(&mut self, node: &[u32], label: u32, to: &mut [u32]) -> Result<bool, AllocError> {
         let &[number] = node else { unreachable!() };
-        let room = if label == 0 { number } else { 1 };
-        if room >= self.size || number >= self.size - room {
-            return Ok(false);
+        if label == 0 {
+            return Ok(put_below(self.size, u64::from(number) + u64::from(number), to));
         }
-        to[0] = number + room;
-        Ok(true)
+        Ok(put_below(self.size, u64::from(number) + 1, to))
     }
 
     ghost one_node = { λ g. number_of_one };
@@ -51,10 +51,28 @@ impl Graph for Numbers {
     ghost none_beyond = { λ g. stepped_beyond g.size };
 }
 
+/// Writes the number, where it is below the size.
+#[tactic(auto, using(crate::proofs::DoublingLemmas::number_of_set))]
+fn put_below(size: u32, number: u64, to: &mut [u32]) -> bool
+    requires { length to.old ≡ 1 }
+    ensures { LeadsTo number_of result to.new (below size number) }
+{
+    if number >= u64::from(size) {
+        return false;
+    }
+    to[0] = number as u32;
+    true
+}
+
+/// The number that a node is.
+fn number_at(found: &Reached, node: u32) -> Option<u32> {
+    found.node(node)?.first().copied()
+}
+
 /// How many steps of doubling and adding 1 lead from 1 to this number: each binary digit but the first
 /// takes a doubling, and each 1 among them one more step.
 fn distance(number: u32) -> u32 {
-    31 - number.leading_zeros() + number.count_ones() - 1
+    31u32.saturating_sub(number.leading_zeros()) + number.count_ones().saturating_sub(1)
 }
 
 /// Each number below `size` is found, by a walk as long as its distance, the nearest ones first.
@@ -66,7 +84,7 @@ fn walks_are_shortest(rt: HostRuntime) -> Result<(), Fail> {
     assert_eq!(rt; found.len(), 299);
     let mut before = 0;
     for node in 0..found.len() {
-        let number = found.node(node).ok_or("no node")?[0];
+        let number = number_at(&found, node).ok_or("no node")?;
         let length = found.witness(rt.alloc(), node)?.len();
         assert_eq!(rt; length, distance(number) as usize, "{number}");
         assert!(rt; before <= length, "{number}");
@@ -75,20 +93,19 @@ fn walks_are_shortest(rt: HostRuntime) -> Result<(), Fail> {
     Ok(())
 }
 
-/// Of two shortest walks the least is the witness: 1, 2, 4, 5, 10, and 2 is 1 doubled.
+/// Nodes are in the order of their witnesses, of which 10's is 1, 2, 4, 5, 10: 2 is 1 doubled.
 #[test]
 fn witnesses_are_least(rt: HostRuntime) -> Result<(), Fail> {
     let mut graph = Numbers { size: 11 };
     let found = explore(rt.alloc(), &mut graph, &[1], 100)?;
-    assert_eq!(rt; found.node(9).ok_or("no node")?, [9].as_slice());
-    let mut last = None;
-    for node in 0..found.len() {
-        if found.node(node).ok_or("no node")?[0] == 10 {
-            last = Some(found.witness(rt.alloc(), node)?);
-        }
+    let mut node = 0u32;
+    for number in [1, 2, 4, 3, 8, 5, 6, 9, 10, 7] {
+        assert_eq!(rt; number_at(&found, node), Some(number));
+        node = node.saturating_add(1);
     }
+    assert_eq!(rt; found.len(), 10);
     assert_eq!(rt;
-        last.ok_or("not found")?.as_slice(),
+        found.witness(rt.alloc(), 8)?.as_slice(),
         [0, 0, 1, 0].as_slice()
     );
     Ok(())

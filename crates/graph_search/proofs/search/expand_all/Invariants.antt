@@ -1,4 +1,4 @@
-use Rattle.std.proofs.Common.{◌≡◌, ◌<◌, ◌≤◌, ◌-◌, length}
+use Rattle.std.proofs.Common.{◌≡◌, ◌≤◌, ◌-◌, length}
 use Rattle.graph_search.specs.Trees.{state_at}
 use Rattle.graph_search.specs.Searches.{IsSearching}
 use Rattle.graph_search.proofs.search.expand_all.Given as goal

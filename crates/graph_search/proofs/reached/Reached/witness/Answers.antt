@@ -1,6 +1,5 @@
-use Rattle.std.proofs.Common.{◌≡◌, ◌++◌, [], subst, sym, ℕ, List, reverse, arith}
+use Rattle.std.proofs.Common.{◌≡◌, [], arith}
 use Rattle.std.proofs.lemmas.List.{append-nil, reverse-reverse}
-use Rattle.graph_search.specs.Trees.{IsTrace, edge_at}
 use Rattle.graph_search.proofs.reached.Reached.witness.Goals as goal
 
 pub returns : goal.returns

@@ -1,6 +1,5 @@
-use Rattle.std.proofs.Common.{◌≡◌, ◌+◌, ◌<◌, ◌++◌, length, ℕ, List}
-use Rattle.graph_search.specs.Trees.{IsTrace, IsOrderly, edge_at}
-use Rattle.graph_search.proofs.TreeLemmas.{ends}
+use Rattle.std.proofs.Common.{◌<◌, ◌++◌, length, ℕ, List}
+use Rattle.graph_search.specs.Trees.{IsTrace, edge_at}
 use Rattle.graph_search.proofs.reached.Reached.witness.Given as goal
 
 abbrev pub invariant-loop-node : goal.invariant-loop-node

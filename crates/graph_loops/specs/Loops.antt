@@ -1,0 +1,26 @@
+-- Walks that lead back to where they began. Labels below a number are those of actors, one each; the others belong to
+-- nobody, and a walk of these alone is no loop.
+use Rattle.std.specs.Prelude.{◌≡◌, ℕ, ◌<◌, List, [], ◌∷◌, Option, Some, ◌⊎◌}
+use Rattle.graph_search.specs.Walks.{IsWalk}
+use Rattle.graph_loops.specs.declared.scans.Loops.{Loops}
+use Rattle.graph_loops.specs.declared.scans.Loops.TheVariants.{NoLoop, Unfair, Unknown}
+
+-- the walk takes an edge of this label
+abbrev pub Takes : List ℕ → ℕ → Type 0
+Takes [] m = ⊥
+Takes (l ∷ ls) m = (l ≡ m) ⊎ Takes ls m
+
+-- the walk leads from s back to it, with a step of an actor
+abbrev pub IsLoop : {S : Type 0} → (S → ℕ → Option S) → ℕ → S → List ℕ → Type 0
+IsLoop next actors s ls = IsWalk next s ls s × ((m : ℕ) × (m < actors) × Takes ls m)
+
+-- each actor that has a step in s takes one
+abbrev pub IsFair : {S : Type 0} → (S → ℕ → Option S) → ℕ → S → List ℕ → Type 0
+IsFair {S} next actors s ls = (m : ℕ) (t : S) → m < actors → next s m ≡ Some t → Takes ls m
+
+-- what is known of the loops of all states that were found
+abbrev pub IsKnown : {S : Type 0} → (S → ℕ → Option S) → ℕ → (ℕ → Option S) → Loops → Type 0
+IsKnown {S} next actors at NoLoop = (i : ℕ) (s : S) (ls : List ℕ) → at i ≡ Some s → ¬ IsLoop next actors s ls
+IsKnown {S} next actors at Unfair =
+    (i : ℕ) (s : S) (ls : List ℕ) → at i ≡ Some s → IsLoop next actors s ls → ¬ IsFair next actors s ls
+IsKnown next actors at Unknown = Unit {0}
