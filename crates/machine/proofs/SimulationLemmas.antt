@@ -1,20 +1,21 @@
 -- What two texts mean as a run, and why a run of them is refused.
 use Rattle.std.proofs.Common.{◌≡◌, Bool, true, false, ℕ, List, refl, sym, ap, subst, ◌∙◌, inl, inr}
-use Rattle.std.specs.Prelude.{◌↔◌, ◌⊎◌, if◌then◌else◌, Result, Ok, Err, IsOk, IsOkAnd}
+use Rattle.std.specs.Prelude.{◌↔◌, ◌⊎◌, if◌then◌else◌, Result, Ok, Err, IsOk}
 use Rattle.listings.specs.declared.fault.ListingFault.{ListingFault}
 use Rattle.listings.specs.Faults.{Gives, no_memory}
 use Rattle.listings.specs.Meaning.{listing_meaning}
 use Rattle.orders.specs.declared.fault.OrderFault.{OrderFault}
 use Rattle.orders.specs.Orders.{order_of}
 use Rattle.cheri_model.specs.declared.operation.Op.{Op}
+use Rattle.cheri_model.specs.runs.Authority.{IsConfined}
 use Rattle.cheri_model.specs.runs.Image.{ImageParts}
 use Rattle.machine.specs.declared.faults.BootFault.{BootFault}
 use Rattle.machine.specs.declared.faults.BootFault.TheVariants as boot
 use Rattle.machine.specs.declared.simulation.SimFault.{SimFault}
 use Rattle.machine.specs.declared.simulation.SimFault.TheVariants as sim
-use Rattle.machine.specs.Cores.{is_limit}
+use Rattle.machine.specs.Cores.{IsCore, is_limit}
 use Rattle.machine.specs.Runs.{Run, run_of}
-use Rattle.machine.specs.Simulation.{IsUnbooted, run_meant, run_of_texts}
+use Rattle.machine.specs.Simulation.{IsRunAnd, IsUnbooted, run_meant, run_of_texts}
 
 -- a limit is good or not
 by_limit : {A : Type 0} (limit : ℕ) → (is_limit limit ≡ true → A) → (is_limit limit ≡ false → A) → A
@@ -63,8 +64,10 @@ module _ (listing order : List ℕ) (limit : ℕ) (image : ImageParts) (operatio
       no is = absurd cc
 
 -- what holds of a run holds of what means it
-pub of_run : (meaning : Result Run SimFault) (run : Run) (IsSo : Run → Type 0) → meaning ≡ Ok run → IsSo run → IsOkAnd meaning IsSo
-of_run meaning run IsSo is so = subst (λ (r : Result Run SimFault). IsOkAnd r IsSo) (sym is) so
+pub of_run : (meaning : Result Run SimFault) (run : Run) (IsSo : Run → Type 0) → meaning ≡ Ok run → IsCore run.0 →
+    IsConfined run.0.image run.0.state → IsSo run → IsRunAnd meaning IsSo
+of_run meaning run IsSo is core confined so =
+    subst (λ (r : Result Run SimFault). IsRunAnd r IsSo) (sym is) (record { core = core; confined = confined }, so)
 
 -- a listing that was refused
 pub listing_refused : (listing order : List ℕ) (limit : ℕ) (fault : ListingFault) →

@@ -2,7 +2,7 @@
 use Rattle.std.specs.Prelude.{◌≡◌, ℕ, ◌+◌, true, List, [], ◌∷◌, take, slice_get, Option, Some}
 use Rattle.std.specs.Prelude.{None, IfSome, IsSomeAnd}
 use Rattle.cheri_model.specs.declared.operation.Op.{Op}
-use Rattle.cheri_model.specs.runs.Authority.{IsLawfulState}
+use Rattle.cheri_model.specs.runs.Authority.{IsConfined, IsLawfulState}
 use Rattle.cheri_model.specs.runs.Image.{ImageParts}
 use Rattle.cheri_model.specs.runs.Machine.{opening_state}
 use Rattle.cheri_model.specs.runs.Replay.{operations_of}
@@ -37,8 +37,8 @@ abbrev pub before_stop : Option Stop → List Op → List Op
 before_stop None order = order
 before_stop (Some stop) order = take stop.0 order
 
--- A run takes the order as far as it can be taken: its core, of this image and limit, took all of it,
--- or what is before the operation that it refuses.
+-- A run takes the order as far as it can be taken: its core, of this image and limit, took all of
+-- it, or what is before the operation that it refuses.
 pub record TakesAll (image : ImageParts) (order : List Op) (limit : ℕ) (run : Run) : Type 0 where
   pub image_is : run.0.image ≡ image
   pub limit_is : run.0.limit ≡ limit
@@ -46,7 +46,12 @@ pub record TakesAll (image : ImageParts) (order : List Op) (limit : ℕ) (run : 
   pub refused : IfSome run.1 (λ stop.
       IsSomeAnd (slice_get order stop.0) (λ op. refused run.0 op ≡ Some stop.1))
 
--- Every run does, and its core is the replay of what it took.
+-- What a run leaves is the replay of its trace, and lies within what its image gave.
+pub record IsConfinedRun (run : Run) : Type 0 where
+  pub core : IsCore run.0
+  pub confined : IsConfined run.0.image run.0.state
+
+-- Every run takes all it can, and its core is the replay of what it took.
 abbrev pub RunsTakeAll : Type 0
 RunsTakeAll = (image : ImageParts) (order : List Op) (limit : ℕ) →
     TakesAll image order limit (run_of image order limit)

@@ -15,7 +15,7 @@ use Rattle.machine.specs.declared.faults.BootFault.TheVariants as boot
 use Rattle.machine.specs.declared.simulation.SimFault.{SimFault}
 use Rattle.machine.specs.declared.simulation.SimFault.TheVariants.{Listing, Order, Boot, Report}
 use Rattle.machine.specs.Cores.{is_limit}
-use Rattle.machine.specs.Runs.{Run, run_of}
+use Rattle.machine.specs.Runs.{IsConfinedRun, Run, run_of}
 
 -- the run that two texts mean; where there is none, the listing's fault, else the order's, else the
 -- limit's
@@ -38,6 +38,10 @@ abbrev pub IsUnbooted : BootFault → Result Run SimFault → Type 0
 IsUnbooted boot.Limit run = run ≡ Err (Boot boot.Limit)
 IsUnbooted boot.NoMemory run = IsOk run
 
+-- there is a run, which is confined, and this is so of it
+abbrev pub IsRunAnd : Result Run SimFault → (Run → Type 0) → Type 0
+IsRunAnd run IsSo = IsOkAnd run (λ r. IsConfinedRun r × IsSo r)
+
 -- Each fault of a simulation: when it holds. Running out of memory says nothing of the listing; the
 -- order is judged without memory, and a machine is booted after that. Of the run this is so where
 -- its report was not written whole.
@@ -45,7 +49,7 @@ abbrev pub IsRefusedRun : Result Run SimFault → (Run → Type 0) → SimFault 
 IsRefusedRun run IsSo (Listing fault) = (fault ≡ no_memory) ⊎ (run ≡ Err (Listing fault))
 IsRefusedRun run IsSo (Order fault) = run ≡ Err (Order fault)
 IsRefusedRun run IsSo (Boot fault) = IsUnbooted fault run
-IsRefusedRun run IsSo (Report fault) = IsOkAnd run IsSo
+IsRefusedRun run IsSo (Report fault) = IsRunAnd run IsSo
 
 -- whether a run was refused after its report was begun
 abbrev pub is_reported : SimFault → Bool

@@ -1,9 +1,9 @@
 //! The run of two texts, a listing and an order, to the report of what ran.
 
-ghost use Rattle.std.specs.Prelude.{◌≡◌, ◌+◌, IfOk, IfErr, IsOkAnd, false};
+ghost use Rattle.std.specs.Prelude.{◌≡◌, ◌+◌, IfOk, IfErr, false};
 ghost use Rattle.std.specs.Io.KnownBytes.{Appends};
 ghost use Rattle.reports.specs.Sinks.{TakesBeginning};
-ghost use Rattle.machine.specs.Simulation.{IsRefusedRun, run_of_texts, report_of};
+ghost use Rattle.machine.specs.Simulation.{IsRefusedRun, IsRunAnd, run_of_texts, report_of};
 ghost use Rattle.machine.specs.Simulation.{is_reported, failures_of_run};
 
 use crate::faults::{BootFault, StepFault};
@@ -107,7 +107,7 @@ pub fn simulate<S: Sink>(
     out: &mut S,
 ) -> Result<Option<(usize, StepFault)>, SimFault>
     ensures shown { IfOk result (λ end.
-        IsOkAnd (run_of_texts listing.now order.now limit) (λ run. (run.1 ≡ end)
+        IsRunAnd (run_of_texts listing.now order.now limit) (λ run. (run.1 ≡ end)
         × Appends (S.taken out.old) (S.taken out.new) (report_of run))) }
     ensures refused { IfErr result (λ fault.
         IsRefusedRun (run_of_texts listing.now order.now limit)

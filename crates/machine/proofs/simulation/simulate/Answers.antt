@@ -62,11 +62,11 @@ returns-in_err-write_report-clause-refused g c =
     let run : Run = (c.in_ok-core.core, c.in_ok-core.refused) in
     let meant = run_is c.args.listing.now c.args.order.now c.args.limit c.in_ok-image.image c.in_ok-ops.ops c.in_ok-image.ensures c.in_ok-ops.ensures.meaning run c.in_ok-core.ensures.limit c.in_ok-core.ensures.run in
     let begun = rw (c.view.ensures.image, c.view.ensures.entries, c.view.ensures.state) at c.write_report.ensures.beginning in
-    rw (p.1, p.2) (of_run _ run _ meant begun)
+    rw (p.1, p.2) (of_run _ run _ meant c.in_ok-core.ensures.core c.in_ok-core.ensures.confined begun)
 
 pub returns-clause-shown : goal.returns-clause-shown
 returns-clause-shown g c =
     let run : Run = (c.in_ok-core.core, c.in_ok-core.refused) in
     let meant = run_is c.args.listing.now c.args.order.now c.args.limit c.in_ok-image.image c.in_ok-ops.ops c.in_ok-image.ensures c.in_ok-ops.ensures.meaning run c.in_ok-core.ensures.limit c.in_ok-core.ensures.run in
     let whole = rw (c.view.ensures.image, c.view.ensures.entries, c.view.ensures.state) at c.in_ok-write_report.ensures.whole in
-    of_run _ run _ meant (refl, whole)
+    of_run _ run _ meant c.in_ok-core.ensures.core c.in_ok-core.ensures.confined (refl, whole)
