@@ -224,11 +224,19 @@ whole_of entries harts image mem version =
     codes "{\"entries\":[" ++ (entries ++ (codes ",\"harts\":[" ++ (harts ++ (codes ",\"image\":" ++ (image
     ++ (codes ",\"mem\":{" ++ (mem ++ (codes ",\"report\":" ++ (version ++ codes "}")))))))))
 
+-- the same, regrouped by what is written after one another
+whole_regrouped : (a b c d e f x y entries harts image mem version : List ℕ)
+    → a ++ ((entries ++ x) ++ (b ++ ((harts ++ x) ++ (c ++ (image ++ (d ++ ((mem ++ y) ++ (e ++ (version ++ f)))))))))
+    ≡ ((a ++ entries) ++ (((x ++ b) ++ harts) ++ (((x ++ c) ++ (image ++ d)) ++ mem))) ++ ((y ++ e) ++ (version ++ f))
+whole_regrouped a b c d e f x y entries harts image mem version = simp append_assoc
+
 whole_text : (entries harts image mem version : List ℕ)
     → whole_of (entries ++ 93 ∷ []) (harts ++ 93 ∷ []) image (mem ++ 125 ∷ []) version
     ≡ ((codes "{\"entries\":[" ++ entries) ++ ((codes "],\"harts\":[" ++ harts)
     ++ ((codes "],\"image\":" ++ image ++ codes ",\"mem\":{") ++ mem))) ++ (codes "},\"report\":" ++ (version ++ codes "}"))
-whole_text entries harts image mem version = simp append_assoc
+whole_text entries harts image mem version =
+    whole_regrouped (codes "{\"entries\":[") (codes ",\"harts\":[") (codes ",\"image\":") (codes ",\"mem\":{") (codes ",\"report\":")
+    (codes "}") (93 ∷ []) (125 ∷ []) entries harts image mem version
 
 -- a report is what is shown and its end
 pub json_report_text : (image : ImageParts) (events : List Event) (state : MachineState) → length state.memory ≤ 65536

@@ -126,7 +126,7 @@ fn write_granule(
     }
     write_comma(out, later)?;
     let mut digits = Buffer::new();
-    out.push('"')?;
+    out.push_str("\"")?;
     out.push_str(digits.format(granule_address(number)))?;
     out.push_str("\":")?;
     write_value(alloc, out, value_json(alloc, value)?)?;
@@ -218,7 +218,10 @@ fn write_end(out: &mut String, entries: &[Event]) -> Result<(), NoMemory>
         ≡ string_bytes out.old ++ last_part entries.now) }
 {
     let version = version_of(entries);
-    write!(out, "}},\"report\":{version}}}")?;
+    let mut number = Buffer::new();
+    out.push_str("},\"report\":")?;
+    out.push_str(number.format(version))?;
+    out.push_str("}")?;
     Ok(())
 }
 
