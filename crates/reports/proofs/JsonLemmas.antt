@@ -162,3 +162,5 @@ report_no_float image events state =
     (put_granules 0 state.memory no_members) (version_of events) (items_no_float entry_data entry_no_float events)
     (items_no_float hart_data hart_no_float state.harts) (image_no_float image)
     (granules_no_float 0 state.memory no_members refl)
+
+pub ruleset floatless = (entry_no_float, hart_no_float, value_no_float, image_no_float)

@@ -1,5 +1,6 @@
 -- The text of the JSON report in pieces: what stands for each event, hart and granule.
-use Rattle.std.specs.Prelude.{ℕ, ◌+◌, ◌*◌, nat_lt, Bool, false, ◌||◌, if◌then◌else◌, List, [], ◌∷◌, ◌++◌, codes, decimal}
+use Rattle.std.specs.Prelude.{ℕ, ◌+◌, ◌*◌, nat_lt, Bool, false, ◌||◌, if◌then◌else◌}
+use Rattle.std.specs.Prelude.{List, [], ◌∷◌, ◌++◌, codes, decimal}
 use Rattle.serde_json.specs.Data.{string}
 use Rattle.serde_json.specs.Written.{comma_if, compact_text}
 use Rattle.cheri_model.specs.declared.memory.TheConstants.{RAM_BASE, GRANULE_BYTES}
@@ -23,8 +24,9 @@ hart_item number hart = comma_if (nat_lt 0 number) ++ compact_text (hart_data ha
 -- a granule under its address, after a comma where one stands before; an untagged 0 has no text
 unfoldable pub granule_member : Bool → ℕ → CapValue → List ℕ
 granule_member later number v =
-    if is_listed v then comma_if later
-    ++ (compact_text (string (hex_text 16 (RAM_BASE + GRANULE_BYTES * number))) ++ 58 ∷ compact_text (value_data v))
+    let name = hex_text 16 (RAM_BASE + GRANULE_BYTES * number) in
+    if is_listed v
+    then comma_if later ++ (compact_text (string name) ++ 58 ∷ compact_text (value_data v))
     else []
 
 -- granules, of which the first has this number
@@ -44,7 +46,8 @@ harts_part harts = codes "],\"harts\":[" ++ numbered hart_item 0 harts
 -- the image, and the granules
 unfoldable pub memory_part : ImageParts → List CapValue → List ℕ
 memory_part image memory =
-    (codes "],\"image\":" ++ compact_text (image_data image) ++ codes ",\"mem\":{") ++ granule_members false 0 memory
+    (codes "],\"image\":" ++ compact_text (image_data image) ++ codes ",\"mem\":{")
+    ++ granule_members false 0 memory
 
 -- the end
 unfoldable pub last_part : List Event → List ℕ

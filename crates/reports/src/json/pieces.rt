@@ -54,7 +54,7 @@ fn write_done(out: &mut String, hart: u8, pc: u64) -> Result<(), NoMemory>
 }
 
 /// Appends a step.
-#[tactic(auto, using(crate::proofs::JsonLemmas::entry_no_float), unfolding(crate::specs::Json::entry_data))]
+#[tactic(auto, using(crate::proofs::JsonLemmas::floatless), unfolding(crate::proofs::Open::event))]
 fn write_step(alloc: Global, out: &mut String, entry: &Entry) -> Result<(), NoMemory>
     ensures { OnOk result (string_bytes out.new
         ≡ string_bytes out.old ++ compact_text (entry_data (Event.Step entry.now))) }
@@ -66,7 +66,7 @@ fn write_step(alloc: Global, out: &mut String, entry: &Entry) -> Result<(), NoMe
 }
 
 /// Appends an event.
-#[tactic(auto, using(crate::proofs::JsonLemmas::entry_no_float))]
+#[tactic(auto, using(crate::proofs::JsonLemmas::floatless))]
 fn write_event(alloc: Global, out: &mut String, event: &Event) -> Result<(), NoMemory>
     ensures { OnOk result (string_bytes out.new
         ≡ string_bytes out.old ++ compact_text (entry_data event.now)) }
@@ -98,7 +98,7 @@ fn write_entry(alloc: Global, out: &mut String, place: usize, event: &Event) -> 
 }
 
 /// Appends a hart.
-#[tactic(auto, using(crate::proofs::JsonLemmas::hart_no_float), unfolding(crate::specs::JsonText::hart_item))]
+#[tactic(auto, using(crate::proofs::JsonLemmas::floatless), unfolding(crate::proofs::Open::item))]
 fn write_hart(alloc: Global, out: &mut String, number: usize, hart: &Hart) -> Result<(), NoMemory>
     ensures { OnOk result (string_bytes out.new
         ≡ string_bytes out.old ++ hart_item number hart.now) }
@@ -109,7 +109,7 @@ fn write_hart(alloc: Global, out: &mut String, number: usize, hart: &Hart) -> Re
 
 /// Appends a granule under its address, unless it is an untagged 0. Answers whether one stands
 /// there now.
-#[tactic(auto, using(crate::proofs::JsonLemmas::value_no_float), unfolding(crate::specs::JsonText::granule_member))]
+#[tactic(auto, using(crate::proofs::JsonLemmas::floatless), unfolding(crate::proofs::Open::granule))]
 fn write_granule(
     alloc: Global,
     out: &mut String,
@@ -202,7 +202,7 @@ fn put_granules<S: Sink>(
 }
 
 /// Appends what stands between the harts and the granules.
-#[tactic(auto, using(crate::proofs::JsonLemmas::image_no_float))]
+#[tactic(auto, using(crate::proofs::JsonLemmas::floatless))]
 fn write_image(alloc: Global, out: &mut String, image: &Image) -> Result<(), NoMemory>
     ensures { OnOk result (string_bytes out.new ≡ string_bytes out.old
         ++ (codes "],\"image\":" ++ compact_text (image_data image.now) ++ codes ",\"mem\":{")) }
