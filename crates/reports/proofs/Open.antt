@@ -20,6 +20,6 @@ unfoldable pub item : ℕ → HartState → List ℕ
 unfolding hart_item
 item number state = hart_item number state
 
-unfoldable pub granule : Bool → ℕ → CapValue → List ℕ
+unfoldable pub mem : Bool → ℕ → CapValue → List ℕ
 unfolding granule_member
-granule later number v = granule_member later number v
+mem later number v = granule_member later number v

@@ -109,7 +109,7 @@ fn write_hart(alloc: Global, out: &mut String, number: usize, hart: &Hart) -> Re
 
 /// Appends a granule under its address, unless it is an untagged 0. Answers whether one stands
 /// there now.
-#[tactic(auto, using(crate::proofs::JsonLemmas::floatless), unfolding(crate::proofs::Open::granule))]
+#[tactic(auto, using(crate::proofs::JsonLemmas::floatless), unfolding(crate::proofs::Open::mem))]
 fn write_granule(
     alloc: Global,
     out: &mut String,
