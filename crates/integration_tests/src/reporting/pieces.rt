@@ -29,7 +29,10 @@ fn fail_at_each_put(rt: &impl Abort, alloc: Global, most: usize) -> Result<(), F
         }
         assert!(rt; result == Err(ReportFault::Write));
         assert!(rt; report.starts_with(sink.bytes()));
-        assert_eq!(rt; sink.bytes().len(), most.saturating_mul(fail_at as usize - 1));
+        assert_eq!(rt;
+            sink.bytes().len(),
+            most.saturating_mul(fail_at as usize - 1)
+        );
     }
     assert!(rt; false, "the report is never written");
     Ok(())
