@@ -4,5 +4,7 @@
 
 mod scans;
 mod tables;
+#[cfg(test)]
+mod tests;
 
 pub use scans::{Loops, judge_loops};

@@ -5,6 +5,7 @@ ghost use Rattle.std.specs.Prelude.{
   ℕ,
   ◌+◌,
   ◌*◌,
+  ◌^◌,
   ◌<◌,
   ◌≤◌,
   length,
@@ -17,7 +18,7 @@ ghost use Rattle.std.specs.Prelude.{
 };
 ghost use Rattle.graph_search.specs.Trees.{state_at};
 ghost use Rattle.graph_loops.specs.Loops.{IsKnown};
-ghost use Rattle.graph_loops.specs.Scans.{IsScanning};
+ghost use Rattle.graph_loops.specs.Scans.{IsScanning, ScansTo};
 
 use crate::tables::{all_starved, is_still, place};
 use graph_search::{Edge, Graph, Reached};
@@ -124,11 +125,9 @@ fn scan<G: Graph>(
     requires before { IsScanning (G.next graph.old) (G.meaning graph.old) actors found.now.nodes
         numbers.now tables.old.moves.items tables.old.runs.items 0 0 }
     ensures same_graph { G.next graph.new ≡ G.next graph.old }
-    ensures states { IfOk result (λ _. state_at (G.meaning graph.new) found.now.nodes
-        ≡ state_at (G.meaning graph.old) found.now.nodes) }
-    ensures after { IfOk result (λ falls. falls ≡ true → IsScanning (G.next graph.new) (G.meaning graph.new)
-        actors found.now.nodes numbers.now tables.new.moves.items tables.new.runs.items
-        (length numbers.now) 0) }
+    ensures after { IfOk result (ScansTo (G.next graph.new) (G.meaning graph.old) (G.meaning graph.new) actors
+        found.now.nodes numbers.now (length numbers.now) 0
+        tables.new.moves.items tables.new.runs.items) }
 {
     for node in 0..found.len() {
         if !scan_node(graph, found, numbers, actors, tables, row, node)? {
@@ -156,10 +155,8 @@ fn scan_node<G: Graph>(
     ensures same_graph { G.next graph.new ≡ G.next graph.old }
     ensures same_labels { G.label_count graph.new ≡ G.label_count graph.old }
     ensures same_width { G.width graph.new ≡ G.width graph.old }
-    ensures states { IfOk result (λ _. state_at (G.meaning graph.new) found.now.nodes
-        ≡ state_at (G.meaning graph.old) found.now.nodes) }
-    ensures after { IfOk result (λ falls. falls ≡ true → IsScanning (G.next graph.new) (G.meaning graph.new)
-        actors found.now.nodes numbers.now tables.new.moves.items tables.new.runs.items (node + 1) 0) }
+    ensures after { IfOk result (ScansTo (G.next graph.new) (G.meaning graph.old) (G.meaning graph.new) actors
+        found.now.nodes numbers.now (node + 1) 0 tables.new.moves.items tables.new.runs.items) }
 {
     for label in 0..graph.label_count() {
         let edge = Edge { from: node, label };
@@ -188,11 +185,9 @@ fn scan_edge<G: Graph>(
     ensures same_graph { G.next graph.new ≡ G.next graph.old }
     ensures same_labels { G.label_count graph.new ≡ G.label_count graph.old }
     ensures same_width { G.width graph.new ≡ G.width graph.old }
-    ensures states { IfOk result (λ _. state_at (G.meaning graph.new) found.now.nodes
-        ≡ state_at (G.meaning graph.old) found.now.nodes) }
-    ensures after { IfOk result (λ falls. falls ≡ true → IsScanning (G.next graph.new) (G.meaning graph.new)
-        actors found.now.nodes numbers.now tables.new.moves.items tables.new.runs.items
-        edge.from (edge.label + 1)) }
+    ensures after { IfOk result (ScansTo (G.next graph.new) (G.meaning graph.old) (G.meaning graph.new) actors
+        found.now.nodes numbers.now edge.from (edge.label + 1)
+        tables.new.moves.items tables.new.runs.items) }
 {
     let Some(node) = found.node(edge.from) else {
         unreachable!()
@@ -211,7 +206,10 @@ fn scan_edge<G: Graph>(
     if next > number {
         return Ok(false);
     }
-    if next == number && edge.label < actors {
+    if next < number {
+        return Ok(true);
+    }
+    if edge.label < actors {
         tables.moves[place(number, numbers.len(), actors, edge.label)] = true;
     }
     Ok(true)

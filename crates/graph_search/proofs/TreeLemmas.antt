@@ -28,7 +28,7 @@ slice_get-last [] x = refl
 slice_get-last (y ∷ ys) x = slice_get-last ys x
 
 -- the row that means a node's state
-row_of : {S : Type 0} (meaning : List ℕ → Option S) (nodes : List (List ℕ)) (i : ℕ) (s : S) →
+pub row_of : {S : Type 0} (meaning : List ℕ → Option S) (nodes : List (List ℕ)) (i : ℕ) (s : S) →
     state_at meaning nodes i ≡ Some s → (row : List ℕ) × (slice_get nodes i ≡ Some row) × (meaning row ≡ Some s)
 row_of {S} meaning nodes i s is =
     option_and_then_some meaning (slice_get nodes i) s is (λ row here means. (row, here, means))

@@ -1,0 +1,15 @@
+use Rattle.std.proofs.Common.{◌≡◌, ◌≤◌, length}
+use Rattle.graph_search.specs.Trees.{state_at}
+use Rattle.graph_loops.specs.Scans.{IsScanning}
+use Rattle.graph_loops.proofs.scans.scan.Given as goal
+
+abbrev pub invariant-loop-node : goal.invariant-loop-node
+invariant-loop-node g l = record {
+  same_graph : g.G.Graph.next l.graph ≡ g.G.Graph.next l.fn.graph;
+  room : length l.row ≡ g.G.Graph.width l.graph;
+  labelled : l.actors ≤ g.G.Graph.label_count l.graph;
+  ending : l.node-end ≡ length l.found.nodes;
+  states : state_at (g.G.Graph.meaning l.graph) l.found.nodes ≡ state_at (g.G.Graph.meaning l.fn.graph) l.found.nodes;
+  before : IsScanning (g.G.Graph.next l.graph) (g.G.Graph.meaning l.graph) l.actors l.found.nodes l.numbers
+      l.tables.moves.items l.tables.runs.items l.node 0;
+}
