@@ -13,7 +13,7 @@ pub returns-in_err-refused-in-Json-clause-failed : goal.returns-in_err-refused-i
 returns-in_err-refused-in-Json-clause-failed g c =
     let p = err_from_is_err_and c.from_residual-in_err-refused-in-Json.result c.from_residual-in_err-refused-in-Json.ensures.1 in
     rw (p.1, p.2, c.in-Json.is)
-    (json_unprinted c.args.listing.now c.args.order.now c.in_err-refused-in-Json.field-0 _ _
+    (json_unprinted c.args.listing.now c.args.order.now c.in_err-refused-in-Json.field-0.0 _ _
     c.in_err-refused-in-Json.ensures.refused c.in_err-refused-in-Json.ensures.begun c.in_err-refused-in-Json.ensures.untouched)
 
 pub returns-in_err-flush-in-Json-clause-failed : goal.returns-in_err-flush-in-Json-clause-failed
