@@ -11,7 +11,7 @@ use cheri_model::{Image, Op, Outcome, Status};
 use listings::read_listing;
 use machine::{BootFault, Core, SimFault, run_order, simulate};
 use orders::{OrderFaultKind, read_order};
-use reports::{MemSink, ReportFault, report_json, write_report};
+use reports::{MemSink, ReportFault, report_json, write_json, write_report};
 use std::alloc::Global;
 use std::process::Abort;
 use std::rt::Env;
@@ -157,6 +157,24 @@ fn refused_report_json(rt: HostRuntime) -> Result<(), Fail> {
         }
     };
     assert_eq!(rt; text.as_str(), FIRST_JSON);
+    Ok(())
+}
+
+#[test]
+fn refused_write_json(rt: HostRuntime) -> Result<(), Fail> {
+    let core = first_core(&rt, rt.alloc());
+    let mut sink = MemSink::new(rt.alloc(), 0, 7);
+    match write_json(rt.alloc(), core.view(), &mut sink) {
+        Ok(()) => assert!(rt; sink.bytes() == FIRST_JSON.as_bytes()),
+        // a put that finds no memory fails
+        Err(ReportFault::Write | ReportFault::NoMemory) => {
+            assert_may_refuse(&rt);
+            assert!(rt; FIRST_JSON.as_bytes().starts_with(sink.bytes()));
+            let mut again = MemSink::new(rt.alloc(), 0, 7);
+            assert!(rt; write_json(rt.alloc(), core.view(), &mut again) == Ok(()));
+            assert!(rt; again.bytes() == FIRST_JSON.as_bytes());
+        }
+    }
     Ok(())
 }
 

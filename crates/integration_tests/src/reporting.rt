@@ -1,5 +1,6 @@
 //! Reports on sinks and writers that take little and fail, and each word that a report has.
 
+mod pieces;
 mod sweeps;
 
 use crate::samples::FIRST_REPORT;

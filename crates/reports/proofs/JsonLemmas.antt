@@ -120,7 +120,7 @@ outcome_no_float hart pc outcome.Done = refl
 outcome_no_float hart pc outcome.Halt = refl
 outcome_no_float hart pc (outcome.Trap trap) = refl
 
-entry_no_float : (e : Event) → has_float (entry_data e) ≡ false
+pub entry_no_float : (e : Event) → has_float (entry_data e) ≡ false
 unfolding entry_data
 entry_no_float (event.Step entry) = outcome_no_float entry.hart (hex_text 16 entry.pc) entry.outcome
 entry_no_float (event.Sweep cleared lo hi) = refl
@@ -131,7 +131,7 @@ status_no_float pcc regs status.Running first second = rw (first, second)
 status_no_float pcc regs status.Halted first second = rw (first, second)
 status_no_float pcc regs (status.Trapped trap) first second = rw (first, second)
 
-hart_no_float : (hart : HartState) → has_float (hart_data hart) ≡ false
+pub hart_no_float : (hart : HartState) → has_float (hart_data hart) ≡ false
 unfolding hart_data
 hart_no_float hart =
     status_no_float (value_data hart.pcc) (object (put_registers hart 1 31 no_members)) hart.status (value_no_float hart.pcc)
@@ -142,7 +142,7 @@ items_no_float : {X : Type 0} (data_of : X → Data) (each : (x : X) → has_flo
 items_no_float data_of each [] = refl
 items_no_float data_of each (x ∷ rest) = rw (each x) (items_no_float data_of each rest)
 
-image_no_float : (image : ImageParts) → has_float (image_data image) ≡ false
+pub image_no_float : (image : ImageParts) → has_float (image_data image) ≡ false
 unfolding image_data
 image_no_float image = refl
 
@@ -162,3 +162,5 @@ report_no_float image events state =
     (put_granules 0 state.memory no_members) (version_of events) (items_no_float entry_data entry_no_float events)
     (items_no_float hart_data hart_no_float state.harts) (image_no_float image)
     (granules_no_float 0 state.memory no_members refl)
+
+pub ruleset floatless = (entry_no_float, hart_no_float, value_no_float, image_no_float)

@@ -4,3 +4,5 @@ pub mod ReportLines
 pub mod SinkLemmas
 pub mod ReportParts
 pub mod JsonLemmas
+pub mod JsonTexts
+pub mod JsonParts

@@ -4,3 +4,4 @@ pub mod Failures
 pub mod Sinks
 pub mod ReportFaults
 pub mod Json
+pub mod JsonText

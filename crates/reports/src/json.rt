@@ -11,6 +11,8 @@ ghost use Rattle.serde_json.specs.Data.{array, object, no_members};
 ghost use Rattle.serde_json.specs.View.{items_of, members_view, view as data_of};
 ghost use Rattle.serde_json.specs.Written.{compact_text};
 
+pub mod pieces;
+
 use crate::report::text::{Hex, HexWord, TypeText, Word, granule_address};
 use crate::report::{is_listed, version_of};
 use cap_ops::Cap;

@@ -6,6 +6,7 @@ pub mod laws;
 mod report;
 mod sink;
 
+pub use json::pieces::write_json;
 pub use json::report_json;
 pub use report::fault::ReportFault;
 pub use report::text::{Hex, HexWord, MOST_DIGITS, TypeText};

@@ -164,14 +164,15 @@ fn write_granule(out: &mut String, number: usize, value: Cap) -> Result<(), NoMe
 }
 
 /// The most bytes of one put.
-const PIECE: usize = 65_536;
+pub(crate) const PIECE: usize = 65_536;
 
-/// More bytes than the lines of one hart have, which is the longest part that is written at once.
-const PART: usize = 4_096;
+/// More bytes than one hart has in a report, as lines or as JSON, which is the longest part that is
+/// written at once.
+const PART: usize = 8_192;
 
 /// Puts what is kept, where another part might not fit after it: then what is kept leaves room for
 /// one.
-fn make_room<S: Sink>(out: &mut String, sink: &mut S) -> Result<(), ReportFault>
+pub(crate) fn make_room<S: Sink>(out: &mut String, sink: &mut S) -> Result<(), ReportFault>
     ensures room { OnOk result (length (string_bytes out.new) + PART ≤ PIECE) }
     ensures whole { OnOk result (TakesAllBut (S.taken sink.old) (S.taken sink.new)
         (string_bytes out.new) (string_bytes out.old)) }

@@ -3,7 +3,7 @@
 use super::{Shown, first_data, first_pcc, hart_at, image_of, sealed, step};
 use cap_ops::Cap;
 use cheri_model::{Event, Outcome, Reg, Status, Trap};
-use reports::{MemSink, Sink, SinkFailed, report_json, write_report};
+use reports::{MemSink, Sink, SinkFailed, report_json, write_json, write_report};
 use std::alloc::Global;
 use std::process::Abort;
 use std::test::Fail;
@@ -129,6 +129,9 @@ fn swept_run_is_reported(rt: HostRuntime) -> Result<(), Fail> {
     assert!(rt; write_report(rt.alloc(), shown.view(), &mut sink) == Ok(()));
     assert!(rt; sink.bytes() == SWEPT);
     assert!(rt; report_json(rt.alloc(), shown.view())?.as_str() == SWEPT_JSON);
+    let mut pieces = MemSink::new(rt.alloc(), 0, 4096);
+    assert!(rt; write_json(rt.alloc(), shown.view(), &mut pieces) == Ok(()));
+    assert!(rt; pieces.bytes() == SWEPT_JSON.as_bytes());
     Ok(())
 }
 
