@@ -1,9 +1,10 @@
 -- What a simulation answers, as what was printed of a run.
-use Rattle.std.proofs.Common.{◌≡◌, ◌≢◌, subst, sym, ℕ, List, Option, refl, inl, inr, false}
+use Rattle.std.proofs.Common.{◌≡◌, subst, sym, ap, ℕ, List, Option, refl, inl, inr, true, false, [], ◌∷◌}
 use Rattle.std.specs.Prelude.{⊤}
 use Rattle.std.specs.Io.KnownBytes.{Appends, Keeps}
-use Rattle.std.proofs.KnownBytes.{Appends-kept}
-use Rattle.reports.specs.Report.{report}
+use Rattle.std.proofs.KnownBytes.{Appends-kept, Appends-trans}
+use Rattle.reports.specs.Report.{line, report}
+use Rattle.reports.proofs.SinkLemmas.{begins_on, stops_on, puts_all}
 use Rattle.reports.specs.Sinks.{TakesBeginning}
 use Rattle.reports.specs.declared.report.fault.ReportFault.{ReportFault}
 use Rattle.reports.specs.declared.report.fault.ReportFault.TheVariants as written
@@ -40,10 +41,10 @@ text_printed listing order end old now new run kept = (
   Appends-kept old now new (report run.core.image run.core.trace run.core.state) run.shown kept,
 )
 
-pub json_printed : (listing order text : List ℕ) (end : Option (ℕ × StepFault)) (old new : Option (List ℕ)) →
-    IsJsonRun listing order text end → Appends old new text →
+pub json_printed : (listing order : List ℕ) (end : Option (ℕ × StepFault)) (old now new : Option (List ℕ)) →
+    Prints (λ text. IsJsonRun listing order text end) old now → Keeps now new →
     Prints (λ text. IsShown forms.Json listing order text end) old new
-json_printed listing order text end old new run grown = (text, run, grown)
+json_printed listing order end old now new (text, run, grown) kept = (text, run, Appends-kept old now new text grown kept)
 
 -- a beginning of a report
 text_begins : (listing order : List ℕ) (end : Option (ℕ × StepFault)) (old new : Option (List ℕ)) →
@@ -83,11 +84,12 @@ text_unflushed listing order end old now new fault run kept is =
     } in
     subst (λ (f : Fault). IsUnprinted forms.Text listing order old new f) (sym is) (text_begins listing order end old new begun)
 
-pub json_unwritten : (listing order text : List ℕ) (end : Option (ℕ × StepFault)) (old new : Option (List ℕ)) (fault : Fault) →
-    IsJsonRun listing order text end → TakesBeginning old new text → fault ≡ faults.CannotWrite →
+pub json_unflushed : (listing order : List ℕ) (end : Option (ℕ × StepFault)) (old now new : Option (List ℕ)) (fault : Fault) →
+    Prints (λ text. IsJsonRun listing order text end) old now → Keeps now new → fault ≡ faults.CannotWrite →
     IsUnprinted forms.Json listing order old new fault
-json_unwritten listing order text end old new fault run begun is =
-    subst (λ (f : Fault). IsUnprinted forms.Json listing order old new f) (sym is) (end, (text, run, begun))
+json_unflushed listing order end old now new fault (text, run, grown) kept is =
+    subst (λ (f : Fault). IsUnprinted forms.Json listing order old new f) (sym is)
+    (end, (text, run, begins_whole old now new text grown kept))
 
 -- a refusal, which printed nothing unless it was of the report
 unprinted : (form : ReportForm) (listing order : List ℕ) (limit : ℕ) (IsSo : List ℕ → Type 0) (refused : SimFault)
@@ -103,10 +105,10 @@ unprinted form listing order limit IsSo (sim.Boot fault) old new is same reporte
 unprinted form listing order limit IsSo (sim.Report fault) old new is same reported = reported fault refl
 
 -- a report of which a beginning was written
-text_stops : (listing order : List ℕ) (fault : ReportFault) (old new : Option (List ℕ)) →
-    BeginsRun forms.Text listing order old new → IsUnprinted forms.Text listing order old new (written_fault fault)
-text_stops listing order written.Write old new begun = begun
-text_stops listing order written.NoMemory old new begun = inr begun
+stops : (form : ReportForm) (listing order : List ℕ) (fault : ReportFault) (old new : Option (List ℕ)) →
+    BeginsRun form listing order old new → IsUnprinted form listing order old new (written_fault fault)
+stops form listing order written.Write old new begun = begun
+stops form listing order written.NoMemory old new begun = inr begun
 
 text_begun : (listing order : List ℕ) (refused : SimFault) (fault : ReportFault) (old new : Option (List ℕ)) →
     IsRefusedRun listing order GREATEST_TRACE_LIMIT (TakesBeginning old new) refused →
@@ -120,22 +122,29 @@ pub text_unprinted : (listing order : List ℕ) (refused : SimFault) (old new : 
     (is_reported refused ≡ false → new ≡ old) → IsUnprinted forms.Text listing order old new (sim_fault refused)
 text_unprinted listing order refused old new is same =
     unprinted forms.Text listing order GREATEST_TRACE_LIMIT (TakesBeginning old new) refused old new is same
-    (λ fault reported. text_stops listing order fault old new (text_begun listing order refused fault old new is reported))
+    (λ fault reported. stops forms.Text listing order fault old new (text_begun listing order refused fault old new is reported))
 
--- a JSON report that was not made
-json_stops : (listing order : List ℕ) (refused : SimFault) (fault : ReportFault) (old : Option (List ℕ)) →
-    refused ≢ sim.Report written.Write → refused ≡ sim.Report fault →
-    IsUnprinted forms.Json listing order old old (written_fault fault)
-json_stops listing order refused written.Write old made reported = absurd (made reported)
-json_stops listing order refused written.NoMemory old made reported = inl refl
-
-pub json_unprinted : (listing order : List ℕ) (refused : SimFault) (old : Option (List ℕ)) →
-    IsRefusedRun listing order GREATEST_TRACE_LIMIT (λ text. ⊤) refused → refused ≢ sim.Report written.Write →
-    IsUnprinted forms.Json listing order old old (sim_fault refused)
-json_unprinted listing order refused old is made =
-    unprinted forms.Json listing order GREATEST_TRACE_LIMIT (λ text. ⊤) refused old old is (λ none. refl)
-    (λ fault reported. json_stops listing order refused fault old made reported)
+pub json_unprinted : (listing order : List ℕ) (refused : SimFault) (old new : Option (List ℕ)) →
+    IsRefusedRun listing order GREATEST_TRACE_LIMIT (λ text. ⊤) refused →
+    (is_reported refused ≡ true → BeginsRun forms.Json listing order old new) → (is_reported refused ≡ false → new ≡ old) →
+    IsUnprinted forms.Json listing order old new (sim_fault refused)
+json_unprinted listing order refused old new is begun same =
+    unprinted forms.Json listing order GREATEST_TRACE_LIMIT (λ text. ⊤) refused old new is same
+    (λ fault reported. stops forms.Json listing order fault old new (begun (ap is_reported reported)))
 
 pub ruleset text_runs = (text_printed, text_unflushed, text_unprinted)
 
-pub ruleset json_runs = (json_printed, json_unwritten, json_unprinted)
+pub ruleset json_runs = (json_printed, json_unflushed, json_unprinted)
+
+-- a report, and then the end of its line
+pub line_printed : (old now new : Option (List ℕ)) (text : List ℕ) → Appends old now text → Appends now new (10 ∷ []) → Appends old new (line text)
+line_printed old now new text grown more = Appends-trans old now new text (10 ∷ []) grown more
+
+pub line_begins : (old new : Option (List ℕ)) (text : List ℕ) → TakesBeginning old new text → TakesBeginning old new (line text)
+line_begins old new text begun = begins_on old new text (10 ∷ []) begun
+
+pub line_stops : (old now new : Option (List ℕ)) (text : List ℕ) → Appends old now text → TakesBeginning now new (10 ∷ []) →
+    TakesBeginning old new (line text)
+line_stops old now new text grown stop = stops_on old now new [] text (10 ∷ []) (puts_all old now [] text text refl refl grown) stop
+
+pub ruleset json_lines = (line_printed, line_begins, line_stops)

@@ -1,6 +1,6 @@
 //! The run of two texts, printed in the form that was asked for.
 
-ghost use Rattle.std.specs.Prelude.{◌≡◌, ◌≢◌, IfOk, IfErr, false, ⊤, string_bytes};
+ghost use Rattle.std.specs.Prelude.{◌≡◌, IfOk, IfErr, OnOk, false, true, ⊤};
 ghost use Rattle.std.specs.Io.KnownBytes.{Appends};
 ghost use Rattle.hart_step.specs.View.{state_of};
 ghost use Rattle.serde_json.specs.Written.{compact_text};
@@ -9,47 +9,72 @@ ghost use Rattle.reports.specs.Report.{line};
 ghost use Rattle.reports.specs.Sinks.{TakesBeginning};
 ghost use Rattle.machine.specs.Simulation.{IsRefusedRun, IsShownRun, is_reported};
 ghost use Rattle.cheri_sim.specs.Printing.{Prints};
-ghost use Rattle.cheri_sim.specs.Runs.{IsJsonRun, IsShown, IsUnprinted};
+ghost use Rattle.cheri_sim.specs.Runs.{BeginsRun, IsJsonRun, IsShown, IsUnprinted};
 
 use crate::faults::Fault;
-use crate::printing::{flush, print};
+use crate::printing::flush;
 use command_line::ReportForm;
 use hart_step::View;
 use listings::read_listing;
 use machine::{GREATEST_TRACE_LIMIT, SimFault, StepFault, run_judged, simulate};
 use orders::judge_order;
-use reports::{ReportFault, ToWrite, report_json};
+use reports::{ReportFault, Sink, ToWrite, put_whole, write_json};
 use std::alloc::Global;
 use std::io::Write;
 
-/// The JSON report of what a view shows, in one line.
-fn json_line(alloc: Global, view: View<'_>) -> Result<String, ReportFault>
-    ensures line { IfOk result (λ text. string_bytes text ≡ line (compact_text
+/// Writes the JSON report of what a view shows, in one line.
+#[tactic(auto, using(crate::proofs::RunLemmas::json_lines))]
+fn put_json_line<S: Sink>(alloc: Global, view: View<'_>, sink: &mut S) -> Result<(), ReportFault>
+    ensures whole { OnOk result (Appends (S.taken sink.old) (S.taken sink.new) (line (compact_text
+        (json_report view.entry.image.now view.entry.entries.now (state_of view.entry))))) }
+    ensures beginning { TakesBeginning (S.taken sink.old) (S.taken sink.new) (line (compact_text
         (json_report view.entry.image.now view.entry.entries.now (state_of view.entry)))) }
-    ensures made { IfErr result (λ fault. fault ≡ ReportFault.NoMemory) }
+    ensures place { S.place sink.new ≡ S.place sink.old }
 {
-    let mut report = report_json(alloc, view)?;
-    report.push('\n')?;
-    Ok(report)
+    write_json(alloc, view, sink)?;
+    put_whole(sink, b"\n")?;
+    Ok(())
 }
 
-/// As `simulate`, with a JSON report in one line, which is handed out.
-fn simulate_json(
+/// The same to a writer.
+fn write_json_line<O: Write>(alloc: Global, view: View<'_>, out: &mut O) -> Result<(), ReportFault>
+    ensures whole { OnOk result (Appends (O.contents out.old) (O.contents out.new)
+        (line (compact_text
+        (json_report view.entry.image.now view.entry.entries.now (state_of view.entry))))) }
+    ensures beginning { TakesBeginning (O.contents out.old) (O.contents out.new) (line (compact_text
+        (json_report view.entry.image.now view.entry.entries.now (state_of view.entry)))) }
+{
+    let mut sink = ToWrite::new(out);
+    let written = put_json_line(alloc, view, &mut sink);
+    let writer = sink.into_writer();
+    // A last look at the writer tells the caller what it holds now.
+    let _ = &*writer;
+    written
+}
+
+/// As `simulate_to`, with a JSON report in one line.
+fn simulate_json_to<O: Write>(
     alloc: Global,
     listing: &[u8],
     order: &[u8],
-) -> Result<(String, Option<(usize, StepFault)>), SimFault>
-    ensures shown { IfOk result (λ ran.
-        IsJsonRun listing.now order.now (string_bytes ran.0) ran.1) }
+    out: &mut O,
+) -> Result<Option<(usize, StepFault)>, SimFault>
+    ensures shown { IfOk result (λ end.
+        Prints (λ text. IsJsonRun listing.now order.now text end)
+        (O.contents out.old) (O.contents out.new)) }
     ensures refused { IfErr result (λ fault.
         IsRefusedRun listing.now order.now GREATEST_TRACE_LIMIT (λ _. ⊤) fault) }
-    ensures made { IfErr result (λ fault. fault ≢ SimFault.Report ReportFault.Write) }
+    ensures begun { IfErr result (λ fault. is_reported fault ≡ true
+        → BeginsRun ReportForm.Json listing.now order.now (O.contents out.old)
+        (O.contents out.new)) }
+    ensures untouched { IfErr result (λ fault. is_reported fault ≡ false
+        → O.contents out.new ≡ O.contents out.old) }
 {
     let image = read_listing(alloc, listing)?;
     let operations = judge_order(order)?;
     let (core, refused) = run_judged(alloc, image, operations, GREATEST_TRACE_LIMIT)?;
-    let report = json_line(alloc, core.view())?;
-    Ok((report, refused))
+    write_json_line(alloc, core.view(), out)?;
+    Ok(refused)
 }
 
 /// `simulate` to a writer.
@@ -76,8 +101,8 @@ fn simulate_to<O: Write>(
     ran
 }
 
-/// Runs a listing in an order, and prints its report in this form: a text is written while it is
-/// made, JSON when it is whole. Answers the step that was refused, if one was.
+/// Runs a listing in an order, and prints its report in this form, which is written while it is
+/// made. Answers the step that was refused, if one was.
 #[tactic(auto, using(crate::proofs::RunLemmas::text_runs, crate::proofs::RunLemmas::json_runs))]
 pub fn print_run<O: Write>(
     alloc: Global,
@@ -99,8 +124,8 @@ pub fn print_run<O: Write>(
             Ok(refused)
         }
         ReportForm::Json => {
-            let (report, refused) = simulate_json(alloc, listing, order)?;
-            print(out, report.as_str())?;
+            let refused = simulate_json_to(alloc, listing, order, out)?;
+            flush(out)?;
             Ok(refused)
         }
     }
