@@ -13,7 +13,7 @@ use Rattle.cap_model.specs.results.Swept.{is_in_sweep, swept}
 use Rattle.cap_model.specs.results.Derivation.{IsWithin, IsDerived}
 use Rattle.cap_model.specs.results.CapInstructions.{CapInstruction, capability_result}
 use Rattle.cap_model.proofs.Results.Derivations.{result_derived}
-use Rattle.cheri_model.specs.steps.Hart.{following, link}
+use Rattle.cheri_model.specs.steps.Hart.{next_pcc, link}
 use Rattle.cheri_model.specs.steps.HartStep.{permitted}
 use Rattle.origins.specs.OriginLaw.{IsOf}
 
@@ -67,17 +67,17 @@ unfolding seal_entry
 IsOf-seal_entry (valid c) = where_tagged c _ _ _
 IsOf-seal_entry (raw word) = tt
 
-pub IsOf-following : (pcc : CapValue) → IsOf (following pcc) pcc
-unfolding following
-IsOf-following pcc = IsOf-with_address pcc _
+pub IsOf-next_pcc : (pcc : CapValue) → IsOf (next_pcc pcc) pcc
+unfolding next_pcc
+IsOf-next_pcc pcc = IsOf-with_address pcc _
 
 pub IsOf-link : (pcc : CapValue) → IsOf (link pcc) pcc
 unfolding link
-IsOf-link pcc = IsOf-through _ (following pcc) pcc (IsOf-seal_entry (following pcc)) (IsOf-following pcc)
+IsOf-link pcc = IsOf-through _ (next_pcc pcc) pcc (IsOf-seal_entry (next_pcc pcc)) (IsOf-next_pcc pcc)
 
 -- a jump's target, through a capability that it unseals
-pub IsOf-entered : (v : CapValue) (target : ℕ) → IsOf (with_address (unsealed v) target) v
-IsOf-entered v target =
+pub IsOf-jumped_to : (v : CapValue) (target : ℕ) → IsOf (with_address (unsealed v) target) v
+IsOf-jumped_to v target =
     IsOf-through _ (unsealed v) v (IsOf-with_address (unsealed v) target) (IsOf-unsealed v)
 
 kept_or_cleared : (b : Bool) (v : CapValue) → IsOf (if b then v else clear_tag v) v

@@ -13,9 +13,9 @@ use Rattle.cap_model.specs.results.Seals.{unsealed}
 use Rattle.cap_model.specs.results.CapInstructions.{CapInstruction, capability_result}
 use Rattle.cheri_model.specs.declared.access.Access.TheVariants as access
 use Rattle.cheri_model.specs.steps.Memory.{bytes_of, granule_number, granule_at, load_capability, store_capability, store_data}
-use Rattle.cheri_model.specs.steps.Hart.{HartState, null, register, word_of_integer, put, following, next, link}
+use Rattle.cheri_model.specs.steps.Hart.{HartState, null, register, word_of_integer, put, next_pcc, next, link}
 use Rattle.cheri_model.specs.steps.Actions.{Action, Put, Load, Store, LoadCap, StoreCap, Swap, Branch, Jump, JumpThrough, Invoke, Halt, action}
-use Rattle.cheri_model.specs.steps.HartStep.{Stepped, trapped, unless_trapped, access_check, permitted, entered, done, invoked_data, execute, hart_step, instruction_at}
+use Rattle.cheri_model.specs.steps.HartStep.{Stepped, trapped, unless_trapped, access_check, permitted, jumped_to, done, invoked_data, execute, hart_step, instruction_at}
 use Rattle.cheri_model.specs.steps.Checks.{first_failing, fetch_table, target_table, jump_table, invoke_table}
 use Rattle.cheri_model.specs.runs.Authority.{EachOfHart}
 use Rattle.origins.specs.declared.place.Spot.{Spot}
@@ -24,7 +24,7 @@ use Rattle.origins.specs.declared.place.Flow.{Flow}
 use Rattle.origins.specs.Places.{value_at_spot}
 use Rattle.origins.specs.Flows.{flow, into, granule_of, flows_at, accessed_address, flows, flows_if, step_flows, source_of}
 use Rattle.origins.specs.OriginLaw.{IsOf}
-use Rattle.origins.proofs.Made.{IsOf-itself, IsOf-result, IsOf-following, IsOf-with_address, IsOf-link, IsOf-entered, IsOf-unsealed, IsOf-permitted}
+use Rattle.origins.proofs.Made.{IsOf-itself, IsOf-result, IsOf-next_pcc, IsOf-with_address, IsOf-link, IsOf-jumped_to, IsOf-unsealed, IsOf-permitted}
 use Rattle.origins.proofs.Writes.{at_each, at_set}
 
 -- a lawful hart's register
@@ -110,7 +110,7 @@ module _ (hart : HartState) (memory : List CapValue) where
   unfolding next register
   put_next cd v flows from = record {
     registers = from.registers;
-    pcc = rw (from.pcc, pcc-put cd v) (IsOf-following hart.pcc);
+    pcc = rw (from.pcc, pcc-put cd v) (IsOf-next_pcc hart.pcc);
     granules = λ k. rw (from.granules k) (IsOf-itself (granule_at memory k));
   }
 
@@ -201,7 +201,7 @@ module _ (hart : HartState) (memory : List CapValue) where
       let left = store_data memory addr (bytes_of width) number in
       rw is (unless_from (access_check hart c1 addr (access.Store width) None memory) [] (done (next hart) left) record {
         registers = λ n. IsOf-itself (register hart n);
-        pcc = IsOf-following hart.pcc;
+        pcc = IsOf-next_pcc hart.pcc;
         granules = λ k. store_integer addr (bytes_of width) number k;
       })
   execute_from (LoadCap cd c1 addr) list is =
@@ -212,7 +212,7 @@ module _ (hart : HartState) (memory : List CapValue) where
       rw (is, stored) (unless_from (access_check hart c1 addr access.StoreCap (Some (register hart c2)) memory)
       (flow (granule_of addr) (Register c2) ∷ []) (done (next hart) left) record {
         registers = λ n. IsOf-itself (register hart n);
-        pcc = IsOf-following hart.pcc;
+        pcc = IsOf-next_pcc hart.pcc;
         granules = λ k. store_from addr k (Register c2) [] (register hart c2) refl (IsOf-itself (register hart c2));
       })
   execute_from (Swap cd c1 addr v) list (c2, stored, is) =
@@ -226,13 +226,13 @@ module _ (hart : HartState) (memory : List CapValue) where
         granules = λ k. store_from addr k (Register c2) (into cd (granule_of addr)) (register hart c2)
             (into_granule cd (granule_of addr) k) (IsOf-itself (register hart c2));
       })
-  execute_from (Branch false target) list is = rw is (unmoved (next hart) (λ n. IsOf-itself (register hart n)) (IsOf-following hart.pcc))
+  execute_from (Branch false target) list is = rw is (unmoved (next hart) (λ n. IsOf-itself (register hart n)) (IsOf-next_pcc hart.pcc))
   execute_from (Branch true target) list is =
-      rw is (unless_from (first_failing (target_table hart.pcc target)) [] (done (entered hart.pcc target hart) memory)
-      (unmoved (entered hart.pcc target hart) (λ n. IsOf-itself (register hart n)) (IsOf-with_address hart.pcc target)))
+      rw is (unless_from (first_failing (target_table hart.pcc target)) [] (done (jumped_to hart.pcc target hart) memory)
+      (unmoved (jumped_to hart.pcc target hart) (λ n. IsOf-itself (register hart n)) (IsOf-with_address hart.pcc target)))
   execute_from (Jump cd target) list is =
       rw is (unless_from (first_failing (target_table hart.pcc target)) (into cd Pcc)
-      (done (entered hart.pcc target (put cd (link hart.pcc) hart)) memory) record {
+      (done (jumped_to hart.pcc target (put cd (link hart.pcc) hart)) memory) record {
         registers = λ n. put_from cd n Pcc (link hart.pcc) (IsOf-link hart.pcc);
         pcc = rw (into_pcc cd Pcc) (IsOf-with_address hart.pcc target);
         granules = λ k. rw (into_granule cd Pcc k) (IsOf-itself (granule_at memory k));
@@ -240,18 +240,18 @@ module _ (hart : HartState) (memory : List CapValue) where
   execute_from (JumpThrough cd c1 is_entry target) list is =
       let through = register hart c1 in
       rw is (unless_from (first_failing (jump_table through c1 is_entry target)) (flow Pcc (Register c1) ∷ into cd Pcc)
-      (done (entered (unsealed through) target (put cd (link hart.pcc) hart)) memory) record {
+      (done (jumped_to (unsealed through) target (put cd (link hart.pcc) hart)) memory) record {
         registers = λ n. put_from cd n Pcc (link hart.pcc) (IsOf-link hart.pcc);
-        pcc = IsOf-entered through target;
+        pcc = IsOf-jumped_to through target;
         granules = λ k. rw (into_granule cd Pcc k) (IsOf-itself (granule_at memory k));
       })
   execute_from (Invoke c1 c2 target) list is =
       let code = register hart c1 in
       let pair = register hart c2 in
       rw is (unless_from (first_failing (invoke_table code c1 pair c2 target)) (flow Pcc (Register c1) ∷ into invoked_data (Register c2))
-      (done (entered (unsealed code) target (put invoked_data (unsealed pair) hart)) memory) record {
+      (done (jumped_to (unsealed code) target (put invoked_data (unsealed pair) hart)) memory) record {
         registers = λ n. put_from invoked_data n (Register c2) (unsealed pair) (IsOf-unsealed pair);
-        pcc = IsOf-entered code target;
+        pcc = IsOf-jumped_to code target;
         granules = λ k. IsOf-itself (granule_at memory k);
       })
   execute_from Halt list is = unmoved (record hart { status = status.Halted }) (λ n. IsOf-itself (register hart n)) (IsOf-itself hart.pcc)

@@ -54,7 +54,7 @@ fn stored(address: u64, stored: Reg) -> Flow
 }
 
 /// PCC, set by a jump through a register.
-fn entered(through: Reg) -> Flow
+fn jumped_to(through: Reg) -> Flow
     ensures { result ≡ flow Pcc (Register through) }
 {
     Flow {
@@ -107,9 +107,9 @@ pub fn flows(instr: &Instr, address: u64) -> StepFlows
         Instr::Lc { cd, .. } => into(cd, granule(address)),
         Instr::Sc { c2, .. } => StepFlows::One(stored(address, c2)),
         Instr::AmoSwapC { cd, c2, .. } => and_into(stored(address, c2), cd, granule(address)),
-        Instr::CJalr { cd, c1, .. } => and_into(entered(c1), cd, Spot::Pcc),
+        Instr::CJalr { cd, c1, .. } => and_into(jumped_to(c1), cd, Spot::Pcc),
         Instr::CInvoke { c1, c2 } => StepFlows::Two(
-            entered(c1),
+            jumped_to(c1),
             Flow {
                 set: Spot::Register(31),
                 source: Spot::Register(c2.number()),
