@@ -1,15 +1,15 @@
 //! The run of two texts, printed in the form that was asked for.
 
-ghost use Rattle.std.specs.Prelude.{◌≡◌, ◌≢◌, IfOk, IfErr, false, ⊤, string_bytes};
+ghost use Rattle.std.specs.Prelude.{◌≡◌, ◌≢◌, IfOk, IfErr, Ok, false, true, ⊤, string_bytes};
 ghost use Rattle.std.specs.Io.KnownBytes.{Appends};
 ghost use Rattle.hart_step.specs.View.{state_of};
 ghost use Rattle.serde_json.specs.Written.{compact_text};
 ghost use Rattle.reports.specs.Json.{json_report};
 ghost use Rattle.reports.specs.Report.{line};
 ghost use Rattle.reports.specs.Sinks.{TakesBeginning};
-ghost use Rattle.machine.specs.Simulation.{IsRefusedRun, IsShownRun, is_reported};
-ghost use Rattle.cheri_sim.specs.Printing.{Prints};
-ghost use Rattle.cheri_sim.specs.Runs.{IsJsonRun, IsShown, IsUnprinted};
+ghost use Rattle.machine.specs.Simulation.{IsRefusedRun, IsRunAnd, is_reported, report_of};
+ghost use Rattle.cheri_sim.specs.Endings.{Fails, HasWhole};
+ghost use Rattle.cheri_sim.specs.Runs.{IsRunAnswer, longest_run};
 
 use crate::faults::Fault;
 use crate::printing::{flush, print};
@@ -40,9 +40,9 @@ fn simulate_json(
     order: &[u8],
 ) -> Result<(String, Option<(usize, StepFault)>), SimFault>
     ensures shown { IfOk result (λ ran.
-        IsJsonRun listing.now order.now (string_bytes ran.0) ran.1) }
+        IsRunAnswer ReportForm.Json listing.now order.now (Ok (string_bytes ran.0, ran.1))) }
     ensures refused { IfErr result (λ fault.
-        IsRefusedRun listing.now order.now GREATEST_TRACE_LIMIT (λ _. ⊤) fault) }
+        IsRefusedRun (longest_run listing.now order.now) (λ _. ⊤) fault) }
     ensures made { IfErr result (λ fault. fault ≢ SimFault.Report ReportFault.Write) }
 {
     let image = read_listing(alloc, listing)?;
@@ -60,11 +60,11 @@ fn simulate_to<O: Write>(
     out: &mut O,
 ) -> Result<Option<(usize, StepFault)>, SimFault>
     ensures shown { IfOk result (λ end.
-        IsShownRun listing.now order.now GREATEST_TRACE_LIMIT
-        (Appends (O.contents out.old) (O.contents out.new)) end) }
+        IsRunAnd (longest_run listing.now order.now) (λ run. (run.1 ≡ end)
+        × Appends (O.contents out.old) (O.contents out.new) (report_of run))) }
     ensures refused { IfErr result (λ fault.
-        IsRefusedRun listing.now order.now GREATEST_TRACE_LIMIT
-        (TakesBeginning (O.contents out.old) (O.contents out.new)) fault) }
+        IsRefusedRun (longest_run listing.now order.now)
+        (λ run. TakesBeginning (O.contents out.old) (O.contents out.new) (report_of run)) fault) }
     ensures untouched { IfErr result (λ fault. is_reported fault ≡ false
         → O.contents out.new ≡ O.contents out.old) }
 {
@@ -87,10 +87,11 @@ pub fn print_run<O: Write>(
     out: &mut O,
 ) -> Result<Option<(usize, StepFault)>, Fault>
     ensures printed { IfOk result (λ end.
-        Prints (λ text. IsShown form listing.now order.now text end)
+        HasWhole (IsRunAnswer form listing.now order.now) end
         (O.contents out.old) (O.contents out.new)) }
     ensures failed { IfErr result (λ fault.
-        IsUnprinted form listing.now order.now (O.contents out.old) (O.contents out.new) fault) }
+        Fails (IsRunAnswer form listing.now order.now) true fault
+        (O.contents out.old) (O.contents out.new)) }
 {
     match form {
         ReportForm::Text => {
