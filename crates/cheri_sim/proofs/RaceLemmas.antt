@@ -1,9 +1,9 @@
 -- What a race answers, as what was printed of it.
-use Rattle.std.proofs.Common.{◌≡◌, ◌≤◌, ℕ, List, Option, Ok, Err, Result, length, refl, inl, inr}
-use Rattle.std.specs.Prelude.{OnOk, IfErr}
+use Rattle.std.proofs.Common.{◌≡◌, ◌≤◌, ℕ, List, Option, None, Ok, Err, Result, length, refl, inl, inr, true, subst, sym}
+use Rattle.std.specs.Prelude.{◌⊎◌, OnOk, IfErr}
 use Rattle.std.specs.Io.KnownBytes.{Appends}
 use Rattle.listings.specs.declared.fault.ListingFault.{ListingFault}
-use Rattle.listings.specs.Faults.{Gives}
+use Rattle.listings.specs.Faults.{Gives, no_memory}
 use Rattle.listings.specs.Meaning.{listing_meaning}
 use Rattle.cheri_model.specs.runs.Image.{ImageParts}
 use Rattle.cheri_model.specs.runs.Replay.{IsReplay}
@@ -17,27 +17,34 @@ use Rattle.harts.specs.Reports.{AreReports}
 use Rattle.cheri_sim.specs.declared.faults.Fault.{Fault}
 use Rattle.cheri_sim.specs.declared.faults.Fault.TheVariants as faults
 use Rattle.cheri_sim.specs.Faults.{listing_fault, race_fault}
-use Rattle.cheri_sim.specs.Printing.{IsUnwritten, Prints}
+use Rattle.cheri_sim.specs.Endings.{Fails, HasWhole}
+use Rattle.cheri_sim.specs.Printing.{IsUnwritten}
 use Rattle.cheri_sim.specs.declared.races.TheConstants.{LOOKS}
-use Rattle.cheri_sim.specs.Races.{IsRace, IsUnraced, TellsLooks, looks_text}
-use Rattle.cheri_sim.proofs.FaultLemmas.{listing_refused}
+use Rattle.cheri_sim.specs.Races.{IsRace, IsRaceAnswer, TellsLooks, looks_text}
+use Rattle.cheri_sim.proofs.FaultLemmas.{listing_kind_is}
 
 -- a race whose listing is refused
 pub race_unread : (listing : List ℕ) (turns : ℕ) (fault : ListingFault) (old : Option (List ℕ)) →
-    Gives (Err fault) (listing_meaning listing) → IsUnraced listing turns old old (listing_fault fault)
-race_unread listing turns fault old gives =
-    listing_refused (IsUnraced listing turns old old) listing fault (inl refl) (λ meaning. (meaning, refl)) gives
+    Gives {X = ImageParts} (Err fault) (listing_meaning listing) → Fails (IsRaceAnswer listing turns) true (listing_fault fault) old old
+race_unread listing turns fault old (inl none) =
+    subst (λ (f : ListingFault). Fails (IsRaceAnswer listing turns) true (listing_fault f) old old) (sym none) (inl refl)
+race_unread listing turns fault old (inr meaning) = by (listing_kind_is fault.kind fault)
+  where
+    by : (listing_fault fault ≡ faults.NoMemory) ⊎ (listing_fault fault ≡ faults.Listing fault) →
+        Fails (IsRaceAnswer listing turns) true (listing_fault fault) old old
+    by (inl is) = subst (λ (f : Fault). Fails (IsRaceAnswer listing turns) true f old old) (sym is) (inl refl)
+    by (inr is) = subst (λ (f : Fault). Fails (IsRaceAnswer listing turns) true f old old) (sym is) (meaning, refl)
 
 -- a race that has no result
 pub race_unrun : (listing : List ℕ) (turns : ℕ) (refused : RunFault) (old : Option (List ℕ)) →
-    IsUnraced listing turns old old (race_fault refused)
+    Fails (IsRaceAnswer listing turns) true (race_fault refused) old old
 race_unrun listing turns (race.Boot fault) old = inl refl
 race_unrun listing turns race.NoMemory old = inl refl
-race_unrun listing turns race.Spawn old = refl
-race_unrun listing turns race.ImageDiffers old = refl
+race_unrun listing turns race.Spawn old = (tt, refl)
+race_unrun listing turns race.ImageDiffers old = (tt, refl)
 
 -- the text of a race
-race_of : (listing : List ℕ) (turns : ℕ) (image : ImageParts) (core : CoreParts) (reports : List HartReport) (text : List ℕ) →
+pub race_of : (listing : List ℕ) (turns : ℕ) (image : ImageParts) (core : CoreParts) (reports : List HartReport) (text : List ℕ) →
     listing_meaning listing ≡ Ok image → core.image ≡ image → IsReplay core.image core.trace core.state →
     AreReports turns core.trace (length image.harts) reports → text ≡ report core.image core.trace core.state → IsRace listing turns text
 race_of listing turns image core reports text meaning same replay are is = record {
@@ -56,16 +63,16 @@ pub race_printed : {E : Type 0} (listing : List ℕ) (turns : ℕ) (image : Imag
     (text : List ℕ) (result : Result (Unit {0}) E) (old new : Option (List ℕ)) →
     listing_meaning listing ≡ Ok image → core.image ≡ image → IsReplay core.image core.trace core.state →
     AreReports turns core.trace (length image.harts) reports → text ≡ report core.image core.trace core.state →
-    OnOk result (Appends old new text) → OnOk result (Prints (IsRace listing turns) old new)
+    OnOk result (Appends old new text) → OnOk result (HasWhole (IsRaceAnswer listing turns) None old new)
 race_printed listing turns image core reports text (Ok done) old new meaning same replay are is grown =
-    (text, race_of listing turns image core reports text meaning same replay are is, grown)
+    (text, (refl, race_of listing turns image core reports text meaning same replay are is), grown)
 race_printed listing turns image core reports text (Err fault) old new meaning same replay are is grown = tt
 
 -- or was not
-race_fault_printed : (listing : List ℕ) (turns : ℕ) (text : List ℕ) (fault : Fault) (old new : Option (List ℕ)) →
-    IsRace listing turns text → IsUnwritten old new text fault → IsUnraced listing turns old new fault
-race_fault_printed listing turns text faults.NoMemory old new shown begun = inr (text, shown, begun)
-race_fault_printed listing turns text faults.CannotWrite old new shown begun = (text, shown, begun)
+pub race_fault_printed : (listing : List ℕ) (turns : ℕ) (text : List ℕ) (fault : Fault) (old new : Option (List ℕ)) →
+    IsRace listing turns text → IsUnwritten old new text fault → Fails (IsRaceAnswer listing turns) true fault old new
+race_fault_printed listing turns text faults.NoMemory old new shown begun = inr (refl, (text, None, (refl, shown), begun))
+race_fault_printed listing turns text faults.CannotWrite old new shown begun = (text, None, (refl, shown), begun)
 race_fault_printed listing turns text faults.Usage old new shown begun = absurd begun
 race_fault_printed listing turns text faults.BadNumber old new shown begun = absurd begun
 race_fault_printed listing turns text faults.CannotReadListing old new shown begun = absurd begun
@@ -80,7 +87,7 @@ pub race_unprinted : {T : Type 0} (listing : List ℕ) (turns : ℕ) (image : Im
     (text : List ℕ) (result : Result T Fault) (old new : Option (List ℕ)) →
     listing_meaning listing ≡ Ok image → core.image ≡ image → IsReplay core.image core.trace core.state →
     AreReports turns core.trace (length image.harts) reports → text ≡ report core.image core.trace core.state →
-    IfErr result (λ fault. IsUnwritten old new text fault) → IfErr result (λ fault. IsUnraced listing turns old new fault)
+    IfErr result (λ fault. IsUnwritten old new text fault) → IfErr result (λ fault. Fails (IsRaceAnswer listing turns) true fault old new)
 race_unprinted listing turns image core reports text (Ok done) old new meaning same replay are is begun = tt
 race_unprinted listing turns image core reports text (Err fault) old new meaning same replay are is begun =
     race_fault_printed listing turns text fault old new (race_of listing turns image core reports text meaning same replay are is) begun

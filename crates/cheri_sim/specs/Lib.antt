@@ -3,6 +3,7 @@ pub mod Answers
 pub mod Faults
 pub mod Files
 pub mod Printing
+pub mod Endings
 pub mod Runs
 pub mod Races
 pub mod Program

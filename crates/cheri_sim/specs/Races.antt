@@ -1,5 +1,6 @@
 -- The race of a listing's harts, and what is printed of it.
-use Rattle.std.specs.Prelude.{◌≡◌, ℕ, ◌≤◌, List, ◌++◌, codes, decimal, length, Option, Ok, Err, ◌⊎◌}
+use Rattle.std.specs.Prelude.{◌≡◌, ℕ, ◌≤◌, List, ◌++◌, codes, decimal, length, Option, None}
+use Rattle.std.specs.Prelude.{Ok, Err, ⊤}
 use Rattle.cheri_model.specs.runs.Image.{ImageParts}
 use Rattle.cheri_model.specs.runs.Replay.{IsReplay}
 use Rattle.listings.specs.Meaning.{listing_meaning}
@@ -8,13 +9,13 @@ use Rattle.reports.specs.Sinks.{TakesBeginning}
 use Rattle.machine.specs.Cores.{CoreParts}
 use Rattle.harts.specs.declared.workers.HartReport.{HartReport}
 use Rattle.harts.specs.Reports.{AreReports}
-use Rattle.cheri_sim.specs.declared.faults.Fault.{Fault}
-use Rattle.cheri_sim.specs.declared.faults.Fault.TheVariants.{NoMemory, CannotWrite, CannotStart, ImageDiffers, Listing}
+use Rattle.cheri_sim.specs.declared.faults.Fault.TheVariants.{CannotStart, ImageDiffers, Listing}
 use Rattle.cheri_sim.specs.declared.races.TheConstants.{LOOKS}
-use Rattle.cheri_sim.specs.Printing.{PrintsBeginning}
+use Rattle.cheri_sim.specs.Endings.{Answer}
 
--- A text shows a race: it is the report of a machine that began as the image which the listing means, and whose state
--- is the replay of its trace, in which each hart's steps are those that its worker reported, and at most these turns.
+-- A text shows a race: it is the report of a machine that began as the image which the listing
+-- means, and whose state is the replay of its trace, in which each hart's steps are those that its
+-- worker reported, and at most these turns.
 pub record IsRace (listing : List ℕ) (turns : ℕ) (text : List ℕ) : Type 0 where
   pub image : ImageParts
   pub core : CoreParts
@@ -29,18 +30,18 @@ pub record IsRace (listing : List ℕ) (turns : ℕ) (text : List ℕ) : Type 0 
 abbrev pub looks_text : ℕ → List ℕ
 looks_text looks = codes "watch looks=" ++ decimal looks
 
--- Standard error got the line of a watched race, or a beginning of it: so many looks showed the machine, of those that
--- the viewer took.
+-- Standard error got the line of a watched race, or a prefix of it: so many looks showed the
+-- machine, of those that the viewer took.
 pub record TellsLooks (old new : Option (List ℕ)) : Type 0 where
   pub looks : ℕ
   pub most : looks ≤ LOOKS
   pub told : TakesBeginning old new (line (looks_text looks))
 
--- A race was not printed whole: for this fault, which left the writer's known bytes so.
-abbrev pub IsUnraced : List ℕ → ℕ → Option (List ℕ) → Option (List ℕ) → Fault → Type 0
-IsUnraced listing turns old new NoMemory = (new ≡ old) ⊎ PrintsBeginning (IsRace listing turns) old new
-IsUnraced listing turns old new CannotWrite = PrintsBeginning (IsRace listing turns) old new
-IsUnraced listing turns old new CannotStart = new ≡ old
-IsUnraced listing turns old new ImageDiffers = new ≡ old
-IsUnraced listing turns old new (Listing fault) = (listing_meaning listing ≡ Err fault) × (new ≡ old)
-IsUnraced listing turns old new _ = ⊥
+-- The answers to a race: its report, or its listing's fault. A worker may not start; and only tests
+-- show that a race leaves the image that it was given.
+abbrev pub IsRaceAnswer : List ℕ → ℕ → Answer → Type 0
+IsRaceAnswer listing turns (Ok shown) = (shown.1 ≡ None) × IsRace listing turns shown.0
+IsRaceAnswer listing turns (Err (Listing fault)) = listing_meaning listing ≡ Err fault
+IsRaceAnswer listing turns (Err CannotStart) = ⊤
+IsRaceAnswer listing turns (Err ImageDiffers) = ⊤
+IsRaceAnswer listing turns (Err _) = ⊥

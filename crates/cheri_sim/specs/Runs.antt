@@ -1,49 +1,37 @@
--- The run of a listing in an order, shown in a form.
-use Rattle.std.specs.Prelude.{◌≡◌, ℕ, List, Option, Ok, Err, ◌⊎◌}
+-- The run of a listing in an order, as the program answers it.
+use Rattle.std.specs.Prelude.{◌≡◌, ℕ, List, Result, Ok, Err, IfOk}
 use Rattle.serde_json.specs.Written.{compact_text}
-use Rattle.cheri_model.specs.declared.operation.Op.{Op}
-use Rattle.cheri_model.specs.runs.Image.{ImageParts}
-use Rattle.listings.specs.Meaning.{listing_meaning}
-use Rattle.orders.specs.Orders.{order_of}
 use Rattle.reports.specs.Json.{json_report}
 use Rattle.reports.specs.Report.{line}
 use Rattle.machine.specs.declared.cores.TheConstants.{GREATEST_TRACE_LIMIT}
-use Rattle.machine.specs.declared.faults.StepFault.{StepFault}
-use Rattle.machine.specs.Cores.{CoreParts}
-use Rattle.machine.specs.Runs.{IsRunOf}
-use Rattle.machine.specs.Simulation.{IsShownRun}
+use Rattle.machine.specs.declared.simulation.SimFault.{SimFault}
+use Rattle.machine.specs.Runs.{IsConfinedRun, Run}
+use Rattle.machine.specs.Simulation.{report_of, run_of_texts}
 use Rattle.command_line.specs.declared.requests.ReportForm.{ReportForm}
 use Rattle.command_line.specs.declared.requests.ReportForm.TheVariants as forms
-use Rattle.cheri_sim.specs.declared.faults.Fault.{Fault}
-use Rattle.cheri_sim.specs.declared.faults.Fault.TheVariants.{NoMemory, CannotWrite, Listing, Order}
-use Rattle.cheri_sim.specs.Printing.{PrintsBeginning}
+use Rattle.cheri_sim.specs.Endings.{Answer}
+use Rattle.cheri_sim.specs.Faults.{sim_fault}
 
--- A text shows a run of a listing in an order as JSON, in one line; the run ended at a refused step or at none.
-pub record IsJsonRun (listing order : List ℕ) (text : List ℕ) (end : Option (ℕ × StepFault)) : Type 0 where
-  pub image : ImageParts
-  pub ops : List Op
-  pub core : CoreParts
-  pub listing_is : listing_meaning listing ≡ Ok image
-  pub order_is : order_of order ≡ Ok ops
-  pub run_is : IsRunOf image ops GREATEST_TRACE_LIMIT core end
-  pub text_is : text ≡ line (compact_text (json_report core.image core.trace core.state))
+-- the JSON report of a run, in one line
+abbrev pub json_of : Run → List ℕ
+json_of run = line (compact_text (json_report run.0.image run.0.trace run.0.state))
 
--- a text shows a run in a form
-abbrev pub IsShown : ReportForm → List ℕ → List ℕ → List ℕ → Option (ℕ × StepFault) → Type 0
-IsShown forms.Text listing order text end =
-    IsShownRun listing order GREATEST_TRACE_LIMIT (λ (shown : List ℕ). text ≡ shown) end
-IsShown forms.Json listing order text end = IsJsonRun listing order text end
+-- the report of a run in a form
+abbrev pub report_in : ReportForm → Run → List ℕ
+report_in forms.Text run = report_of run
+report_in forms.Json run = json_of run
 
--- a beginning of a run's report was printed, in a form
-abbrev pub BeginsRun : ReportForm → List ℕ → List ℕ → Option (List ℕ) → Option (List ℕ) → Type 0
-BeginsRun form listing order old new =
-    (end : Option (ℕ × StepFault)) × PrintsBeginning (λ text. IsShown form listing order text end) old new
+-- the answer of a run, or of the fault that its texts have
+abbrev pub answer_of_run : ReportForm → Result Run SimFault → Answer
+answer_of_run form (Ok run) = Ok (report_in form run, run.1)
+answer_of_run form (Err fault) = Err (sim_fault fault)
 
--- A run was not printed whole: for this fault, which left the writer's known bytes so. Where memory ran out, nothing was
--- printed, or a beginning of the report; where a write failed, a beginning.
-abbrev pub IsUnprinted : ReportForm → List ℕ → List ℕ → Option (List ℕ) → Option (List ℕ) → Fault → Type 0
-IsUnprinted form listing order old new NoMemory = (new ≡ old) ⊎ BeginsRun form listing order old new
-IsUnprinted form listing order old new CannotWrite = BeginsRun form listing order old new
-IsUnprinted form listing order old new (Listing fault) = (listing_meaning listing ≡ Err fault) × (new ≡ old)
-IsUnprinted form listing order old new (Order fault) = (order_of order ≡ Err fault) × (new ≡ old)
-IsUnprinted form listing order old new _ = ⊥
+-- the run of two texts, with the greatest limit of a trace
+abbrev pub longest_run : List ℕ → List ℕ → Result Run SimFault
+longest_run listing order = run_of_texts listing order GREATEST_TRACE_LIMIT
+
+-- this is the answer to a run of two texts; what the run leaves is confined to what its image gave
+abbrev pub IsRunAnswer : ReportForm → List ℕ → List ℕ → Answer → Type 0
+IsRunAnswer form listing order answer =
+    (answer ≡ answer_of_run form (longest_run listing order))
+    × IfOk (longest_run listing order) IsConfinedRun

@@ -1,6 +1,6 @@
 //! The program: runs one command, or reports why it failed.
 
-ghost use Rattle.std.specs.Prelude.{None, ◌≡◌, ◌≢◌, ◌≤◌, ◌⊎◌, IfOk, IfErr, OnErr, OnOk, Err, Some};
+ghost use Rattle.std.specs.Prelude.{None, ◌≡◌, ◌≢◌, ◌≤◌, ◌⊎◌, IfOk, IfErr, OnErr, OnOk, Err, Some, false, true};
 ghost use Rattle.command_line.specs.Requests.{Asked, asked, Check, Run, Race, Bounds, Decode};
 ghost use Rattle.grammar.specs.Tokens.{texts};
 ghost use Rattle.cheri_sim.specs.Answers.{number_given};
@@ -8,10 +8,9 @@ ghost use Rattle.cheri_sim.specs.Faults.{fault_text, status_of};
 ghost use Rattle.cheri_sim.specs.Files.{AreBytesOf};
 ghost use Rattle.reports.specs.Report.{line};
 ghost use Rattle.reports.specs.Sinks.{TakesBeginning};
-ghost use Rattle.cheri_sim.specs.Program.{command_line, Fails, FailsAlone, FailsWith, IsAnswer};
-ghost use Rattle.cheri_sim.specs.Program.{IsBoundsAnswer, IsCheckAnswer, IsDecodeAnswer};
-ghost use Rattle.cheri_sim.specs.Printing.{Prints};
-ghost use Rattle.cheri_sim.specs.Program.{IsQuiet, IsRaceAnswer, IsRunAnswer, PrintsFor};
+ghost use Rattle.cheri_sim.specs.Endings.{Fails, HasWhole};
+ghost use Rattle.cheri_sim.specs.Program.{command_line, IsAnswer, IsBoundsAnswer, IsDecodeAnswer};
+ghost use Rattle.cheri_sim.specs.Program.{FailsWith, IsQuiet, is_in_pieces};
 
 use crate::answers::{bounds_text, check_text, decode_text};
 use crate::faults::Fault;
@@ -60,19 +59,19 @@ fn read<F: Files>(
 }
 
 /// `check LISTING`.
-#[tactic(auto, using(crate::proofs::ProgramLemmas::check_failures))]
+#[tactic(auto, using(crate::proofs::ProgramLemmas::check_answers))]
 fn check<F: Files, O: Write>(
     alloc: Global,
     listing: &str,
     files: &mut F,
     out: &mut O,
 ) -> Result<(), Fault>
-    ensures printed { OnOk result (Prints (IsCheckAnswer (F.bytes_of files.old) listing.now)
+    ensures printed { OnOk result (HasWhole
+        (IsAnswer (F.bytes_of files.old) (Some (Check listing.now))) None
         (O.contents out.old) (O.contents out.new)) }
-    ensures failed { IfErr result (λ fault.
-        Fails (F.bytes_of files.old) (Some (Check listing.now)) fault
+    ensures failed { IfErr result (λ fault. Fails
+        (IsAnswer (F.bytes_of files.old) (Some (Check listing.now))) false fault
         (O.contents out.old) (O.contents out.new)) }
-    ensures command { result ≢ Err Fault.Usage }
 {
     let bytes = read(files, listing, LISTING_READ, Fault::CannotReadListing)?;
     let image = read_listing(alloc, bytes.as_slice())?;
@@ -89,13 +88,12 @@ fn run<F: Files, O: Write>(
     files: &mut F,
     out: &mut O,
 ) -> Result<(), Fault>
-    ensures printed { OnOk result (Prints
-        (IsRunAnswer (F.bytes_of files.old) listing.now order.now form None)
+    ensures printed { OnOk result (HasWhole
+        (IsAnswer (F.bytes_of files.old) (Some (Run listing.now order.now form))) None
         (O.contents out.old) (O.contents out.new)) }
-    ensures failed { IfErr result (λ fault.
-        Fails (F.bytes_of files.old) (Some (Run listing.now order.now form)) fault
+    ensures failed { IfErr result (λ fault. Fails
+        (IsAnswer (F.bytes_of files.old) (Some (Run listing.now order.now form))) true fault
         (O.contents out.old) (O.contents out.new)) }
-    ensures command { result ≢ Err Fault.Usage }
 {
     let listing_bytes = read(files, listing, LISTING_READ, Fault::CannotReadListing)?;
     let order_bytes = read(files, order, ORDER_READ, Fault::CannotReadOrder)?;
@@ -125,12 +123,12 @@ fn race<F: Files, O: Write, E: Write, R: Threads + Wait + Sync>(
     out: &mut O,
     err: &mut E,
 ) -> Result<(), Fault>
-    ensures printed { OnOk result (Prints (IsRaceAnswer (F.bytes_of files.old) listing.now turns)
+    ensures printed { OnOk result (HasWhole
+        (IsAnswer (F.bytes_of files.old) (Some (Race listing.now turns watch))) None
         (O.contents out.old) (O.contents out.new)) }
-    ensures failed { IfErr result (λ fault.
-        Fails (F.bytes_of files.old) (Some (Race listing.now turns watch)) fault
+    ensures failed { IfErr result (λ fault. Fails
+        (IsAnswer (F.bytes_of files.old) (Some (Race listing.now turns watch))) true fault
         (O.contents out.old) (O.contents out.new)) }
-    ensures command { result ≢ Err Fault.Usage }
     ensures quiet { OnOk result (IsQuiet (Some (Race listing.now turns watch))
         (E.contents err.old) (E.contents err.new)) }
     ensures spared { OnErr result (E.contents err.new ≡ E.contents err.old) }
@@ -153,12 +151,11 @@ fn number_given(limit: u128, word: &str) -> Result<u128, Fault>
 }
 
 /// `bounds BASE LEN`: both numbers are read before the range is rounded.
-#[tactic(auto, using(crate::proofs::ProgramLemmas::bounds_unwritten))]
+#[tactic(auto, using(crate::proofs::ProgramLemmas::bounds_answers))]
 fn bounds<O: Write>(alloc: Global, base: &str, len: &str, out: &mut O) -> Result<(), Fault>
-    ensures printed { OnOk result (Prints (IsBoundsAnswer base.now len.now)
+    ensures printed { OnOk result (HasWhole (IsBoundsAnswer base.now len.now) None
         (O.contents out.old) (O.contents out.new)) }
-    ensures failed { IfErr result (λ fault.
-        FailsAlone (Some (Bounds base.now len.now)) fault
+    ensures failed { IfErr result (λ fault. Fails (IsBoundsAnswer base.now len.now) false fault
         (O.contents out.old) (O.contents out.new)) }
 {
     let base = number_given(GREATEST_ADDRESS, base)?;
@@ -167,12 +164,12 @@ fn bounds<O: Write>(alloc: Global, base: &str, len: &str, out: &mut O) -> Result
 }
 
 /// `decode WORD`.
-#[tactic(auto, using(crate::proofs::ProgramLemmas::decode_unwritten))]
+#[tactic(auto, using(crate::proofs::ProgramLemmas::decode_answers))]
 fn decode<O: Write>(alloc: Global, word: &str, out: &mut O) -> Result<(), Fault>
-    ensures printed { OnOk result (Prints (IsDecodeAnswer word.now)
+    ensures printed { OnOk result (HasWhole (IsDecodeAnswer word.now) None
         (O.contents out.old) (O.contents out.new)) }
-    ensures failed { IfErr result (λ fault.
-        FailsAlone (Some (Decode word.now)) fault (O.contents out.old) (O.contents out.new)) }
+    ensures failed { IfErr result (λ fault. Fails (IsDecodeAnswer word.now) false fault
+        (O.contents out.old) (O.contents out.new)) }
 {
     let word = number_given(GREATEST_WORD, word)?;
     print(out, decode_text(alloc, word)?.as_str())
@@ -191,7 +188,7 @@ fn with_program_name<'a>(alloc: Global, words: &'a [String]) -> Result<Vec<&'a s
 }
 
 /// Does what the words ask for. The command line is judged first.
-#[tactic(auto, using(crate::proofs::ProgramLemmas::answer_failures))]
+#[tactic(auto, using(crate::proofs::ProgramLemmas::command_fails))]
 fn answer<F: Files, O: Write, E: Write, R: Threads + Wait + Sync>(
     rt: &R,
     alloc: Global,
@@ -200,10 +197,12 @@ fn answer<F: Files, O: Write, E: Write, R: Threads + Wait + Sync>(
     out: &mut O,
     err: &mut E,
 ) -> Result<(), Fault>
-    ensures printed { OnOk result (PrintsFor (IsAnswer (F.bytes_of files.old))
-        (asked (command_line words.now)) (O.contents out.old) (O.contents out.new)) }
-    ensures failed { IfErr result (λ fault.
-        Fails (F.bytes_of files.old) (asked (command_line words.now)) fault
+    ensures printed { OnOk result (HasWhole
+        (IsAnswer (F.bytes_of files.old) (asked (command_line words.now))) None
+        (O.contents out.old) (O.contents out.new)) }
+    ensures failed { IfErr result (λ fault. Fails
+        (IsAnswer (F.bytes_of files.old) (asked (command_line words.now)))
+        (is_in_pieces (asked (command_line words.now))) fault
         (O.contents out.old) (O.contents out.new)) }
     ensures nothing { asked (command_line words.now) ≡ None
         → (result ≡ Err Fault.Usage) ⊎ (result ≡ Err Fault.NoMemory) }
@@ -256,8 +255,9 @@ pub fn perform<F: Files, O: Write, E: Write, R: Threads + Wait + Sync>(
     err: &mut E,
 ) -> u8
     ensures status { result ≤ 3 }
-    ensures printed { result ≡ 0 → PrintsFor (IsAnswer (F.bytes_of files.old))
-        (asked (command_line words.now)) (O.contents out.old) (O.contents out.new) }
+    ensures printed { result ≡ 0 → HasWhole
+        (IsAnswer (F.bytes_of files.old) (asked (command_line words.now))) None
+        (O.contents out.old) (O.contents out.new) }
     ensures quiet { result ≡ 0 → IsQuiet (asked (command_line words.now))
         (E.contents err.old) (E.contents err.new) }
 

@@ -1,14 +1,14 @@
 //! The race of a listing's harts, printed.
 
-ghost use Rattle.std.specs.Prelude.{◌≡◌, ◌≤◌, ◌↔◌, length, OnOk, OnErr, IfOk, IfErr, IfSome, Err};
+ghost use Rattle.std.specs.Prelude.{◌≡◌, ◌≤◌, ◌↔◌, length, OnOk, OnErr, IfOk, IfErr, IfSome, Err, None};
 ghost use Rattle.std.specs.Prelude.{false, true};
 ghost use Rattle.cheri_model.specs.runs.Replay.{IsReplay};
 ghost use Rattle.machine.specs.Cores.{is_limit};
 ghost use Rattle.harts.specs.Reports.{AreReports};
 ghost use Rattle.reports.specs.Report.{line};
 ghost use Rattle.reports.specs.Sinks.{TakesBeginning};
-ghost use Rattle.cheri_sim.specs.Printing.{Prints};
-ghost use Rattle.cheri_sim.specs.Races.{IsRace, IsUnraced, TellsLooks, looks_text};
+ghost use Rattle.cheri_sim.specs.Endings.{Fails, HasWhole};
+ghost use Rattle.cheri_sim.specs.Races.{IsRaceAnswer, TellsLooks, looks_text};
 
 use crate::faults::Fault;
 use crate::printing::{print_report, write_text};
@@ -180,10 +180,10 @@ pub fn print_race<O: Write, E: Write, R: Threads + Wait + Sync>(
     out: &mut O,
     err: &mut E,
 ) -> Result<(), Fault>
-    ensures printed { OnOk result (Prints (IsRace listing.now turns)
+    ensures printed { OnOk result (HasWhole (IsRaceAnswer listing.now turns) None
         (O.contents out.old) (O.contents out.new)) }
-    ensures failed { IfErr result (λ fault.
-        IsUnraced listing.now turns (O.contents out.old) (O.contents out.new) fault) }
+    ensures failed { IfErr result (λ fault. Fails (IsRaceAnswer listing.now turns) true fault
+        (O.contents out.old) (O.contents out.new)) }
     ensures quiet { watch ≡ false → E.contents err.new ≡ E.contents err.old }
     ensures told { watch ≡ true
         → OnOk result (TellsLooks (E.contents err.old) (E.contents err.new)) }

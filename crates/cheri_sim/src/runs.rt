@@ -7,9 +7,9 @@ ghost use Rattle.serde_json.specs.Written.{compact_text};
 ghost use Rattle.reports.specs.Json.{json_report};
 ghost use Rattle.reports.specs.Report.{line};
 ghost use Rattle.reports.specs.Sinks.{TakesBeginning};
-ghost use Rattle.machine.specs.Simulation.{IsRefusedRun, IsShownRun, is_reported};
-ghost use Rattle.cheri_sim.specs.Printing.{Prints};
-ghost use Rattle.cheri_sim.specs.Runs.{BeginsRun, IsJsonRun, IsShown, IsUnprinted};
+ghost use Rattle.machine.specs.Simulation.{IsRefusedRun, IsRunAnd, is_reported, report_of};
+ghost use Rattle.cheri_sim.specs.Endings.{Fails, HasPrefix, HasWhole};
+ghost use Rattle.cheri_sim.specs.Runs.{IsRunAnswer, longest_run};
 
 use crate::faults::Fault;
 use crate::printing::flush;
@@ -60,13 +60,13 @@ fn simulate_json_to<O: Write>(
     out: &mut O,
 ) -> Result<Option<(usize, StepFault)>, SimFault>
     ensures shown { IfOk result (λ end.
-        Prints (λ text. IsJsonRun listing.now order.now text end)
+        HasWhole (IsRunAnswer ReportForm.Json listing.now order.now) end
         (O.contents out.old) (O.contents out.new)) }
     ensures refused { IfErr result (λ fault.
-        IsRefusedRun listing.now order.now GREATEST_TRACE_LIMIT (λ _. ⊤) fault) }
+        IsRefusedRun (longest_run listing.now order.now) (λ _. ⊤) fault) }
     ensures begun { IfErr result (λ fault. is_reported fault ≡ true
-        → BeginsRun ReportForm.Json listing.now order.now (O.contents out.old)
-        (O.contents out.new)) }
+        → HasPrefix (IsRunAnswer ReportForm.Json listing.now order.now)
+        (O.contents out.old) (O.contents out.new)) }
     ensures untouched { IfErr result (λ fault. is_reported fault ≡ false
         → O.contents out.new ≡ O.contents out.old) }
 {
@@ -85,11 +85,11 @@ fn simulate_to<O: Write>(
     out: &mut O,
 ) -> Result<Option<(usize, StepFault)>, SimFault>
     ensures shown { IfOk result (λ end.
-        IsShownRun listing.now order.now GREATEST_TRACE_LIMIT
-        (Appends (O.contents out.old) (O.contents out.new)) end) }
+        IsRunAnd (longest_run listing.now order.now) (λ run. (run.1 ≡ end)
+        × Appends (O.contents out.old) (O.contents out.new) (report_of run))) }
     ensures refused { IfErr result (λ fault.
-        IsRefusedRun listing.now order.now GREATEST_TRACE_LIMIT
-        (TakesBeginning (O.contents out.old) (O.contents out.new)) fault) }
+        IsRefusedRun (longest_run listing.now order.now)
+        (λ run. TakesBeginning (O.contents out.old) (O.contents out.new) (report_of run)) fault) }
     ensures untouched { IfErr result (λ fault. is_reported fault ≡ false
         → O.contents out.new ≡ O.contents out.old) }
 {
@@ -112,10 +112,11 @@ pub fn print_run<O: Write>(
     out: &mut O,
 ) -> Result<Option<(usize, StepFault)>, Fault>
     ensures printed { IfOk result (λ end.
-        Prints (λ text. IsShown form listing.now order.now text end)
+        HasWhole (IsRunAnswer form listing.now order.now) end
         (O.contents out.old) (O.contents out.new)) }
     ensures failed { IfErr result (λ fault.
-        IsUnprinted form listing.now order.now (O.contents out.old) (O.contents out.new) fault) }
+        Fails (IsRunAnswer form listing.now order.now) true fault
+        (O.contents out.old) (O.contents out.new)) }
 {
     match form {
         ReportForm::Text => {

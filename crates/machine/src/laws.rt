@@ -1,6 +1,6 @@
-//! The numbers that code and definitions share, each by its numeral. Definitions take them from the
-//! code, so that a wrong one would be wrong on both sides; these laws hold them to what the documents
-//! say.
+//! What every run of an order is; and the numbers that code and definitions share, each by its
+//! numeral. Definitions take those from the code, so that a wrong one would be wrong on both sides;
+//! these laws hold them to what the documents say.
 
 ghost use Rattle.std.specs.Prelude.{◌≡◌};
 ghost use Rattle.machine.specs.declared.cores.TheConstants.{GREATEST_TRACE_LIMIT};
@@ -15,8 +15,8 @@ pub fn limits()
     ensures places { PLACES ≡ 8 }
 {}
 
-/// The run of an order, which definitions give as a function: it takes the order as far as it can be
-/// taken, and what it leaves is the replay of what it took.
+/// Every run of an order, which definitions give as a function, takes the order as far as it can be
+/// taken; and what it leaves is the replay of what it took.
 pub fn runs()
     ensures taken { RunsTakeAll }
     ensures replays { RunsAreReplays }
