@@ -1,5 +1,5 @@
--- Walks that lead back to where they began. Labels below a number are those of actors, one each; the others belong to
--- nobody, and a walk of these alone is no loop.
+-- Walks that lead back to where they began. Labels below a number are those of actors, one each;
+-- the others belong to nobody, and a walk of these alone is no loop.
 use Rattle.std.specs.Prelude.{◌≡◌, ℕ, ◌<◌, List, [], ◌∷◌, Option, Some, ◌⊎◌}
 use Rattle.graph_search.specs.Walks.{IsWalk}
 use Rattle.graph_loops.specs.declared.scans.Loops.{Loops}
@@ -20,7 +20,9 @@ IsFair {S} next actors s ls = (m : ℕ) (t : S) → m < actors → next s m ≡ 
 
 -- what is known of the loops of all states that were found
 abbrev pub IsKnown : {S : Type 0} → (S → ℕ → Option S) → ℕ → (ℕ → Option S) → Loops → Type 0
-IsKnown {S} next actors at NoLoop = (i : ℕ) (s : S) (ls : List ℕ) → at i ≡ Some s → ¬ IsLoop next actors s ls
+IsKnown {S} next actors at NoLoop =
+    (i : ℕ) (s : S) (ls : List ℕ) → at i ≡ Some s → ¬ IsLoop next actors s ls
 IsKnown {S} next actors at Unfair =
-    (i : ℕ) (s : S) (ls : List ℕ) → at i ≡ Some s → IsLoop next actors s ls → ¬ IsFair next actors s ls
+    (i : ℕ) (s : S) (ls : List ℕ) → at i ≡ Some s → IsLoop next actors s ls →
+    ¬ IsFair next actors s ls
 IsKnown next actors at Unknown = Unit {0}

@@ -1,5 +1,5 @@
-//! Whether a graph's states have loops, and fair ones, from a number for each state that somebody else
-//! found. Knows nothing of what the states are.
+//! Whether a graph's states have loops, and fair ones, from a number for each state that somebody
+//! else found. Knows nothing of what the states are.
 #![tactic(auto)]
 
 mod scans;

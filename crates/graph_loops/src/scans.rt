@@ -42,8 +42,9 @@ struct Tables {
     runs: Vec<bool>,
 }
 
-/// What the nodes' numbers show of loops, where labels below `actors` are those of actors. If numbers
-/// never rise along an edge, a loop stays within one of them. Fails only when out of memory.
+/// What the nodes' numbers show of loops, where labels below `actors` are those of actors. If
+/// numbers never rise along an edge, a loop stays within one of them. Fails only when out of
+/// memory.
 pub fn judge_loops<G: Graph>(
     alloc: Global,
     graph: &mut G,
@@ -111,7 +112,8 @@ fn new_tables(alloc: Global, numbers: usize, actors: u32) -> Result<Tables, Allo
     Ok(Tables { moves, runs })
 }
 
-/// Looks at the edges of all nodes. False where one leads to a node of a greater number, or to none.
+/// Looks at the edges of all nodes. False where one leads to a node of a greater number, or to
+/// none.
 fn scan<G: Graph>(
     graph: &mut G,
     found: &Reached,
@@ -125,8 +127,8 @@ fn scan<G: Graph>(
     requires before { IsScanning (G.next graph.old) (G.meaning graph.old) actors found.now.nodes
         numbers.now tables.old.moves.items tables.old.runs.items 0 0 }
     ensures same_graph { G.next graph.new ≡ G.next graph.old }
-    ensures after { IfOk result (ScansTo (G.next graph.new) (G.meaning graph.old) (G.meaning graph.new) actors
-        found.now.nodes numbers.now (length numbers.now) 0
+    ensures after { IfOk result (ScansTo (G.next graph.new) (G.meaning graph.old)
+        (G.meaning graph.new) actors found.now.nodes numbers.now (length numbers.now) 0
         tables.new.moves.items tables.new.runs.items) }
 {
     for node in 0..found.len() {
@@ -155,8 +157,9 @@ fn scan_node<G: Graph>(
     ensures same_graph { G.next graph.new ≡ G.next graph.old }
     ensures same_labels { G.label_count graph.new ≡ G.label_count graph.old }
     ensures same_width { G.width graph.new ≡ G.width graph.old }
-    ensures after { IfOk result (ScansTo (G.next graph.new) (G.meaning graph.old) (G.meaning graph.new) actors
-        found.now.nodes numbers.now (node + 1) 0 tables.new.moves.items tables.new.runs.items) }
+    ensures after { IfOk result (ScansTo (G.next graph.new) (G.meaning graph.old)
+        (G.meaning graph.new) actors found.now.nodes numbers.now (node + 1) 0
+        tables.new.moves.items tables.new.runs.items) }
 {
     for label in 0..graph.label_count() {
         let edge = Edge { from: node, label };
@@ -185,8 +188,8 @@ fn scan_edge<G: Graph>(
     ensures same_graph { G.next graph.new ≡ G.next graph.old }
     ensures same_labels { G.label_count graph.new ≡ G.label_count graph.old }
     ensures same_width { G.width graph.new ≡ G.width graph.old }
-    ensures after { IfOk result (ScansTo (G.next graph.new) (G.meaning graph.old) (G.meaning graph.new) actors
-        found.now.nodes numbers.now edge.from (edge.label + 1)
+    ensures after { IfOk result (ScansTo (G.next graph.new) (G.meaning graph.old)
+        (G.meaning graph.new) actors found.now.nodes numbers.now edge.from (edge.label + 1)
         tables.new.moves.items tables.new.runs.items) }
 {
     let Some(node) = found.node(edge.from) else {

@@ -27,7 +27,8 @@ pub fn place(number: u32, numbers: usize, actors: u32, actor: u32) -> usize
 
 /// Whether nobody moves.
 pub fn is_still(moves: &[bool]) -> bool
-    ensures { result ≡ true → (number actor actors : ℕ) → entry moves.now actors number actor ≡ false }
+    ensures { result ≡ true → (number actor actors : ℕ) →
+        entry moves.now actors number actor ≡ false }
 {
     moves.iter().all(|moves| !*moves)
 }
@@ -55,7 +56,8 @@ pub fn is_starved(moves: &[bool], runs: &[bool], numbers: usize, actors: u32, nu
 pub fn all_starved(moves: &[bool], runs: &[bool], numbers: u32, actors: u32) -> bool
     requires moves { length moves.now ≡ numbers * actors }
     requires runs { length runs.now ≡ numbers * actors }
-    ensures { result ≡ true → (number : ℕ) → number < numbers → IsStarved moves.now runs.now actors number }
+    ensures { result ≡ true → (number : ℕ) → number < numbers →
+        IsStarved moves.now runs.now actors number }
 {
     for number in 0..numbers {
         if !is_starved(moves, runs, numbers as usize, actors, number) {

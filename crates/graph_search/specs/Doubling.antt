@@ -1,5 +1,6 @@
 -- A graph for tests: numbers below a size, doubled by label 0 and raised by 1 by label 1.
-use Rattle.std.specs.Prelude.{◌≡◌, ℕ, ◌+◌, ◌==◌, ◌≤◌, List, [], ◌∷◌, Option, Some, None, nat_lt, if◌then◌else◌}
+use Rattle.std.specs.Prelude.{◌≡◌, ℕ, ◌+◌, ◌==◌, ◌≤◌, List, [], ◌∷◌, Option, Some, None, nat_lt}
+use Rattle.std.specs.Prelude.{if◌then◌else◌}
 use Rattle.std.proofs.Common.{sym, ap, ◌∙◌, arith}
 use Rattle.std.proofs.lemmas.Bool.Decides.{nat_tests}
 use Rattle.std.proofs.lemmas.Option.{none-some, same_Some}
@@ -16,7 +17,9 @@ below size n = if nat_lt n size then Some n else None
 
 -- where a label leads
 abbrev pub stepped : ℕ → ℕ → ℕ → Option ℕ
-stepped size n l = if l == 0 then below size (n + n) else (if l == 1 then below size (n + 1) else None)
+stepped size n l =
+    if l == 0 then below size (n + n)
+    else (if l == 1 then below size (n + 1) else None)
 
 -- a number is one row
 pub number_of_one : (m n : List ℕ) (s : ℕ) → number_of m ≡ Some s → number_of n ≡ Some s → m ≡ n

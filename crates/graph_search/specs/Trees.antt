@@ -1,5 +1,7 @@
--- The nodes that a search found, numbered from 0 in the order in which it found them, each with the edge by which it did.
-use Rattle.std.specs.Prelude.{◌≡◌, ◌≢◌, ℕ, ◌<◌, List, [], ◌∷◌, ◌++◌, length, slice_get, Option, Some, option_and_then, slice_index_or, ◌⊎◌, Bool}
+-- The nodes that a search found, numbered from 0 in the order in which it found them, each with the
+-- edge by which it did.
+use Rattle.std.specs.Prelude.{◌≡◌, ◌≢◌, ℕ, ◌<◌, List, [], ◌∷◌, ◌++◌, length, slice_get, Option}
+use Rattle.std.specs.Prelude.{Some, option_and_then, slice_index_or, ◌⊎◌, Bool}
 use Rattle.graph_search.specs.declared.edges.Edge.{Edge}
 
 -- the state of node i
@@ -23,7 +25,8 @@ IsTrace edge i (l ∷ ls) = (0 < i) × ((edge i).label ≡ l) × IsTrace edge (e
 abbrev pub Adds : List ℕ → Edge → List (List ℕ) → List Edge → List (List ℕ) → List Edge → Type 0
 Adds node edge nodes edges nodes' edges' =
     ((i : ℕ) × (slice_get nodes i ≡ Some node) × (nodes' ≡ nodes) × (edges' ≡ edges))
-    ⊎ (((i : ℕ) → slice_get nodes i ≢ Some node) × (nodes' ≡ nodes ++ node ∷ []) × (edges' ≡ edges ++ edge ∷ []))
+    ⊎ (((i : ℕ) → slice_get nodes i ≢ Some node) × (nodes' ≡ nodes ++ node ∷ [])
+    × (edges' ≡ edges ++ edge ∷ []))
 
 -- What a search found: the nodes, their edges, and whether there are no more.
 pub record Found : Type 0 where

@@ -1,6 +1,7 @@
--- Walks in a graph. A graph is seen as the function next: its edge with label l leads from state s to next s l, if there
--- is one.
-use Rattle.std.specs.Prelude.{◌≡◌, ℕ, ◌<◌, List, [], ◌∷◌, length, Option, Some, option_and_then, ◌⊎◌}
+-- Walks in a graph. A graph is seen as the function next: its edge with label l leads from state s
+-- to next s l, if there is one.
+use Rattle.std.specs.Prelude.{◌≡◌, ℕ, ◌<◌, List, [], ◌∷◌, length, Option, Some, option_and_then}
+use Rattle.std.specs.Prelude.{◌⊎◌}
 
 -- where a walk along edges of these labels leads
 abbrev pub after : {S : Type 0} → (S → ℕ → Option S) → S → List ℕ → Option S

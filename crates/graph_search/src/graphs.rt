@@ -17,11 +17,11 @@ ghost use Rattle.graph_search.specs.Graphs.{LeadsTo};
 
 use std::alloc::AllocError;
 
-/// A graph whose nodes are rows of numbers. A node has a state as its meaning, and edges go from state
-/// to state: each state has at most one edge of each label.
+/// A graph whose nodes are rows of numbers. A node has a state as its meaning, and edges go from
+/// state to state: each state has at most one edge of each label.
 ///
-/// A step may number new things, as the parts that rows are made of, and so give rows a meaning that
-/// had none. What a row means never changes after that, and no two rows mean the same.
+/// A step may number new things, as the parts that rows are made of, and so give rows a meaning
+/// that had none. What a row means never changes after that, and no two rows mean the same.
 pub trait Graph {
     /// What nodes mean.
     ghost State: { Type 0 };
@@ -46,8 +46,9 @@ pub trait Graph {
     fn label_count(&self) -> u32
         ensures { result ≡ label_count self.now };
 
-    /// Follows a node's edge with this label, and writes the node to which it leads. False where there
-    /// is no such edge; `to` may be written then, too. Fails only when out of memory or of numbers.
+    /// Follows a node's edge with this label, and writes the node to which it leads. False where
+    /// there is no such edge; `to` may be written then, too. Fails only when out of memory or of
+    /// numbers.
     fn step(&mut self, node: &[u32], label: u32, to: &mut [u32]) -> Result<bool, AllocError>
         requires meant { IsSome (meaning self.old node.now) }
         requires labelled { label < label_count self.old }

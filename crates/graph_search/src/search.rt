@@ -22,9 +22,9 @@ use crate::reached::Reached;
 use crate::trees::Tree;
 use std::alloc::{AllocError, Global};
 
-/// Finds the states that can be reached from the state of `start`, breadth first, edges in the order of
-/// their labels: the first `limit` ones in the order of their witnesses, or all where there are no more.
-/// Fails only when out of memory, or of numbers for nodes.
+/// Finds the states that can be reached from the state of `start`, breadth first, edges in the
+/// order of their labels: the first `limit` ones in the order of their witnesses, or all where
+/// there are no more. Fails only when out of memory, or of numbers for nodes.
 pub fn explore<G: Graph>(
     alloc: Global,
     graph: &mut G,
@@ -37,7 +37,8 @@ pub fn explore<G: Graph>(
     ensures same_graph { G.next graph.new ≡ G.next graph.old }
     ensures same_labels { G.label_count graph.new ≡ G.label_count graph.old }
     ensures same_width { G.width graph.new ≡ G.width graph.old }
-    ensures explored { IfOk result (λ found. (s : G.State) → G.meaning graph.old start.now ≡ Some s →
+    ensures explored { IfOk result (λ found.
+        (s : G.State) → G.meaning graph.old start.now ≡ Some s →
         IsExplored (G.next graph.new) s limit (state_at (G.meaning graph.new) found.nodes)
         (edge_at found.edges) (length found.nodes) found.complete) }
 {

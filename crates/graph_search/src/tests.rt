@@ -18,7 +18,8 @@ struct Numbers {
 
 impl Graph for Numbers {
     ghost use Rattle.std.specs.Prelude.{ℕ};
-    ghost use Rattle.graph_search.specs.Doubling.{number_of, stepped, number_of_one, stepped_beyond};
+    ghost use Rattle.graph_search.specs.Doubling.{number_of, stepped};
+    ghost use Rattle.graph_search.specs.Doubling.{number_of_one, stepped_beyond};
 
     ghost State = { ℕ };
 
@@ -69,8 +70,8 @@ fn number_at(found: &Reached, node: u32) -> Option<u32> {
     found.node(node)?.first().copied()
 }
 
-/// How many steps of doubling and adding 1 lead from 1 to this number: each binary digit but the first
-/// takes a doubling, and each 1 among them one more step.
+/// How many steps of doubling and adding 1 lead from 1 to this number: each binary digit but the
+/// first takes a doubling, and each 1 among them one more step.
 fn distance(number: u32) -> u32 {
     31u32.saturating_sub(number.leading_zeros()) + number.count_ones().saturating_sub(1)
 }

@@ -61,8 +61,8 @@ impl Tree {
         node
     }
 
-    /// Adds a node with this edge, unless it is there. Fails only when out of memory, or of numbers for
-    /// nodes.
+    /// Adds a node with this edge, unless it is there. Fails only when out of memory, or of numbers
+    /// for nodes.
     pub fn add(&mut self, node: &[u32], edge: Edge) -> Result<(), AllocError>
         requires { length node.now ≡ self.old.nodes.width }
         ensures added { IfOk result (λ _. Adds node.now edge

@@ -1,5 +1,7 @@
--- The graph of an image. Its labels are numbers: first the harts, then the sweeps in the order given.
-use Rattle.std.specs.Prelude.{◌≡◌, ℕ, ◌+◌, ◌-◌, nat_lt, if◌then◌else◌, List, [], ◌∷◌, length, slice_get, Option, Some, None, option_map}
+-- The graph of an image. Its labels are numbers: first the harts, then the sweeps in the order
+-- given.
+use Rattle.std.specs.Prelude.{◌≡◌, ℕ, ◌+◌, ◌-◌, nat_lt, if◌then◌else◌, List, [], ◌∷◌, length}
+use Rattle.std.specs.Prelude.{slice_get, Option, Some, None, option_map}
 use Rattle.cheri_model.specs.declared.operation.Op.{Op}
 use Rattle.cheri_model.specs.declared.operation.Op.TheVariants as operation
 use Rattle.cheri_model.specs.runs.Image.{ImageParts}
@@ -19,7 +21,8 @@ operation_of_label image sweeps label =
 -- the state after an operation, where it may be taken
 unfoldable pub taken : ImageParts → MachineState → Option Op → Option MachineState
 taken image state None = None
-taken image state (Some op) = if may_take state op then Some (state_after_one image state op) else None
+taken image state (Some op) =
+    if may_take state op then Some (state_after_one image state op) else None
 
 -- where a label leads
 unfoldable pub next : ImageParts → List SweepRange → MachineState → ℕ → Option MachineState
@@ -40,7 +43,8 @@ AreLabelsOf image sweeps (l ∷ ls) (op ∷ ops) =
 -- an operation is a step, or one of the sweeps
 abbrev pub IsAllowed : List SweepRange → Op → Type 0
 IsAllowed sweeps (operation.Step hart) = Unit {0}
-IsAllowed sweeps (operation.Sweep lo hi) = (k : ℕ) × (slice_get sweeps k ≡ Some (record { lo = lo; hi = hi }))
+IsAllowed sweeps (operation.Sweep lo hi) =
+    (k : ℕ) × (slice_get sweeps k ≡ Some (record { lo = lo; hi = hi }))
 
 abbrev pub AreAllowed : List SweepRange → List Op → Type 0
 AreAllowed sweeps [] = Unit {0}

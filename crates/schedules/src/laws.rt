@@ -22,7 +22,8 @@ pub fn walks_are_legal_orders()
         → IsWalk (next image sweeps) s labels (state_after image s order) }
 {}
 
-/// Every legal order of steps and of these sweeps has labels, where the state has the image's harts.
+/// Every legal order of steps and of these sweeps has labels, where the state has the image's
+/// harts.
 pub fn legal_orders_have_labels()
     ensures { (image : ImageParts) (sweeps : List SweepRange) (s : MachineState) (order : List Op)
         → length s.harts ≡ length image.harts → AreAllowed sweeps order
