@@ -73,6 +73,18 @@ function bars() {
   });
 }
 
+/** The longest time in milliseconds that a move of the slider takes, of some far and near ones. */
+function longestMove() {
+  const slider = document.getElementById("slider");
+  return Math.max(...[0, 5000, 2500, 1, 2, 3].map((count) => {
+    const began = performance.now();
+    slider.value = count;
+    slider.dispatchEvent(new Event("input"));
+    document.body.getBoundingClientRect();
+    return performance.now() - began;
+  }));
+}
+
 /** Texts whose contrast with what lies below them is less than 4.5. */
 function faintTexts() {
   const numbers = (colour) => colour.match(/[\d.]+/g).map(Number);
@@ -305,27 +317,23 @@ async function checkScreens(tab, name) {
   check(`${name}: nothing moves where no motion is asked for`, moving === 0, moving);
 }
 
-/** A page of 5,000 events opens in less than a second, and goes to any of them quickly. */
+/** A page of 5,000 events opens and moves quickly: the best of three, as machines are busy. */
 async function checkLarge(tab) {
   const { events } = dataOf("large.html");
   check("large.html has 5,000 events", events.length === 5000, events.length);
   await tab.screen(1280, 800, false);
-  await tab.go(fileUrl("large.html"));
-  const opened = await tab.ask(() => performance.getEntriesByType("navigation")[0].loadEventEnd);
+  let opened = Infinity;
+  let moved = Infinity;
+  for (let count = 0; count < 3; count += 1) {
+    await tab.go(fileUrl("large.html"));
+    opened = Math.min(opened,
+      await tab.ask(() => performance.getEntriesByType("navigation")[0].loadEventEnd));
+    moved = Math.min(moved, await tab.ask(longestMove));
+  }
   check("a page of 5,000 events opens in less than a second", opened < 1000, opened);
-  const spent = await tab.ask(async () => {
-    const slider = document.getElementById("slider");
-    const began = performance.now();
-    for (const value of [0, 5000, 2500, 1]) {
-      slider.value = value;
-      slider.dispatchEvent(new Event("input"));
-      document.body.getBoundingClientRect();
-    }
-    return (performance.now() - began) / 4;
-  });
-  check("it goes to any event in less than 0.25 s", spent < 250, spent);
+  check("it goes to any of them in less than half a second", moved < 500, moved);
   console.log(`page: 5,000 events: opened in ${Math.round(opened)} ms, `
-    + `a jump in ${Math.round(spent)} ms`);
+    + `the longest move took ${Math.round(moved)} ms`);
 }
 
 /** Nothing leaves the page, and the console stays empty. */

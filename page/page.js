@@ -48,9 +48,8 @@
       + (events.length < entries ? `, of which ${events.length} are shown.` : ".");
     part("count").textContent = `(${marked.length} of ${events.length})`;
     slider.max = events.length;
-    list.draw(events, false);
+    list.show(events, false);
     go(marked.length > 0 ? marked[0] + 1 : Math.min(1, events.length));
-    list.anchor();
   }
 
   slider.addEventListener("input", () => go(Number(slider.value)));
@@ -60,7 +59,7 @@
   part("last").addEventListener("click", () => go(events.length));
   part("next-marked").addEventListener("click", () => go(nextMarked() + 1));
   part("only-marked").addEventListener("change", (change) =>
-    list.filter(events, change.target.checked));
+    list.show(events, change.target.checked));
   document.addEventListener("keydown", (key) => {
     const to = { ArrowLeft: position - 1, ArrowRight: position + 1, Home: 0, End: events.length };
     if (key.altKey || key.ctrlKey || key.metaKey || isTyping(key.target)) return;

@@ -24,8 +24,9 @@ const view = (() => {
 
   const PCC_NUMBER = 32;
 
-  /** At most so many lines of a listing, or granules, are drawn at once. */
+  /** At most so many lines of a listing, events or granules are drawn at once. */
   const MOST_LINES = 2000;
+  const MOST_EVENTS = 200;
   const MOST_GRANULES = 256;
 
   // ---------------------------------------------------------------- elements
@@ -282,71 +283,77 @@ const view = (() => {
     return event.instruction ?? `fetch at ${event.pc}`;
   }
 
-  /** The list of events, of which one is current. `pick` is called with an event's index. */
+  /** A row of the list of events, whose button alone takes the focus. */
+  function eventRow(event, index) {
+    const button = element("button", { type: "button", tabindex: -1, "data-index": index },
+      String(event.number));
+    return row({ class: isMarked(event) ? "marked" : null, "data-index": index }, [button],
+      cell("owner", event.hart === undefined ? "all" : String(event.hart)),
+      cell("instruction", element("code", {}, eventWords(event))),
+      cell("outcome", isMarked(event) ? "\u26a0 " : "", outcomeWords(event)));
+  }
+
+  /**
+   * The list of events, of which one is current. Of a long one only a part is drawn. `pick` is
+   * called with an event's index.
+   */
   function eventList(place, caption, pick) {
-    let rows = [];
+    let events = [];
+    let listed = [];
+    let drawn = [];
     let current = -1;
 
-    const buttonOf = (index) => rows[index].querySelector("button");
-    const listed = () => rows.map((_, index) => index).filter((index) => !rows[index].hidden);
+    const buttonOf = (index) => place.querySelector(`button[data-index="${index}"]`);
 
-    function draw(events, onlyMarked) {
-      rows = events.map((event, index) => {
-        const button = element("button", { type: "button", tabindex: -1, "data-index": index },
-          String(event.number));
-        const made = row({ class: isMarked(event) ? "marked" : null }, [button],
-          cell("owner", event.hart === undefined ? "all" : String(event.hart)),
-          cell("instruction", element("code", {}, eventWords(event))),
-          cell("outcome", isMarked(event) && event.outcome !== "sweep" ? "\u26a0 " : "",
-            outcomeWords(event)));
-        made.hidden = onlyMarked && !isMarked(event);
-        return made;
-      });
-      current = -1;
-      place.replaceChildren(table("events", caption, ["Event", "Hart", "Instruction", "Outcome"],
-        rows));
+    /** Draws the part of the list around a place in it. */
+    function draw(around) {
+      const first = Math.max(0, Math.min(around - MOST_EVENTS / 2, listed.length - MOST_EVENTS));
+      drawn = listed.slice(first, first + MOST_EVENTS);
+      const words = drawn.length === listed.length ? caption
+        : `${caption}: ${first + 1} to ${first + drawn.length} of ${listed.length}`;
+      place.replaceChildren(table("events", words, ["Event", "Hart", "Instruction", "Outcome"],
+        drawn.map((index) => eventRow(events[index], index))));
     }
 
-    function filter(events, onlyMarked) {
-      events.forEach((event, index) => { rows[index].hidden = onlyMarked && !isMarked(event); });
-      anchor();
+    /** Takes these events, or those of them alone that trap or clear a tag. */
+    function show(shown, onlyMarked) {
+      events = shown;
+      listed = events.map((_, index) => index)
+        .filter((index) => !onlyMarked || isMarked(events[index]));
+      draw(0);
+      mark(current);
     }
 
-    /** One button of the list is in the order of the tab key: the current one, else the first. */
-    function anchor() {
-      rows.forEach((made, index) => { if (index !== current) buttonOf(index).tabIndex = -1; });
-      const visible = listed();
-      const chosen = visible.includes(current) ? current : visible[0];
-      if (chosen !== undefined) buttonOf(chosen).tabIndex = 0;
-    }
-
+    /** Makes an event current. One button is in the order of the tab key: its own, or the first. */
     function mark(index) {
-      if (rows[current]) {
-        rows[current].removeAttribute("aria-current");
-        buttonOf(current).tabIndex = -1;
-      }
+      const at = listed.indexOf(index);
+      const isNear = drawn.includes(index) && (drawn.length === listed.length
+        || (index !== drawn[0] && index !== drawn[drawn.length - 1]));
+      if (at >= 0 && !isNear) draw(at);
+      buttonOf(current)?.closest("tr").removeAttribute("aria-current");
+      for (const button of place.querySelectorAll('button[tabindex="0"]')) button.tabIndex = -1;
       current = index;
-      if (!rows[index]) return;
-      rows[index].setAttribute("aria-current", "step");
-      buttonOf(index).tabIndex = 0;
-      keepInSight(place, rows[index]);
+      const chosen = at >= 0 ? buttonOf(index) : place.querySelector("tbody button");
+      if (chosen) chosen.tabIndex = 0;
+      if (at < 0) return;
+      chosen.closest("tr").setAttribute("aria-current", "step");
+      keepInSight(place, chosen.closest("tr"));
     }
 
     place.addEventListener("click", (click) => {
       const made = click.target.closest("tbody tr");
-      if (made) pick(Number(made.querySelector("button").dataset.index));
+      if (made) pick(Number(made.dataset.index));
     });
     place.addEventListener("keydown", (key) => {
       const step = { ArrowUp: -1, ArrowDown: 1 }[key.key];
       if (step === undefined || !key.target.dataset.index) return;
       key.preventDefault();
-      const visible = listed();
-      const next = visible[visible.indexOf(Number(key.target.dataset.index)) + step];
+      const next = listed[listed.indexOf(Number(key.target.dataset.index)) + step];
       if (next === undefined) return;
       pick(next);
       buttonOf(next).focus();
     });
-    return { draw, filter, mark, anchor };
+    return { show, mark };
   }
 
   /** Scrolls a part, and not the page, so that a child of it is seen. */
