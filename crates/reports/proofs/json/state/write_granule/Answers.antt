@@ -1,6 +1,6 @@
 use Rattle.std.proofs.Common.{sym, ◌∙◌}
 use Rattle.reports.proofs.JsonTexts.{granule_written}
-use Rattle.reports.proofs.json.pieces.write_granule.Goals as goal
+use Rattle.reports.proofs.json.state.write_granule.Goals as goal
 
 pub returns-clause-written : goal.returns-clause-written
 returns-clause-written c =
