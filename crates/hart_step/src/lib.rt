@@ -1,17 +1,11 @@
-//! One hart of a CHERI-RISC-V machine, and one step of it: the checks of a fetch, then what the
-//! instruction at PCC asks for.
+//! One step of one hart of a CHERI-RISC-V machine: the checks of a fetch, then what the instruction
+//! at PCC asks for.
 #![tactic(auto)]
 
-mod actions;
 mod checks;
 mod execute;
-mod hart;
-mod integers;
-mod next_pcc;
-mod view;
 
 pub use checks::access::access_check;
 pub use cheri_model::Access;
 pub use execute::step;
-pub use hart::Hart;
-pub use view::View;
+pub use hart::{Hart, View};
