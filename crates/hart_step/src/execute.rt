@@ -26,7 +26,7 @@ use cap_ops::Cap;
 use cheri_model::permission::LOAD_CAP;
 use cheri_model::{Access, Instr, Outcome, Reg, Status, Width};
 use hart::{Hart, at_target, jumped_to, link};
-use instructions::{Action, extended};
+use instructions::{Action, extended, instr_action};
 use tagged_mem::Ram;
 
 /// A loaded number, sign-extended or not.
@@ -296,7 +296,7 @@ pub fn step(program: &[Instr], hart: &mut Hart, ram: &mut Ram) -> Outcome
     let _granules = ram.granule_count();
     match fetch(program, hart.pcc()) {
         Ok(instr) => {
-            execute(Action::of_instr(instr, hart), hart, ram)
+            execute(instr_action(instr, hart), hart, ram)
         }
         Err(trap) => hart.trap(trap),
     }

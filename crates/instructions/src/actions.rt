@@ -115,12 +115,10 @@ fn form_action(form: Form, hart: &Hart) -> Action
     }
 }
 
-impl Action {
-    /// What an instruction asks for, its sources read from a hart.
-    #[tactic(auto, using(cheri_model::proofs::Runs::Instructions::forms_back))]
-    pub fn of_instr(instr: Instr, hart: &Hart) -> Action
-        ensures { action_of result ≡ action instr hart.now }
-    {
-        form_action(instr.form(), hart)
-    }
+/// What an instruction asks for, its sources read from a hart.
+#[tactic(auto, using(cheri_model::proofs::Runs::Instructions::forms_back))]
+pub fn instr_action(instr: Instr, hart: &Hart) -> Action
+    ensures { action_of result ≡ action instr hart.now }
+{
+    form_action(instr.form(), hart)
 }

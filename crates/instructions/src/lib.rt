@@ -4,5 +4,5 @@
 mod actions;
 mod integers;
 
-pub use actions::Action;
-pub use integers::extended;
+pub use actions::{Action, instr_action};
+pub use integers::{extended, immediate, upper_immediate};
