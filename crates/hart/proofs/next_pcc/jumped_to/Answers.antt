@@ -1,7 +1,4 @@
 -- A jump goes through a tagged capability, which unsealed is open with the same bounds.
-use Rattle.std.proofs.Common.{true, sym, subst}
-use Rattle.cap_model.specs.values.CapValue.{CapValue}
-use Rattle.cap_model.specs.results.Addresses.{is_open, in_bounds}
 use Rattle.cheri_model.proofs.Runs.Advances.{unsealed_is_open, in_bounds-unsealed}
 use Rattle.hart.proofs.next_pcc.jumped_to.Goals as goal
 

@@ -1,5 +1,5 @@
 -- PCC keeps its tag four bytes on, so what CSetAddr gives is PCC with that address.
-use Rattle.std.proofs.Common.{◌≡◌, ◌+◌, ◌%◌, ◌^◌, ap, ◌∙◌}
+use Rattle.std.proofs.Common.{◌+◌, ◌%◌, ◌^◌, ap, ◌∙◌}
 use Rattle.cap_model.specs.results.Addresses.{set_address}
 use Rattle.cheri_model.proofs.Runs.Advances.{following_is}
 use Rattle.hart.proofs.next_pcc.next_pcc.Goals as goal
