@@ -4,7 +4,7 @@ ghost use Rattle.std.specs.Prelude.{◌≡◌, ◌+◌, ◌||◌, ◌++◌, code
 ghost use Rattle.std.specs.Io.KnownBytes.{Appends};
 ghost use Rattle.cheri_model.specs.runs.ImageForm.{is_listed};
 ghost use Rattle.cheri_model.specs.steps.Memory.{IsMemory};
-ghost use Rattle.hart_step.specs.View.{state_of};
+ghost use Rattle.hart.specs.View.{state_of};
 ghost use Rattle.report_lines.specs.EventData.{image_data};
 ghost use Rattle.reports.specs.Json.{json_report};
 ghost use Rattle.reports.specs.JsonText.{event_item, events_part, granule_member};
@@ -18,7 +18,7 @@ use super::hart_json;
 use crate::report::version_of;
 use cap_ops::Cap;
 use cheri_model::{Event, Image, NoMemory};
-use hart_step::{Hart, View};
+use hart::{Hart, View};
 use itoa::Buffer;
 use report_lines::{granule_address, image_json, is_listed, value_json, write_comma};
 use report_lines::{write_event_json, write_json_value};
