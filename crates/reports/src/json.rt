@@ -1,7 +1,7 @@
 //! The JSON report: what the report shows, for scripts.
 
 ghost use Rattle.std.specs.Prelude.{◌≡◌, IfOk, string_bytes};
-ghost use Rattle.hart_step.specs.View.{state_of};
+ghost use Rattle.hart.specs.View.{state_of};
 ghost use Rattle.reports.specs.Json.{events_data, hart_data, harts_data, json_report};
 ghost use Rattle.reports.specs.Json.{memory_data, put_registers};
 ghost use Rattle.serde_json.specs.Data.{no_members, object};
@@ -13,7 +13,7 @@ pub mod state;
 
 use crate::report::version_of;
 use cheri_model::{Event, NoMemory, Reg, Status, Trap};
-use hart_step::{Hart, View};
+use hart::{Hart, View};
 use report_lines::{event_json, image_json, put_granule, put_register, value_json};
 use serde_json::{Map, Value, json};
 use std::alloc::Global;

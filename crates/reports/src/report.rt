@@ -2,7 +2,7 @@
 
 ghost use Rattle.std.specs.Prelude.{◌≡◌, ◌+◌, ◌++◌, OnOk, string_bytes};
 ghost use Rattle.std.specs.Io.KnownBytes.{Appends};
-ghost use Rattle.hart_step.specs.View.{state_of};
+ghost use Rattle.hart.specs.View.{state_of};
 ghost use Rattle.report_lines.specs.Lines.{event_line};
 ghost use Rattle.report_lines.specs.Texts.{numbered};
 ghost use Rattle.reports.specs.Report.{head_lines, report, shown_lines, title_line, version_of};
@@ -11,7 +11,7 @@ ghost use Rattle.sinks.specs.WriteFaults.{failures_of};
 
 use crate::state::{put_granules, put_harts};
 use cheri_model::{Event, NoMemory};
-use hart_step::View;
+use hart::View;
 use report_lines::{write_count_line, write_event_line, write_image_line};
 use sinks::{PIECE, Sink, WriteFault, make_room, put_whole};
 use std::alloc::Global;

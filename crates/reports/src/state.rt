@@ -8,7 +8,7 @@ ghost use Rattle.sinks.specs.Sinks.{TakesAllBut, TakesBeginning};
 ghost use Rattle.sinks.specs.WriteFaults.{failures_of};
 
 use cheri_model::{NoMemory, Reg};
-use hart_step::Hart;
+use hart::Hart;
 use report_lines::{write_granule_line, write_pcc_line, write_register_line, write_status_line};
 use sinks::{Sink, WriteFault, make_room};
 use tagged_mem::Ram;

@@ -8,7 +8,7 @@
 
 ghost use Rattle.std.specs.Prelude.{◌≡◌, ◌+◌, ◌++◌, OnOk, string_bytes};
 ghost use Rattle.std.specs.Io.KnownBytes.{Appends};
-ghost use Rattle.hart_step.specs.View.{state_of};
+ghost use Rattle.hart.specs.View.{state_of};
 ghost use Rattle.report_lines.specs.EventData.{event_data};
 ghost use Rattle.report_lines.specs.JsonText.{item_text};
 ghost use Rattle.reports.specs.Json.{events_data, json_report};
@@ -21,7 +21,7 @@ ghost use Rattle.sinks.specs.WriteFaults.{failures_of};
 use super::state::{put_granules_json, put_harts_json};
 use crate::report::version_of;
 use cheri_model::{Event, Image, NoMemory};
-use hart_step::{Hart, View};
+use hart::{Hart, View};
 use itoa::Buffer;
 use report_lines::{image_json, write_comma, write_event_json, write_json_value};
 use sinks::{PIECE, Sink, WriteFault, make_room, put_whole};

@@ -19,7 +19,7 @@ ghost use Rattle.sinks.specs.WriteFaults.{failures_of};
 use super::hart_json;
 use cap_ops::Cap;
 use cheri_model::NoMemory;
-use hart_step::Hart;
+use hart::Hart;
 use itoa::Buffer;
 use report_lines::{granule_address, is_listed, value_json, write_comma, write_json_value};
 use sinks::{Sink, WriteFault, make_room};
