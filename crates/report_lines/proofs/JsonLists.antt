@@ -1,7 +1,6 @@
 -- The text of a list in JSON is that of its items, between brackets; and a text between brackets, as a sink takes it.
 use Rattle.std.proofs.Common.{◌≡◌, ℕ, ◌+◌, ◌<◌, nat_lt, true, List, [], ◌∷◌, ◌++◌, Option, map, refl, ap, ◌∙◌, append_assoc, arith}
 use Rattle.std.proofs.lemmas.Bool.{lt-ltb}
-use Rattle.serde_json.proofs.OnLiterals.{serde_json_on_literals}
 use Rattle.serde_json.specs.Data.{Data, array}
 use Rattle.serde_json.specs.View.{items_of}
 use Rattle.serde_json.specs.Written.{compact_text, items_text}
@@ -21,7 +20,6 @@ items_are data_of number (x ∷ rest) =
 
 pub list_text : {X : Type 0} (data_of : X → Data) (xs : List X)
     → compact_text (array (items_of (map data_of xs))) ≡ 91 ∷ (numbered (item_text data_of) 0 xs ++ 93 ∷ [])
-unfolding serde_json_on_literals
 list_text data_of xs = ap (λ (l : List ℕ). 91 ∷ l) (items_are data_of 0 xs)
 
 -- a text between brackets is kept after `out`: its opening one first, and its closing one at the end

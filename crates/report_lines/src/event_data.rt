@@ -2,34 +2,65 @@
 
 #![tactic(auto, unfolding(crate::proofs::Open::events))]
 
-ghost use Rattle.std.specs.Prelude.{◌≡◌, IfOk};
+ghost use Rattle.std.specs.Prelude.{◌≡◌, IfOk, string_bytes};
 ghost use Rattle.cheri_model.specs.declared.operation.Event.TheVariants as event;
+ghost use Rattle.serde_json.specs.Data.{string};
 ghost use Rattle.serde_json.specs.View.{members_view, view as data_of};
-ghost use Rattle.report_lines.specs.EventData.{event_data, event_members, image_data};
+ghost use Rattle.report_lines.specs.EventData.{ended_members, event_data, event_members};
+ghost use Rattle.report_lines.specs.EventData.{image_data, trapped_members};
+ghost use Rattle.report_lines.specs.ValueData.{count};
 
 use crate::digits::{Hex, HexWord};
 use cheri_model::{Entry, Event, Image, NoMemory, Outcome, Trap};
 use serde_json::{Map, Value, json, put};
 use std::alloc::Global;
 
+/// The members of a step without a trap, by the word for how it ended.
+fn ended_members(
+    alloc: Global,
+    hart: u8,
+    pc: String,
+    word: &str,
+) -> Result<Map<String, Value>, NoMemory>
+    ensures { IfOk result (λ m. members_view m.entries
+        ≡ ended_members (count hart) (string (string_bytes pc)) word.now) }
+{
+    let mut members = Map::new(alloc);
+    put(&mut members, alloc, "hart", Value::from(hart))?;
+    put(&mut members, alloc, "outcome", Value::try_from_str(alloc, word)?)?;
+    put(&mut members, alloc, "pc", Value::from(pc))?;
+    Ok(members)
+}
+
+/// The members of a step that trapped.
+fn trapped_members(
+    alloc: Global,
+    hart: u8,
+    pc: String,
+    trap: Trap,
+) -> Result<Map<String, Value>, NoMemory>
+    ensures { IfOk result (λ m. members_view m.entries
+        ≡ trapped_members (count hart) (string (string_bytes pc)) trap) }
+{
+    let mut members = Map::new(alloc);
+    put(&mut members, alloc, "cause", Value::from(trap.cause))?;
+    put(&mut members, alloc, "hart", Value::from(hart))?;
+    put(&mut members, alloc, "outcome", Value::try_from_str(alloc, "trap")?)?;
+    put(&mut members, alloc, "pc", Value::from(pc))?;
+    put(&mut members, alloc, "reg", Value::from(trap.reg))?;
+    Ok(members)
+}
+
 /// The members of a step.
 fn step_members(alloc: Global, entry: &Entry) -> Result<Map<String, Value>, NoMemory>
     ensures { IfOk result (λ m. members_view m.entries ≡ event_members (event.Step entry.now)) }
 {
     let pc = HexWord(entry.pc).to_string(alloc)?;
-    let mut members = Map::new(alloc);
-    put(&mut members, alloc, "hart", Value::from(entry.hart))?;
-    put(&mut members, alloc, "pc", Value::String(pc))?;
     match entry.outcome {
-        Outcome::Done => put(&mut members, alloc, "outcome", json!(in alloc; "done")?)?,
-        Outcome::Halt => put(&mut members, alloc, "outcome", json!(in alloc; "halt")?)?,
-        Outcome::Trap(Trap { cause, reg }) => {
-            put(&mut members, alloc, "outcome", json!(in alloc; "trap")?)?;
-            put(&mut members, alloc, "cause", Value::from(cause))?;
-            put(&mut members, alloc, "reg", Value::from(reg))?;
-        }
+        Outcome::Done => ended_members(alloc, entry.hart, pc, "done"),
+        Outcome::Halt => ended_members(alloc, entry.hart, pc, "halt"),
+        Outcome::Trap(trap) => trapped_members(alloc, entry.hart, pc, trap),
     }
-    Ok(members)
 }
 
 /// The members of a sweep.
@@ -46,9 +77,9 @@ fn sweep_members(
     let hi = Hex::of_top(hi).to_string(alloc)?;
     let mut members = Map::new(alloc);
     put(&mut members, alloc, "cleared", Value::from(cleared))?;
-    put(&mut members, alloc, "hi", Value::String(hi))?;
-    put(&mut members, alloc, "lo", Value::String(lo))?;
-    put(&mut members, alloc, "outcome", json!(in alloc; "sweep")?)?;
+    put(&mut members, alloc, "hi", Value::from(hi))?;
+    put(&mut members, alloc, "lo", Value::from(lo))?;
+    put(&mut members, alloc, "outcome", Value::try_from_str(alloc, "sweep")?)?;
     Ok(members)
 }
 
@@ -66,7 +97,7 @@ pub fn event_members(alloc: Global, event: &Event) -> Result<Map<String, Value>,
 pub fn event_json(alloc: Global, event: &Event) -> Result<Value, NoMemory>
     ensures { IfOk result (λ v. data_of v ≡ event_data event.now) }
 {
-    Ok(Value::Object(event_members(alloc, event)?))
+    Ok(Value::from(event_members(alloc, event)?))
 }
 
 /// What a machine starts from, in JSON: how many instructions, harts and bytes of RAM.

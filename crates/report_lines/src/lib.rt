@@ -19,4 +19,4 @@ pub use lines::{write_count_line, write_event_line, write_granule_line, write_im
 pub use lines::{write_pcc_line, write_register_line, write_status_line};
 pub use names::{CauseName, PlaceName, granule_address};
 pub use value_data::{put_granule, put_register, value_json, value_members};
-pub use value_text::{TypeText, ValueText, Word, is_listed};
+pub use value_text::{TypeText, ValueText, Word, is_listed, write_value};

@@ -30,12 +30,12 @@ fn capability_members(
         (string_bytes perms) (string_bytes top) (string_bytes otype) (string_bytes word)) }
 {
     let mut members = Map::new(alloc);
-    put(&mut members, alloc, "base", Value::String(base))?;
-    put(&mut members, alloc, "perms", Value::String(perms))?;
-    put(&mut members, alloc, "tag", Value::Bool(true))?;
-    put(&mut members, alloc, "top", Value::String(top))?;
-    put(&mut members, alloc, "type", Value::String(otype))?;
-    put(&mut members, alloc, "word", Value::String(word))?;
+    put(&mut members, alloc, "base", Value::from(base))?;
+    put(&mut members, alloc, "perms", Value::from(perms))?;
+    put(&mut members, alloc, "tag", Value::from(true))?;
+    put(&mut members, alloc, "top", Value::from(top))?;
+    put(&mut members, alloc, "type", Value::from(otype))?;
+    put(&mut members, alloc, "word", Value::from(word))?;
     Ok(members)
 }
 
@@ -44,8 +44,8 @@ fn untagged_members(alloc: Global, word: String) -> Result<Map<String, Value>, N
     ensures { IfOk result (λ m. members_view m.entries ≡ untagged_members (string_bytes word)) }
 {
     let mut members = Map::new(alloc);
-    put(&mut members, alloc, "tag", Value::Bool(false))?;
-    put(&mut members, alloc, "word", Value::String(word))?;
+    put(&mut members, alloc, "tag", Value::from(false))?;
+    put(&mut members, alloc, "word", Value::from(word))?;
     Ok(members)
 }
 
@@ -69,7 +69,7 @@ pub fn value_members(alloc: Global, held: Cap) -> Result<Map<String, Value>, NoM
 pub fn value_json(alloc: Global, held: Cap) -> Result<Value, NoMemory>
     ensures { IfOk result (λ v. data_of v ≡ value_data held) }
 {
-    Ok(Value::Object(value_members(alloc, held)?))
+    Ok(Value::from(value_members(alloc, held)?))
 }
 
 /// Puts a register under its name, unless it is null.

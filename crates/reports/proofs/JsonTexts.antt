@@ -126,7 +126,6 @@ granules_are number (v ∷ rest) members before most = elim (cases_Bool (is_list
 
 pub memory_text : (memory : List CapValue) → length memory ≤ 65536
     → compact_text (memory_data memory) ≡ 123 ∷ (granule_members false 0 memory ++ 125 ∷ [])
-unfolding serde_json_on_literals
 memory_text memory most = ap (λ (l : List ℕ). 123 ∷ l) (granules_are 0 memory no_members tt (omega arith))
 
 -- a report's parts, regrouped by what is written after one another
