@@ -1,5 +1,5 @@
 -- Why a step trapped, by the trap's cause.
-use Rattle.std.specs.Prelude.{ℕ, ◌==◌, Bool, true, false, if◌then◌else◌, Option, Some, None}
+use Rattle.std.specs.Prelude.{ℕ, ◌==◌, nat_lt, Bool, true, false, if◌then◌else◌, Option, Some, None}
 use Rattle.cap_model.specs.declared.permission.TheConstants as permission
 use Rattle.cap_model.specs.values.CapValue.{CapValue}
 use Rattle.cap_model.specs.results.Addresses.{address_of, has_permission}
@@ -11,7 +11,7 @@ use Rattle.cheri_model.specs.declared.trace.TheConstants.Trap as cause
 use Rattle.cheri_model.specs.declared.instr.Instr.{Instr}
 use Rattle.cheri_model.specs.declared.instr.Instr.TheVariants as instr
 use Rattle.cheri_model.specs.steps.Memory.{bytes_of}
-use Rattle.cheri_model.specs.steps.Hart.{HartState, register}
+use Rattle.cheri_model.specs.steps.Hart.{HartState, null, register}
 use Rattle.cheri_model.specs.steps.Actions.{Action, Put, Load, Store, LoadCap, StoreCap, Swap}
 use Rattle.cheri_model.specs.steps.Actions.{Branch, Jump, JumpThrough, Invoke, Halt, action}
 use Rattle.origins.specs.declared.place.Spot.{Spot}
@@ -21,12 +21,13 @@ use Rattle.facts.specs.declared.why.TrapWhy.{TrapWhy}
 use Rattle.facts.specs.declared.why.TrapWhy.TheVariants as why
 use Rattle.facts.specs.Names.{extent}
 
--- the register that a trap names, and what is in it
+-- the register that a trap names, and what is in it: null where there is no such register
 abbrev pub name_of : ℕ → Spot
 name_of reg = if reg == cause.PCC then Pcc else Register reg
 
 abbrev pub named_by : HartState → ℕ → CapValue
-named_by hart reg = if reg == cause.PCC then hart.pcc else register hart reg
+named_by hart reg =
+    if reg == cause.PCC then hart.pcc else if nat_lt reg 32 then register hart reg else null
 
 -- the bytes that an action's checks are about: those of an access, or the instruction at a target
 unfoldable pub checked_by : Action → Extent

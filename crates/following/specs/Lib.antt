@@ -1,0 +1,2 @@
+-- A run that is followed.
+pub mod Following
