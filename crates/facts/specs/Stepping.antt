@@ -9,7 +9,7 @@ use Rattle.cheri_model.specs.declared.instr.Instr.{Instr}
 use Rattle.cheri_model.specs.declared.trace.Outcome.{Outcome}
 use Rattle.cheri_model.specs.declared.trace.Outcome.TheVariants as outcome
 use Rattle.cheri_model.specs.instructions.Form.{form_of}
-use Rattle.hart_step.specs.Actions.{action_of}
+use Rattle.instructions.specs.Actions.{action_of}
 use Rattle.origins.specs.declared.place.Place.{Place}
 use Rattle.origins.specs.Origins.{Origins}
 use Rattle.origins.specs.Table.{Table, IsPlace, origin_in}

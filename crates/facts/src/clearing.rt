@@ -5,7 +5,7 @@ ghost use Rattle.std.specs.Prelude.{◌≡◌, ◌==◌, ◌&&◌, ◌||◌, not
 ghost use Rattle.std.specs.Option.{option_map};
 ghost use Rattle.cap_model.specs.values.CapValue.{tag_of};
 ghost use Rattle.cheri_model.specs.steps.Actions.{action};
-ghost use Rattle.hart_step.specs.Actions.{action_of};
+ghost use Rattle.instructions.specs.Actions.{action_of};
 ghost use Rattle.facts.specs.Operands.{model_of, model_op};
 ghost use Rattle.facts.specs.Losses.{
   why_lost,
@@ -26,7 +26,8 @@ use crate::step_facts::{Cleared, NamedValue};
 use crate::why::Why;
 use cheri_model::permission::LOAD_CAP;
 use cheri_model::{Instr, Reg};
-use hart_step::{Action, Hart};
+use hart::Hart;
+use instructions::Action;
 
 /// The first reason for a result without a tag.
 fn why_lost(op: CapOp, o: &Operands) -> Option<Why>

@@ -36,7 +36,7 @@ use crate::step_facts::{Extent, StepFacts, Trapped, UpToTwo};
 use crate::stepping::{Seen, each_named, found_at};
 use crate::trapping::trap_why;
 use cheri_model::{Entry, Instr, Outcome, Trap};
-use hart_step::Hart;
+use hart::Hart;
 use origins::{OriginTable, StepFlows, flows};
 use tagged_mem::Ram;
 

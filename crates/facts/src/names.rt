@@ -3,7 +3,7 @@
 
 ghost use Rattle.std.specs.Prelude.{◌≡◌, ℕ, ◌+◌, ◌^◌, ◌<◌};
 ghost use Rattle.cheri_model.specs.steps.Memory.{ram_base};
-ghost use Rattle.hart_step.specs.Actions.{action_of};
+ghost use Rattle.instructions.specs.Actions.{action_of};
 ghost use Rattle.origins.specs.Flows.{granule_of, IsSpot};
 ghost use Rattle.facts.specs.Names.{
   EachIs,
@@ -21,7 +21,7 @@ use crate::operands::register;
 use crate::step_facts::{Extent, UpToTwo};
 use cheri_model::form::{Form, LoadOp, UpperOp};
 use cheri_model::{GRANULE_BYTES, RAM_BASE, Reg};
-use hart_step::Action;
+use instructions::Action;
 use origins::Spot;
 
 /// The register that CInvoke leaves the data in.

@@ -17,7 +17,8 @@ ghost use Rattle.cheri_model.specs.declared.instr.Instr.TheVariants.{CSetBoundsI
 use cap_ops::Cap;
 use cheri_model::form::{Form, ImmediateOp, ThreeOp, TwoOp, UpperOp};
 use cheri_model::Reg;
-use hart_step::{Hart, immediate, upper_immediate};
+use hart::Hart;
+use instructions::{immediate, upper_immediate};
 use origins::Spot;
 
 /// An instruction that makes a capability from one that it reads; an immediate form is the form on

@@ -18,7 +18,9 @@ use crate::names::{access_of, granule_at, reads_of};
 use crate::step_facts::{Extent, Fetched, NamedValue, UpToTwo};
 use cap_ops::Cap;
 use cheri_model::{CODE_BASE, INSTRUCTION_BYTES, Instr, Reg};
-use hart_step::{Action, Hart, fetch, instr_action};
+use hart::Hart;
+use hart_step::fetch;
+use instructions::{Action, instr_action};
 use origins::{OriginTable, Place, Spot};
 use tagged_mem::Ram;
 

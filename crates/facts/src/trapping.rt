@@ -2,7 +2,7 @@
 #![tactic(auto, unfolding(crate::proofs::Open::traps))]
 
 ghost use Rattle.std.specs.Prelude.{◌≡◌};
-ghost use Rattle.hart_step.specs.Actions.{action_of};
+ghost use Rattle.instructions.specs.Actions.{action_of};
 ghost use Rattle.facts.specs.Traps.{
   name_of,
   named_by,
@@ -25,7 +25,8 @@ use crate::why::TrapWhy;
 use cap_ops::Cap;
 use cheri_model::permission::{CINVOKE, EXECUTE, LOAD, STORE};
 use cheri_model::{INSTRUCTION_BYTES, Instr, OType, Reg, Trap};
-use hart_step::{Action, Hart, instr_action};
+use hart::Hart;
+use instructions::{Action, instr_action};
 use origins::Spot;
 
 /// The register that a trap names.

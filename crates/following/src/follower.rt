@@ -4,7 +4,7 @@ ghost use Rattle.std.specs.Prelude.{◌≡◌, ◌↔◌, IfOk, OnErr, Err, None
 ghost use Rattle.cheri_model.specs.steps.HartStep.{hart_step};
 ghost use Rattle.cheri_model.specs.runs.Machine.{hart_at};
 ghost use Rattle.cores.specs.Cores.{CoreParts, IsCore, opening_core, is_limit, refused, applied, core_after};
-ghost use Rattle.hart_step.specs.View.{state_of};
+ghost use Rattle.hart.specs.View.{state_of};
 ghost use Rattle.origins.specs.Table.{IsOpening, IsPlace, Table};
 ghost use Rattle.following.specs.Following.{
   IsFollowed,
@@ -16,7 +16,7 @@ ghost use Rattle.following.specs.Following.{
 use cheri_model::{Image, NoMemory, Op, Outcome};
 use cores::{BootFault, Core, StepFault};
 use facts::{StepFacts, after_step, before_step, flows_of_step};
-use hart_step::{Hart, View};
+use hart::Hart;
 use origins::{OriginTable, Place};
 use std::alloc::Global;
 use std::marker::Model;

@@ -1,7 +1,7 @@
 use Rattle.std.proofs.Common.{sym, ◌∙◌, ap}
 use Rattle.cheri_model.specs.instructions.Form.{instr_of}
 use Rattle.cheri_model.proofs.Runs.Instructions.{instr_of-form_of}
-use Rattle.hart_step.specs.Actions.{action_of}
+use Rattle.instructions.specs.Actions.{action_of}
 use Rattle.facts.specs.Operands.{derivation_of}
 use Rattle.facts.proofs.Derived.{put_clears}
 use Rattle.facts.proofs.clearing.clears_of.Goals as goal
