@@ -10,3 +10,6 @@ pub mod Built
 pub mod Derived
 pub mod Written
 pub mod Exact
+pub mod TrapsSo
+pub mod SweptPlaces
+pub mod Links

@@ -14,6 +14,7 @@ use Rattle.cheri_model.specs.instructions.Form.{word_shift_instr}
 use Rattle.cheri_model.specs.steps.Actions.{Action}
 use Rattle.cheri_model.specs.steps.Hart.{HartState, register}
 use Rattle.cheri_model.specs.declared.trace.Trap.{Trap}
+use Rattle.origins.specs.declared.place.Place.{Place}
 use Rattle.origins.specs.declared.place.Spot.{Spot}
 use Rattle.origins.specs.Origins.{Origins}
 use Rattle.facts.specs.declared.operands.Operands.{Operands}
@@ -26,8 +27,9 @@ use Rattle.facts.specs.declared.why.TrapWhy.{TrapWhy}
 use Rattle.facts.specs.Names.{reads_of, sets_of}
 use Rattle.facts.specs.Operands.{Derivation, derivation_of}
 use Rattle.facts.specs.Losses.{first_why, why_of, why_lost, lost, clears_of}
-use Rattle.facts.specs.Traps.{checked_by, access_why, trap_why}
+use Rattle.facts.specs.Traps.{checked_by, access_why, why_of_cause, trap_why}
 use Rattle.facts.specs.StepFacts.{fetched_of, named_at}
+use Rattle.facts.specs.EventFacts.{swept_in_hart, swept_places}
 
 unfoldable pub names : Form → Action → UpToTwo Spot
 unfolding reads_of sets_of
@@ -51,7 +53,7 @@ unfolding lost clears_of why_lost first_why why_of reasons
 clearing op o = lost op o
 
 unfoldable pub traps : Option Instr → HartState → Trap → TrapWhy
-unfolding trap_why access_why checked_by register
+unfolding why_of_cause access_why checked_by register
 traps fetched hart trap = trap_why fetched hart trap
 
 unfoldable pub fetching : List Instr → CapValue → Option Fetched
@@ -62,3 +64,8 @@ fetching program pcc = fetched_of program pcc
 unfoldable pub stepping : HartState → List CapValue → Origins → ℕ → Spot → NamedValue
 unfolding named_at
 stepping hart memory origins number spot = named_at hart memory origins number spot
+
+-- what a sweep clears
+unfoldable pub sweeping : ℕ → ℕ → ℕ → HartState → List Place
+unfolding swept_in_hart swept_places
+sweeping lo hi number hart = swept_in_hart lo hi number hart

@@ -8,3 +8,4 @@ pub mod StepFacts
 pub mod EventFacts
 pub mod Stepping
 pub mod ClearsLaw
+pub mod TrapsLaw

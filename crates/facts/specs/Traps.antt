@@ -93,16 +93,19 @@ access_why number name stored bytes otherwise =
     else if number == cause.CINVOKE then why.Lacks name permission.CINVOKE
     else otherwise
 
--- why a step of this hart trapped, in its fetch or in the instruction that was fetched
-unfoldable pub trap_why : Option Instr → HartState → Trap → TrapWhy
-trap_why fetched hart trap =
-    let name = name_of trap.reg in
-    let v = named_by hart trap.reg in
+-- why a step of this hart trapped by a cause, which speaks of this register and its value
+unfoldable pub why_of_cause : Option Instr → HartState → ℕ → Spot → CapValue → TrapWhy
+why_of_cause fetched hart number name v =
     let bytes = checked_bytes fetched hart in
-    if trap.cause == cause.TAG then why.Untagged name
-    else if trap.cause == cause.SEAL then not_invocable (is_invoke fetched) name v
-    else if trap.cause == cause.EXECUTE then execute_why name v
-    else if trap.cause == cause.LENGTH then outside bytes name v
-    else if trap.cause == cause.ALIGNMENT then why.Misaligned bytes.address bytes.bytes
-    else if trap.cause == cause.FETCH then why.NoInstruction bytes.address
-    else access_why trap.cause name (stored_by fetched) bytes (types_differ fetched hart)
+    if number == cause.TAG then why.Untagged name
+    else if number == cause.SEAL then not_invocable (is_invoke fetched) name v
+    else if number == cause.EXECUTE then execute_why name v
+    else if number == cause.LENGTH then outside bytes name v
+    else if number == cause.ALIGNMENT then why.Misaligned bytes.address bytes.bytes
+    else if number == cause.FETCH then why.NoInstruction bytes.address
+    else access_why number name (stored_by fetched) bytes (types_differ fetched hart)
+
+-- the same of a trap, in its fetch or in the instruction that was fetched
+abbrev pub trap_why : Option Instr → HartState → Trap → TrapWhy
+trap_why fetched hart trap =
+    why_of_cause fetched hart trap.cause (name_of trap.reg) (named_by hart trap.reg)

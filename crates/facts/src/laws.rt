@@ -1,13 +1,18 @@
 //! The laws of facts: each function's contract is one law, and the function does nothing.
 
-ghost use Rattle.std.specs.Prelude.{◌≡◌, ℕ, ◌≤◌, List, Some, true, is_some, is_none};
+ghost use Rattle.std.specs.Prelude.{◌≡◌, ℕ, ◌≤◌, List, Some, Ok, true, length, is_some, is_none};
 ghost use Rattle.cap_model.specs.values.CapValue.{CapValue, IsLawfulValue, tag_of};
 ghost use Rattle.cap_model.specs.results.CapInstructions.{CapInstruction, capability_result};
 ghost use Rattle.cap_model.specs.results.Readings.{base_of, top_of};
 ghost use Rattle.cap_model.specs.results.Rebuilt.{are_aligned};
 ghost use Rattle.cheri_model.specs.declared.instr.Instr.{Instr};
-ghost use Rattle.cheri_model.specs.steps.Hart.{HartState};
+ghost use Rattle.cap_model.specs.results.Seals.{unsealed};
+ghost use Rattle.cheri_model.specs.steps.Hart.{HartState, link};
+ghost use Rattle.cheri_model.specs.steps.Checks.{first_failing, fetch_table};
+ghost use Rattle.cheri_model.specs.declared.trace.Trap.{Trap};
+ghost use Rattle.cheri_model.specs.declared.trace.Outcome.TheVariants as outcome;
 ghost use Rattle.cheri_model.specs.steps.Actions.{action};
+ghost use Rattle.cheri_model.specs.steps.HartStep.{hart_step};
 ghost use Rattle.cheri_model.specs.runs.Authority.{EachOfHart};
 ghost use Rattle.origins.specs.Origins.{Origins};
 ghost use Rattle.facts.specs.declared.operands.Operands.{Operands};
@@ -15,6 +20,7 @@ ghost use Rattle.facts.specs.declared.why.Why.{Why};
 ghost use Rattle.facts.specs.Operands.{derivation_of};
 ghost use Rattle.facts.specs.Losses.{why_lost, clears_of};
 ghost use Rattle.facts.specs.ClearsLaw.{loses_tag, found_by, IsReason, IsWritten};
+ghost use Rattle.facts.specs.TrapsLaw.{IsTrapSo, ReadsRegisters, step_trap_why};
 
 /// A result is tagged exactly where there is no reason for it to have no tag.
 pub fn tags_are_kept_without_reasons()
@@ -49,4 +55,20 @@ pub fn cleared_tags_are_said()
 pub fn rebuilt_bounds_are_aligned()
     ensures { (v w : CapValue) → IsLawfulValue v → IsLawfulValue w → tag_of v ≡ true →
         top_of w ≤ top_of v → are_aligned (base_of w) (top_of w) ≡ true }
+{}
+
+/// The reason for a trap is so: what it claims holds of the hart and the memory before the step.
+pub fn trap_reasons_are_so()
+    ensures { (program : List Instr) (hart : HartState) (memory : List CapValue) (trap : Trap) →
+        ReadsRegisters program hart →
+        (hart_step program hart memory).outcome ≡ outcome.Trap trap →
+        IsTrapSo (length program) hart memory (step_trap_why program hart trap) }
+{}
+
+/// No other value loses a tag: the link of a jump whose fetch passed has one, and what is unsealed,
+/// as PCC and the data of CInvoke are, keeps its own.
+pub fn links_and_unsealed_values_keep_tags()
+    ensures link { (pcc : CapValue) (count : ℕ) → first_failing (fetch_table pcc count) ≡ Ok tt →
+        tag_of (link pcc) ≡ true }
+    ensures unsealed { (v : CapValue) → tag_of (unsealed v) ≡ tag_of v }
 {}

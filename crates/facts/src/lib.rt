@@ -10,10 +10,12 @@ mod names;
 mod operands;
 mod step_facts;
 mod stepping;
+mod sweeping;
 mod trapping;
 mod why;
 
 pub use finishing::{after_step, flows_of_step};
 pub use step_facts::{Cleared, Extent, Fetched, NamedValue, StepFacts, Trapped, UpToTwo};
 pub use stepping::{Seen, before_step};
+pub use sweeping::swept_places;
 pub use why::{TrapWhy, Why};

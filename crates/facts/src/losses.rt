@@ -340,12 +340,11 @@ fn not_encodable(o: &Operands) -> Option<Why>
     ensures { result ≡ why_lost cap.CBuildCap o.now }
 {
     // The clauses of the bounds say that both values are lawful.
-    let source = o.v.bounds();
+    let _source = o.v.bounds();
     let (base, top) = o.w.bounds();
     if o.v.build(o.w).tag() {
         return None;
     }
-    let _ = source;
     Some(outside_region(base, top, o.w.addr()))
 }
 

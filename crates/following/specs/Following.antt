@@ -4,16 +4,17 @@ use Rattle.std.specs.Prelude.{◌≡◌, ℕ, ◌+◌, ◌*◌, List, length, Re
 use Rattle.cheri_model.specs.declared.operation.Op.TheVariants as operation
 use Rattle.cheri_model.specs.runs.Replay.{operations_of}
 use Rattle.cores.specs.declared.faults.StepFault.{StepFault}
-use Rattle.cores.specs.Cores.{CoreParts, refused, unless_refused}
+use Rattle.cores.specs.Cores.{CoreParts, IsCore, refused, unless_refused}
 use Rattle.origins.specs.declared.place.Place.{Place}
 use Rattle.origins.specs.Origins.{Origins, replayed_origins}
-use Rattle.origins.specs.Table.{Table, TellsOrigins}
+use Rattle.origins.specs.Table.{Table, IsPlaceIn, TellsOrigins}
 use Rattle.facts.specs.declared.step_facts.StepFacts.{StepFacts}
 use Rattle.facts.specs.StepFacts.{step_facts}
 use Rattle.facts.specs.EventFacts.{swept_places}
 
--- the table has every place of the core's machine, and tells where its value is from
+-- it is a core, whose machine's places the table has, and it tells where their values are from
 pub record IsFollowed (core : CoreParts) (table : Table) : Type 0 where
+  pub kept : IsCore core
   pub harts : table.harts ≡ length core.state.harts
   pub size : length table.slots ≡ 33 * table.harts + length core.state.memory
   pub tells : TellsOrigins core.image (operations_of core.trace) table
@@ -33,3 +34,9 @@ next_swept core lo hi = swept_places lo hi core.state
 abbrev pub answered_facts : CoreParts → ℕ → Result StepFacts StepFault
 answered_facts core hart =
     unless_refused (refused core (operation.Step hart)) (next_facts core hart)
+
+-- a place of the core's machine
+abbrev pub IsPlaceOf : CoreParts → Place → Type 0
+IsPlaceOf core place =
+    IsPlaceIn (length core.state.harts)
+    (33 * length core.state.harts + length core.state.memory) place

@@ -2,6 +2,8 @@
 //! that it came from, so that each operation can answer its facts.
 #![tactic(auto)]
 
+mod fault;
 mod follower;
 
+pub use fault::SweepFault;
 pub use follower::Follower;

@@ -25,5 +25,5 @@ returns-then-tag c =
 
 pub returns : goal.returns
 returns c =
-    ap (λ why. Some why) (c.outside_region.ensures)
-    ∙ last_line c.args.o.now c.bounds-source.ensures.lawful c.bounds-base.ensures.lawful c.requires (ap (λ v. tag_of v) (sym c.build.ensures) ∙ sym c.tag.ensures.value ∙ c.if-tag.false)
+    rw (c.outside_region.ensures, c.bounds-base.ensures.base, c.bounds-base.ensures.top, c.addr.ensures.integer)
+    (last_line c.args.o.now c.bounds-source.ensures.lawful c.bounds-base.ensures.lawful c.requires (ap (λ v. tag_of v) (sym c.build.ensures) ∙ sym c.tag.ensures.value ∙ c.if-tag.false))
