@@ -27,7 +27,12 @@ fn ended_members(
 {
     let mut members = Map::new(alloc);
     put(&mut members, alloc, "hart", Value::from(hart))?;
-    put(&mut members, alloc, "outcome", Value::try_from_str(alloc, word)?)?;
+    put(
+        &mut members,
+        alloc,
+        "outcome",
+        Value::try_from_str(alloc, word)?,
+    )?;
     put(&mut members, alloc, "pc", Value::from(pc))?;
     Ok(members)
 }
@@ -45,7 +50,12 @@ fn trapped_members(
     let mut members = Map::new(alloc);
     put(&mut members, alloc, "cause", Value::from(trap.cause))?;
     put(&mut members, alloc, "hart", Value::from(hart))?;
-    put(&mut members, alloc, "outcome", Value::try_from_str(alloc, "trap")?)?;
+    put(
+        &mut members,
+        alloc,
+        "outcome",
+        Value::try_from_str(alloc, "trap")?,
+    )?;
     put(&mut members, alloc, "pc", Value::from(pc))?;
     put(&mut members, alloc, "reg", Value::from(trap.reg))?;
     Ok(members)
@@ -79,7 +89,12 @@ fn sweep_members(
     put(&mut members, alloc, "cleared", Value::from(cleared))?;
     put(&mut members, alloc, "hi", Value::from(hi))?;
     put(&mut members, alloc, "lo", Value::from(lo))?;
-    put(&mut members, alloc, "outcome", Value::try_from_str(alloc, "sweep")?)?;
+    put(
+        &mut members,
+        alloc,
+        "outcome",
+        Value::try_from_str(alloc, "sweep")?,
+    )?;
     Ok(members)
 }
 

@@ -1,10 +1,6 @@
 //! JSON as text, part by part, so that no long value is ever whole.
 
-#![tactic(
-    auto,
-    using(crate::proofs::JsonLemmas::floatless),
-    unfolding(crate::proofs::Open::events)
-)]
+#![tactic(auto, using(crate::proofs::JsonLemmas::floatless), unfolding(crate::proofs::Open::events))]
 
 ghost use Rattle.std.specs.Prelude.{◌≡◌, ◌++◌, OnOk, false, string_bytes};
 ghost use Rattle.cheri_model.specs.declared.trace.Outcome.TheVariants as outcome;
@@ -62,7 +58,13 @@ pub fn write_event_json(alloc: Global, out: &mut String, event: &Event) -> Resul
         ≡ string_bytes out.old ++ compact_text (event_data event.now)) }
 {
     match event {
-        Event::Step(Entry { hart, pc, outcome: Outcome::Done }) => write_done(out, *hart, *pc),
+        Event::Step(
+            Entry {
+                hart,
+                pc,
+                outcome: Outcome::Done,
+            },
+        ) => write_done(out, *hart, *pc),
         _ => write_json_value(alloc, out, event_json(alloc, event)?),
     }
 }

@@ -66,8 +66,17 @@ parts_end before now after out kept put shown last whole is none so_far written 
     rw is (takes_to_end before now after kept shown last (rw none at so_far) (rw written at last_put))
 
 -- a part begins with what was appended before it
-pub after_head : (kept out head part : List ℕ) → kept ≡ out ++ head → kept ++ part ≡ out ++ (head ++ part)
-after_head kept out head part is = rw (is, append_assoc) refl
+same_part : (kept head out text part : List ℕ) → kept ≡ out ++ head → part ≡ head ++ text → kept ++ text ≡ out ++ part
+same_part kept head out text part is parts = rw (is, parts, append_assoc) refl
+
+pub part_taken : {E : Type 0} (result : Result (Unit {0}) E) (before now : Option (List ℕ)) (left kept head out text part : List ℕ)
+    → kept ≡ out ++ head → part ≡ head ++ text → OnOk result (TakesAllBut before now left (kept ++ text))
+    → OnOk result (TakesAllBut before now left (out ++ part))
+part_taken result before now left kept head out text part is parts so_far = rw (same_part kept head out text part is parts) at so_far
+
+pub part_begun : (before now : Option (List ℕ)) (kept head out text part : List ℕ)
+    → kept ≡ out ++ head → part ≡ head ++ text → TakesBeginning before now (kept ++ text) → TakesBeginning before now (out ++ part)
+part_begun before now kept head out text part is parts so_far = rw (same_part kept head out text part is parts) at so_far
 
 pub head_begun : (at : Option (List ℕ)) (text : List ℕ) → TakesBeginning at at text
 head_begun at text = (text, takes_none at text)

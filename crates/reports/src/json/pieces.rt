@@ -1,10 +1,6 @@
 //! The JSON report in pieces, so that no value of it is ever whole.
 
-#![tactic(
-    auto,
-    using(crate::proofs::JsonLemmas::floatless),
-    unfolding(crate::proofs::Open::json_parts)
-)]
+#![tactic(auto, using(crate::proofs::JsonLemmas::floatless), unfolding(crate::proofs::Open::json_parts))]
 
 ghost use Rattle.std.specs.Prelude.{◌≡◌, ◌+◌, ◌++◌, OnOk, string_bytes};
 ghost use Rattle.std.specs.Io.KnownBytes.{Appends};

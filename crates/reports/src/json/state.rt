@@ -1,10 +1,6 @@
 //! The harts and the granules of a state in JSON, in pieces. They need no trace.
 
-#![tactic(
-    auto,
-    using(crate::proofs::JsonLemmas::floatless),
-    unfolding(crate::proofs::Open::json_parts)
-)]
+#![tactic(auto, using(crate::proofs::JsonLemmas::floatless), unfolding(crate::proofs::Open::json_parts))]
 
 ghost use Rattle.std.specs.Prelude.{◌≡◌, ◌+◌, ◌||◌, ◌++◌, IfOk, OnOk, string_bytes};
 ghost use Rattle.cheri_model.specs.runs.ImageForm.{is_listed};

@@ -1,15 +1,12 @@
-use Rattle.serde_json.specs.Written.{compact_text}
-use Rattle.reports.specs.Json.{events_data}
-use Rattle.reports.proofs.JsonParts.{head_begun, after_head}
+use Rattle.std.proofs.Common.{refl}
+use Rattle.reports.proofs.JsonParts.{head_begun, part_taken, part_begun}
 use Rattle.reports.proofs.json.pieces.put_events_part.Goals as goal
 
 pub returns-in_err-push_str-clause-beginning : goal.returns-in_err-push_str-clause-beginning
 returns-in_err-push_str-clause-beginning g c = head_begun _ _
 
 pub returns-clause-whole : goal.returns-clause-whole
-returns-clause-whole g c =
-    rw (after_head _ _ _ (compact_text (events_data c.args.events.now)) c.in_ok-push_str.ensures.bytes) at c.put_events.ensures.whole
+returns-clause-whole g c = part_taken _ _ _ _ _ _ _ _ _ c.in_ok-push_str.ensures.bytes refl c.put_events.ensures.whole
 
 pub returns-clause-beginning : goal.returns-clause-beginning
-returns-clause-beginning g c =
-    rw (after_head _ _ _ (compact_text (events_data c.args.events.now)) c.in_ok-push_str.ensures.bytes) at c.put_events.ensures.beginning
+returns-clause-beginning g c = part_begun _ _ _ _ _ _ _ c.in_ok-push_str.ensures.bytes refl c.put_events.ensures.beginning

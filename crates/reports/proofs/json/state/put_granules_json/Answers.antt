@@ -12,7 +12,7 @@ returns-in_err-push_str-clause-beginning g c = head_begun _ _
 pub returns-in_err-later-clause-beginning : goal.returns-in_err-later-clause-beginning
 returns-in_err-later-clause-beginning g c =
     closed_begins _ _ _ _ _ _ _ _ c.in_ok-push_str.ensures.bytes
-    (memory_text c.args.ram.now (memory_fits _ c.granule_count.ensures.memory))
+    (memory_text c.args.ram.now (memory_fits _ c.granule_count-number-end.ensures.memory))
     (_, c.loop-number.invariant.taken)
 
 pub returns-in_err-make_room-clause-beginning : goal.returns-in_err-make_room-clause-beginning
@@ -20,7 +20,7 @@ unfolding granule_at
 returns-in_err-make_room-clause-beginning g c =
     let room : c.loop-number.number < length c.args.ram.now = omega arith in
     closed_begins _ _ _ _ _ _ _ _ c.in_ok-push_str.ensures.bytes
-    (memory_text c.args.ram.now (memory_fits _ c.granule_count.ensures.memory))
+    (memory_text c.args.ram.now (memory_fits _ c.granule_count-number-end.ensures.memory))
     (granule_stops c.args.ram.now _ _ _ _ _ _ _ _ _ _ room c.granule.ensures.value
     c.in_ok-later.ensures.written c.loop-number.invariant.taken c.make_room.ensures.beginning)
 
@@ -40,13 +40,13 @@ loop-number-preserved g c =
 pub returns-in_err-push_str-2-clause-beginning : goal.returns-in_err-push_str-2-clause-beginning
 returns-in_err-push_str-2-clause-beginning g c =
     closed_begins _ _ _ _ _ _ _ _ c.in_ok-push_str.ensures.bytes
-    (memory_text c.args.ram.now (memory_fits _ c.granule_count.ensures.memory))
+    (memory_text c.args.ram.now (memory_fits _ c.granule_count-number-end.ensures.memory))
     (_, c.loop-number.invariant.taken)
 
 pub returns-clause-beginning : goal.returns-clause-beginning
 returns-clause-beginning g c =
     closed_begins _ _ _ _ _ _ _ _ c.in_ok-push_str.ensures.bytes
-    (memory_text c.args.ram.now (memory_fits _ c.granule_count.ensures.memory))
+    (memory_text c.args.ram.now (memory_fits _ c.granule_count-number-end.ensures.memory))
     (_, c.loop-number.invariant.taken)
 
 pub returns-clause-whole : goal.returns-clause-whole
@@ -54,5 +54,5 @@ unfolding granule_at
 returns-clause-whole g c =
     let ended : length c.args.ram.now ≤ c.loop-number.number = omega arith in
     closed_takes _ _ _ _ _ _ _ _ _ _ c.in_ok-push_str.ensures.bytes c.in_ok-push_str-2.ensures.bytes
-    (memory_text c.args.ram.now (memory_fits _ c.granule_count.ensures.memory))
-    (granules_end c.args.ram.now _ _ _ _ _ ended c.loop-number.invariant.taken)
+    (memory_text c.args.ram.now (memory_fits _ c.granule_count-number-end.ensures.memory))
+    (granules_end c.args.ram.now _ _ _ _ _ _ ended c.loop-number.invariant.taken)
