@@ -1,4 +1,5 @@
 -- A hart, its actions, and what a view of a machine shows.
 pub mod Hart
 pub mod Actions
+pub mod Accesses
 pub mod View

@@ -2,6 +2,7 @@
 //! instruction at PCC asks for.
 #![tactic(auto)]
 
+mod accessed;
 mod actions;
 mod checks;
 mod execute;
@@ -10,6 +11,7 @@ mod integers;
 mod next_pcc;
 mod view;
 
+pub use accessed::accessed_address;
 pub use checks::access::access_check;
 pub use cheri_model::Access;
 pub use execute::step;

@@ -1,0 +1,4 @@
+pub mod NumberedLemmas
+pub mod ValueLemmas
+pub mod StoreLemmas
+pub mod ViewLemmas

@@ -1,0 +1,7 @@
+//! Tests of `states` by its public calls alone, as its users make them.
+#![tactic(auto)]
+
+#[cfg(test)]
+mod samples;
+#[cfg(test)]
+mod searches;

@@ -1,0 +1,5 @@
+pub mod TouchLemmas
+pub mod TableLemmas
+pub mod GraphLemmas
+pub mod StepLemmas
+pub mod KeptLemmas

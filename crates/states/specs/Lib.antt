@@ -1,0 +1,3 @@
+pub mod Locals
+pub mod Graphs
+pub mod Kept
