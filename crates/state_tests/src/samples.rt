@@ -1,9 +1,14 @@
 //! Listings that are searched.
 
-use cheri_model::Image;
+use cap_ops::Cap;
+use cheri_model::{Image, Op};
+use graph_search::NoProgress;
 use hart_step::Hart;
 use listings::read_listing;
+use schedules::SweepRange;
+use states::{Kept, search_from};
 use std::test::Fail;
+use tagged_mem::Ram;
 
 /// Two harts count up one number without a lock.
 pub const LOST_UPDATE: &str = ".hart 0x10000000 16 0x10000000 execute
@@ -69,6 +74,13 @@ sd c6, 0(c5)
 ecall
 ";
 
+/// Two harts that jump to where they are.
+pub const SPIN: &str = ".hart 0x10000000 4 0x10000000 execute
+.hart 0x10000000 4 0x10000000 execute
+here:
+cjal c0, here
+";
+
 /// The image of a listing.
 pub fn image(rt: &HostRuntime, listing: &str) -> Result<Image, Fail> {
     Ok(read_listing(rt.alloc(), listing.as_bytes()).map_err(|_| "a bad listing")?)
@@ -81,4 +93,39 @@ pub fn harts(rt: &HostRuntime, image: &Image) -> Result<Vec<Hart>, Fail> {
         harts.push(Hart::open(hart))?;
     }
     Ok(harts)
+}
+
+/// Searches a listing whose memory is empty at the beginning.
+pub fn searched(
+    rt: &HostRuntime,
+    listing: &str,
+    sweeps: &[SweepRange],
+    limit: u32,
+) -> Result<Kept, Fail> {
+    let image = image(rt, listing)?;
+    let harts = harts(rt, &image)?;
+    let mut ram = Ram::new(rt.alloc(), image.ram()).map_err(|_| "no RAM")?;
+    for (addr, value) in image.granules() {
+        ram.store_cap(*addr, Cap::of_value(*value));
+    }
+    Ok(search_from(
+        rt.alloc(),
+        &image,
+        harts.as_slice(),
+        &ram,
+        sweeps,
+        limit,
+        &mut NoProgress,
+    )?)
+}
+
+/// Writes an order: a digit for a step, an S for a sweep.
+pub fn text_of(text: &mut String, order: &[Op]) -> Result<(), Fail> {
+    for op in order {
+        match op {
+            Op::Step(hart) => text.push(char::from(b'0'.saturating_add(*hart)))?,
+            Op::Sweep { .. } => text.push('S')?,
+        }
+    }
+    Ok(())
 }

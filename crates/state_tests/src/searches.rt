@@ -1,38 +1,11 @@
 //! What searches find: counts and witnesses are those of an independent model.
 
-use crate::samples::{LEAK, LOST_UPDATE, MESSAGE, USE_AFTER_FREE, harts, image};
-use cap_ops::Cap;
-use cheri_model::{Op, Status};
-use graph_search::NoProgress;
+use crate::samples::{LEAK, LOST_UPDATE, MESSAGE, USE_AFTER_FREE, searched, text_of};
+use cheri_model::Status;
 use schedules::SweepRange;
 use state_store::State;
-use states::{Kept, search_from};
+use states::Kept;
 use std::test::Fail;
-use tagged_mem::Ram;
-
-/// Searches a listing whose memory is empty at the beginning.
-fn searched(
-    rt: &HostRuntime,
-    listing: &str,
-    sweeps: &[SweepRange],
-    limit: u32,
-) -> Result<Kept, Fail> {
-    let image = image(rt, listing)?;
-    let harts = harts(rt, &image)?;
-    let mut ram = Ram::new(rt.alloc(), image.ram()).map_err(|_| "no RAM")?;
-    for (addr, value) in image.granules() {
-        ram.store_cap(*addr, Cap::of_value(*value));
-    }
-    Ok(search_from(
-        rt.alloc(),
-        &image,
-        harts.as_slice(),
-        &ram,
-        sweeps,
-        limit,
-        &mut NoProgress,
-    )?)
-}
 
 /// Whether no hart runs.
 fn is_outcome(state: State<'_>) -> bool {
@@ -44,18 +17,12 @@ fn is_outcome(state: State<'_>) -> bool {
     true
 }
 
-/// The witnesses of all outcomes, in the order of their numbers: a digit for a step, an S for a
-/// sweep, and a space after each.
+/// The witnesses of all outcomes, in the order of their numbers, and a space after each.
 fn outcomes_of(rt: &HostRuntime, kept: &Kept) -> Result<String, Fail> {
     let mut text = String::new(rt.alloc());
     for number in 0..kept.len() {
         if is_outcome(kept.state(number)) {
-            for op in kept.witness(rt.alloc(), number)?.as_slice() {
-                match op {
-                    Op::Step(hart) => text.push(char::from(b'0'.saturating_add(*hart)))?,
-                    Op::Sweep { .. } => text.push('S')?,
-                }
-            }
+            text_of(&mut text, kept.witness(rt.alloc(), number)?.as_slice())?;
             text.push(' ')?;
         }
     }

@@ -8,7 +8,7 @@ ghost use Rattle.std.specs.Prelude.{
   ◌<◌,
   ◌≤◌,
   length,
-  reverse,
+  slice_get,
   List,
   Some,
   None,
@@ -18,10 +18,10 @@ ghost use Rattle.std.specs.Prelude.{
 };
 ghost use Rattle.cheri_model.specs.runs.Machine.{MachineState};
 ghost use Rattle.cheri_model.specs.runs.Machine.{opening_state};
-ghost use Rattle.schedules.specs.Schedules.{operation_of_label};
+ghost use Rattle.schedules.specs.Schedules.{operation_of_label, AreLabelsOf};
 ghost use Rattle.state_store.specs.Stores.{state_of};
 ghost use Rattle.states.specs.Graphs.{state_in};
-ghost use Rattle.states.specs.Kept.{IsSearch, IsWitnessOrder, AreAllKept};
+ghost use Rattle.states.specs.Kept.{kept_of, IsSearch, IsWitnessOrder, AreAllKept};
 
 use crate::graph::MachineGraph;
 use cheri_model::{Image, Op};
@@ -165,8 +165,18 @@ impl Kept {
             IsWitnessOrder self.now.image self.now.sweeps s order.items) }
     {
         let labels = self.reached.witness(alloc, number)?;
+        self.operations(alloc, labels.as_slice())
+    }
+
+    /// The operations of labels, one by one. Fails only when out of memory.
+    pub fn operations(&self, alloc: Global, labels: &[u32]) -> Result<Vec<Op>, AllocError>
+        requires { (i l : ℕ) → slice_get labels.now i ≡ Some l →
+            IsSome (operation_of_label self.now.image self.now.sweeps l) }
+        ensures { IfOk result (λ order.
+            AreLabelsOf self.now.image self.now.sweeps labels.now order.items) }
+    {
         let mut order = Vec::with_capacity(alloc, labels.len())?;
-        for label in labels.as_slice() {
+        for label in labels {
             order.push(operation_of_label(
                 self.graph.image(),
                 self.graph.sweeps(),
@@ -174,5 +184,38 @@ impl Kept {
             ))?;
         }
         Ok(order)
+    }
+}
+
+/// A search taken apart: its graph, what it reached, and its limit.
+#[derive(Drop)]
+pub struct Searched {
+    pub graph: MachineGraph,
+    pub reached: Reached,
+    pub limit: u32,
+}
+
+impl Kept {
+    /// Takes it apart.
+    pub fn into_parts(self) -> Searched
+        ensures { kept_of result.graph result.reached result.limit ≡ self }
+    {
+        Searched {
+            graph: self.graph,
+            reached: self.reached,
+            limit: self.limit,
+        }
+    }
+
+    /// Puts it together.
+    pub fn from_parts(parts: Searched) -> Kept
+        requires { IsSearch (kept_of parts.graph parts.reached parts.limit) }
+        ensures { result ≡ kept_of parts.graph parts.reached parts.limit }
+    {
+        Kept {
+            graph: parts.graph,
+            reached: parts.reached,
+            limit: parts.limit,
+        }
     }
 }

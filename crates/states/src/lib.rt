@@ -9,6 +9,6 @@ mod search;
 mod passing;
 
 pub use graph::{MAX_SWEEPS, MachineGraph};
-pub use kept::Kept;
+pub use kept::{Kept, Searched};
 pub use search::{Found, find_from, search_from};
 pub use passing::StateTest;
