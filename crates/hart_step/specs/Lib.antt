@@ -1,5 +1,4 @@
 -- A hart, its actions, and what a view of a machine shows.
 pub mod Hart
 pub mod Actions
-pub mod Accesses
 pub mod View

@@ -2,7 +2,6 @@
 //! instruction at PCC asks for.
 #![tactic(auto)]
 
-mod accessed;
 mod actions;
 mod checks;
 mod execute;
@@ -11,9 +10,11 @@ mod integers;
 mod next_pcc;
 mod view;
 
-pub use accessed::accessed_address;
+pub use actions::{Action, instr_action};
 pub use checks::access::access_check;
+pub use checks::fetch::fetch;
 pub use cheri_model::Access;
 pub use execute::step;
 pub use hart::Hart;
+pub use integers::{immediate, upper_immediate};
 pub use view::View;

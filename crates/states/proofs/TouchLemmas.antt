@@ -16,7 +16,7 @@ use Rattle.cheri_model.specs.steps.Checks.{first_failing, access_table, fetch_ta
 use Rattle.cheri_model.specs.steps.Hart.{HartState, register, put, next, word_of_integer}
 use Rattle.cheri_model.specs.steps.HartStep.{Stepped, execute, hart_step, unless_trapped, trapped, done, access_check, loaded, permitted, instruction_at}
 use Rattle.cheri_model.specs.steps.Memory.{granule_at, granule_number, load_data, store_data, load_capability, store_capability, bytes_of, bytes_at, granule_offset, with_bytes}
-use Rattle.hart_step.specs.Accesses.{address_in, accessed_address, unless_fetch_traps}
+use Rattle.states.specs.Accesses.{address_in, accessed_address, unless_fetch_traps}
 use Rattle.states.specs.Locals.{touched, local_step, local_value}
 
 -- two steps that do the same to the hart, and leave the same value in granule k

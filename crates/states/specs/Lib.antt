@@ -1,3 +1,4 @@
+pub mod Accesses
 pub mod Locals
 pub mod Graphs
 pub mod Kept

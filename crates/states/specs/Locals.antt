@@ -7,7 +7,7 @@ use Rattle.cheri_model.specs.steps.Hart.{HartState}
 use Rattle.cheri_model.specs.steps.HartStep.{Stepped, hart_step}
 use Rattle.cheri_model.specs.steps.Memory.{granule_number, granule_at}
 use Rattle.cheri_model.specs.runs.Machine.{is_running}
-use Rattle.hart_step.specs.Accesses.{accessed_address}
+use Rattle.states.specs.Accesses.{accessed_address}
 use Rattle.state_store.specs.Stores.{Stored, hart_at}
 use Rattle.states.specs.declared.locals.LocalStep.{LocalStep}
 

@@ -2,6 +2,7 @@
 //! sweeps.
 #![tactic(auto)]
 
+mod accesses;
 mod graph;
 mod kept;
 mod locals;

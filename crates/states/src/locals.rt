@@ -4,8 +4,9 @@
 ghost use Rattle.std.specs.Prelude.{◌≡◌, ◌<◌, ◌≤◌};
 ghost use Rattle.states.specs.Locals.{touched, site_of};
 
+use crate::accesses::accessed_address;
 use cheri_model::{GRANULE_BYTES, Instr, RAM_BASE, Status};
-use hart_step::{Hart, accessed_address};
+use hart_step::Hart;
 
 /// The site of a hart that does not run.
 pub const STOPPED: u32 = u32::MAX;

@@ -1,13 +1,11 @@
 //! Where the next step of a hart accesses memory.
 
 ghost use Rattle.std.specs.Prelude.{◌≡◌};
-ghost use Rattle.hart_step.specs.Accesses.{accessed_address, address_in};
 ghost use Rattle.hart_step.specs.Actions.{action_of};
+ghost use Rattle.states.specs.Accesses.{accessed_address, address_in};
 
-use crate::actions::{Action, instr_action};
-use crate::checks::fetch::fetch;
-use crate::hart::Hart;
 use cheri_model::Instr;
+use hart_step::{Action, Hart, fetch, instr_action};
 
 /// The address that an action loads from or stores at, 0 where it does neither.
 fn address_in(action: Action) -> u64
@@ -28,8 +26,8 @@ fn address_in(action: Action) -> u64
     }
 }
 
-/// The address that the next step of a hart loads from or stores at, whether or not it is checked
-/// to be in reach; 0 where the step makes no access.
+/// The address that the next step of a hart loads from or stores at, whether or not the access can
+/// pass its checks; 0 where the step makes no access.
 #[tactic(auto, unfolding(crate::specs::Accesses::accessed_address))]
 pub fn accessed_address(program: &[Instr], hart: &Hart) -> u64
     ensures { result ≡ accessed_address program.now hart.now }
