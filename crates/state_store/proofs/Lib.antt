@@ -2,3 +2,5 @@ pub mod NumberedLemmas
 pub mod ValueLemmas
 pub mod StoreLemmas
 pub mod ViewLemmas
+pub mod HartLemmas
+pub mod SeenLemmas

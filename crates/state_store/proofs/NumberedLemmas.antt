@@ -1,7 +1,8 @@
 -- What is so of things that are numbered, and of lists of their numbers.
 use Rattle.std.proofs.Common.{◌≡◌, ℕ, zero, suc, ◌+◌, ◌<◌, List, [], ◌∷◌, ◌++◌, length, arith, ap, sym, ◌∙◌, refl, inl, inr, ◌⊎◌, subst}
-use Rattle.std.specs.Prelude.{Option, Some, None, option_map, option_and_then, slice_get, slice_set}
+use Rattle.std.specs.Prelude.{Option, Some, None, IsSome, option_map, option_and_then, slice_get, slice_set}
 use Rattle.std.proofs.lemmas.Option.{none-some, same_Some}
+use Rattle.interner.specs.Rows.{Rows, IsInterned}
 use Rattle.state_store.specs.Numbered.{Extends, IsDistinct, IsNumbered, each}
 
 pub get-append : {A : Type 0} (xs ys : List A) (i : ℕ) (x : A) → slice_get xs i ≡ Some x →
@@ -26,6 +27,10 @@ pub map_some : {A B : Type 0} (g : A → B) (o : Option A) (y : B) → option_ma
     (x : A) × (o ≡ Some x) × (g x ≡ y)
 map_some {A} {B} g None y is = absurd (none-some y is)
 map_some {A} {B} g (Some x) y is = (x, refl, same_Some (g x) y is)
+
+pub some_of : {A : Type 0} (o : Option A) → IsSome o → (x : A) × (o ≡ Some x)
+some_of None some = absurd (cc)
+some_of (Some x) some = (x, refl)
 
 pub then_some : {A B : Type 0} (g : A → Option B) (o : Option A) (y : B) → option_and_then g o ≡ Some y →
     (x : A) × (o ≡ Some x) × (g x ≡ Some y)
@@ -133,3 +138,9 @@ each_of {A} f (i ∷ is) (x ∷ xs) same means =
     let rest : length is ≡ length xs = omega arith in
     each_cons f i is x xs (means 0 i x refl refl)
     (each_of f is xs rest (λ k n y at there. means (suc k) n y at there))
+
+pub interned_extends : (old new : Rows) (row : List ℕ) (n : ℕ) → IsInterned old new row n → Extends old.rows new.rows
+interned_extends old new row n h i x is = elim h.1 [
+  | inl same ↦ ap (λ (t : Rows). slice_get t.rows i) same ∙ is
+  | inr added ↦ ap (λ (t : Rows). slice_get t.rows i) added.0 ∙ get-append old.rows (row ∷ []) i x is
+]

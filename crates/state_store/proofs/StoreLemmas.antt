@@ -90,7 +90,7 @@ hart_parts status [] h is = absurd (none-some h is)
 hart_parts status (pcc ∷ regs) h is =
     let made : HartState = record { regs = null ∷ regs; pcc = pcc; status = status } in
     let p = cond_some (length regs == 31) made h is in
-    let count : length regs ≡ 31 = eqb-true p.0 in
+    let count : length regs ≡ 31 = eqb-true (length regs) 31 p.0 in
     let more : suc (length regs) ≡ 32 = omega arith in (
       ap (λ (k : HartState). k.status) p.1,
       ap (λ (k : HartState). k.pcc ∷ drop 1 k.regs) p.1,

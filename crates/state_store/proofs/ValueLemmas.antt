@@ -2,8 +2,8 @@
 use Rattle.std.proofs.Common.{◌≡◌, ◌≢◌, ℕ, zero, suc, ◌+◌, ◌*◌, ◌/◌, ◌%◌, ◌^◌, ◌<◌, ◌≤◌, List, [], ◌∷◌, ◌++◌, length, arith, ap, sym, ◌∙◌, refl, subst, inl, inr, map}
 use Rattle.std.specs.Prelude.{Option, Some, None, option_map, slice_get, slice_index_or, All, Bool, true, false}
 use Rattle.std.proofs.lemmas.Bool.{cases_lt, cases_eq}
-use Rattle.std.proofs.lemmas.List.{map-append, length-map, length-append}
-use Rattle.std.proofs.lemmas.Option.{none-some, same_Some, slice_get-map, slice_get_within}
+use Rattle.std.proofs.lemmas.List.{map-append, length-map, length-append, get_or_append_left, get_or_at}
+use Rattle.std.proofs.lemmas.Option.{none-some, same_Some, slice_get-map, slice_get_within, get_or_from_slice_get}
 use Rattle.cap_model.specs.values.CapValue.{CapValue, bits_of, tag_of, value_at, IsLawfulValue}
 use Rattle.cap_model.specs.results.Readings.{number_of}
 use Rattle.cap_model.proofs.Results.Values.{value_back, value_tagged}
@@ -34,13 +34,17 @@ one_value v w lawful also same =
     ∙ (ap (value_at (tag_of w)) bits ∙ value_back w also))
 
 all_at : {A : Type 0} (P : A → Type 0) (xs : List A) (i : ℕ) (x : A) → All P xs → slice_get xs i ≡ Some x → P x
-all_at {A} P [] i x all is = absurd (none-some x is)
-all_at {A} P (y ∷ ys) zero x all is = subst P (same_Some y x is) all.0
-all_at {A} P (y ∷ ys) (suc i) x all is = all_at P ys i x all.1 is
+all_at {A} P xs i x all is = subst P (get_or_from_slice_get xs i x x is) (all i x (slice_get_within xs i x is))
 
 all_more : {A : Type 0} (P : A → Type 0) (xs : List A) (x : A) → All P xs → P x → All P (xs ++ x ∷ [])
-all_more {A} P [] x all is = (is, tt)
-all_more {A} P (y ∷ ys) x all is = (all.0, all_more P ys x all.1 is)
+all_more {A} P xs x all is k d below =
+    let count : length (xs ++ x ∷ []) ≡ length xs + 1 = length-append xs (x ∷ []) in
+    elim (cases_lt k (length xs)) [
+      | inl low ↦ subst P (sym (get_or_append_left xs (x ∷ []) d k low)) (all k d low)
+      | inr high ↦
+          let last : length xs ≡ k = omega arith in
+          subst P (sym (get_or_at xs x [] d k last)) is
+    ]
 
 -- the value whose row was found
 pub found_value : (table : Rows) (values : List CapValue) (v : CapValue) (n : ℕ) → IsValues table values →

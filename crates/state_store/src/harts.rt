@@ -35,10 +35,13 @@ pub fn load_hart(values: &Values, row: &[u32], hart: &mut Hart)
     requires { IsSome (hart_of values.now row.now) }
     ensures { hart_of values.now row.now ≡ Some hart.new }
 {
+    // Its clause says that there are 32 registers, of which c0 is null, here and below.
+    let _pcc = hart.pcc();
     hart.set_status(status_of(row[0]));
     hart.set_pcc(Cap::of_value(values.value(row[1])));
     for number in 1..32u8 {
         let value = values.value(row[usize::from(number) + 1]);
         hart.put(Reg::new(number), Cap::of_value(value));
     }
+    let _pcc = hart.pcc();
 }

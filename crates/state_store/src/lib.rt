@@ -4,9 +4,10 @@
 
 mod codes;
 mod harts;
+mod memories;
 mod store;
-mod view;
 mod values;
+mod view;
 
 pub use store::Store;
 pub use values::Values;

@@ -8,6 +8,7 @@ ghost use Rattle.state_store.specs.Numbered.{Extends, IsThereOrLast};
 ghost use Rattle.state_store.specs.Stores.{hart_at, memory_at, Keeps, IsOneRow};
 
 use crate::harts::{HART_WIDTH, load_hart, row_of_hart};
+use crate::memories::row_of_memory;
 use crate::values::Values;
 use cap_ops::Cap;
 use cheri_model::Value;
@@ -101,7 +102,8 @@ impl Store {
         ensures kept { Keeps self.old self.new }
     {
         let row = row_of_hart(&mut self.values, hart)?;
-        self.harts.insert(&row)
+        let id = self.harts.insert(&row)?;
+        Ok(id)
     }
 
     /// Writes the hart of this number.
@@ -145,11 +147,9 @@ impl Store {
         ensures kept { Keeps self.old self.new }
         ensures same_harts { self.new.harts ≡ self.old.harts }
     {
-        let mut row = Vec::with_capacity(alloc, self.granules)?;
-        for number in 0..ram.granule_count() {
-            row.push(self.values.number(ram.granule(number).value())?)?;
-        }
-        self.memories.insert(row.as_slice())
+        let row = row_of_memory(alloc, &mut self.values, ram)?;
+        let id = self.memories.insert(row.as_slice())?;
+        Ok(id)
     }
 
     /// The number of the memory of this row.

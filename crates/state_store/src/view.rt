@@ -1,6 +1,6 @@
 //! A state that is kept as a row of numbers.
 
-ghost use Rattle.std.specs.Prelude.{◌≡◌, ℕ, ◌<◌, Some, length, IsSome};
+ghost use Rattle.std.specs.Prelude.{◌≡◌, ℕ, ◌+◌, ◌<◌, Some, length, IsSome};
 ghost use Rattle.cheri_model.specs.runs.Machine.{MachineState, hart_at};
 ghost use Rattle.cheri_model.specs.steps.Hart.{register};
 ghost use Rattle.cheri_model.specs.steps.Memory.{granule_at};

@@ -2,8 +2,9 @@
 //! model.
 
 use crate::samples::{LEAK, LOST_UPDATE, MESSAGE, SPIN, searched, text_of};
-use authorities::{authorities_of_hart, authorities_of_memory};
+use authorities::{Authority, authorities_of_hart, authorities_of_memory};
 use state_loops::{Endless, endless};
+use states::Kept;
 use std::test::Fail;
 
 /// The answer as a text.
@@ -49,12 +50,38 @@ fn loops_are_shown(rt: HostRuntime) -> Result<(), Fail> {
     Ok(())
 }
 
+/// Authorities as a text: the base and the length in hexadecimal, the permissions, and the witness of
+/// the first state that has them.
+fn text_of_authorities(
+    rt: &HostRuntime,
+    kept: &Kept,
+    found: &[Authority],
+) -> Result<String, Fail> {
+    let mut text = String::new(rt.alloc());
+    for authority in found {
+        let Authority {
+            base,
+            top,
+            perms,
+            first,
+        } = *authority;
+        let bits = perms.bits();
+        text.push_str(format!(in rt.alloc(); "{base:x} {top:x} {bits:x} -")?.as_str())?;
+        text_of(&mut text, kept.witness(rt.alloc(), first)?.as_slice())?;
+        text.push('\n')?;
+    }
+    Ok(text)
+}
+
 #[test]
 fn authorities_are_the_greatest(rt: HostRuntime) -> Result<(), Fail> {
     let kept = searched(&rt, LEAK, &[], 1000)?;
     let hart = authorities_of_hart(rt.alloc(), &kept, 1)?;
-    assert_eq!(rt; hart.len(), 3);
+    let text = text_of_authorities(&rt, &kept, hart.as_slice())?;
+    let wanted = "10000000 10000014 2 -\n80000000 80000010 14 -\n80000040 80000050 5 -01\n";
+    assert_eq!(rt; text.as_str(), wanted);
     let memory = authorities_of_memory(rt.alloc(), &kept)?;
-    assert_eq!(rt; memory.len(), 1);
+    let text = text_of_authorities(&rt, &kept, memory.as_slice())?;
+    assert_eq!(rt; text.as_str(), "80000040 80000050 5 -0\n");
     Ok(())
 }

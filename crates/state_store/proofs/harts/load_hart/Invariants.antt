@@ -6,6 +6,7 @@ use Rattle.state_store.proofs.harts.load_hart.Given as goal
 
 abbrev pub invariant-loop-number : goal.invariant-loop-number
 invariant-loop-number l = record {
+  count : length l.hart.regs ≡ 32;
   status : status_of (slice_index_or l.row 0 0) ≡ Some l.hart.status;
   pcc : slice_get l.values (slice_index_or l.row 1 0) ≡ Some l.hart.pcc;
   registers : (i : ℕ) → 0 < i → i < l.number →
