@@ -8,7 +8,7 @@ use Rattle.std.proofs.lemmas.Option.{none-some, same_Some, slice_get_within, sli
 use Rattle.cap_model.specs.values.CapValue.{CapValue}
 use Rattle.cheri_model.specs.declared.trace.Status.{Status}
 use Rattle.cheri_model.specs.steps.Hart.{HartState, null, register, put}
-use Rattle.hart_step.specs.Hart.{IsHart}
+use Rattle.hart.specs.Hart.{IsHart}
 use Rattle.state_store.specs.Numbered.{Extends, each}
 use Rattle.state_store.specs.Codes.{status_of}
 use Rattle.state_store.specs.Stores.{hart_with, hart_of}

@@ -9,7 +9,7 @@ use crate::codes::{code_of, status_of};
 use crate::values::Values;
 use cap_ops::Cap;
 use cheri_model::Reg;
-use hart_step::Hart;
+use hart::Hart;
 use std::alloc::AllocError;
 
 /// How many numbers a hart has: its status, PCC, and the registers from c1 on.

@@ -12,7 +12,7 @@ use crate::memories::row_of_memory;
 use crate::values::Values;
 use cap_ops::Cap;
 use cheri_model::Value;
-use hart_step::Hart;
+use hart::Hart;
 use interner::Interner;
 use std::alloc::{AllocError, Global};
 use std::marker::Model;

@@ -10,7 +10,7 @@ use crate::codes::status_of;
 use crate::store::Store;
 use cap_ops::Cap;
 use cheri_model::{Reg, Status};
-use hart_step::Hart;
+use hart::Hart;
 use tagged_mem::Ram;
 
 /// A state, seen where it is kept: a row of its memory's number and those of its harts.

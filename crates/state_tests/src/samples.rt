@@ -3,7 +3,7 @@
 use cap_ops::Cap;
 use cheri_model::{Image, Op};
 use graph_search::NoProgress;
-use hart_step::Hart;
+use hart::Hart;
 use listings::read_listing;
 use schedules::SweepRange;
 use states::{Kept, search_from};

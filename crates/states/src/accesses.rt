@@ -1,11 +1,13 @@
 //! Where the next step of a hart accesses memory.
 
 ghost use Rattle.std.specs.Prelude.{◌≡◌};
-ghost use Rattle.hart_step.specs.Actions.{action_of};
+ghost use Rattle.instructions.specs.Actions.{action_of};
 ghost use Rattle.states.specs.Accesses.{accessed_address, address_in};
 
 use cheri_model::Instr;
-use hart_step::{Action, Hart, fetch, instr_action};
+use hart::Hart;
+use hart_step::fetch;
+use instructions::{Action, instr_action};
 
 /// The address that an action loads from or stores at, 0 where it does neither.
 fn address_in(action: Action) -> u64

@@ -6,7 +6,7 @@ ghost use Rattle.states.specs.Locals.{touched, site_of};
 
 use crate::accesses::accessed_address;
 use cheri_model::{GRANULE_BYTES, Instr, RAM_BASE, Status};
-use hart_step::Hart;
+use hart::Hart;
 
 /// The site of a hart that does not run.
 pub const STOPPED: u32 = u32::MAX;

@@ -9,7 +9,7 @@ use crate::kept::Kept;
 use crate::passing::StateTest;
 use cheri_model::Image;
 use graph_search::Progress;
-use hart_step::Hart;
+use hart::Hart;
 use schedules::SweepRange;
 use std::alloc::{AllocError, Global};
 use tagged_mem::Ram;
