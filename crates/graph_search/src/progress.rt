@@ -1,12 +1,14 @@
-//! Who is told how far a search is.
+//! Reports of how far a search is.
 
-/// Who is told how far a search is.
+ghost use Rattle.std.specs.Prelude.{◌≡◌};
+
+/// What takes reports of how far a search is.
 pub trait Progress {
-    /// So many nodes were found. A search calls it once for every 4,096 nodes whose edges it follows.
+    /// So many nodes were found. A search reports before it follows the edges of each 4,096th node.
     fn report(&mut self, found: u32);
 }
 
-/// Nobody.
+/// Drops all reports.
 #[derive(Clone, Copy, Drop)]
 pub struct NoProgress;
 
@@ -14,7 +16,7 @@ impl Progress for NoProgress {
     fn report(&mut self, _found: u32) {}
 }
 
-/// A count of the reports, with the latest of them.
+/// Counts the reports, and keeps the latest.
 #[derive(Clone, Copy, Drop)]
 pub struct CountedProgress {
     pub reports: u32,
@@ -22,7 +24,9 @@ pub struct CountedProgress {
 }
 
 impl Progress for CountedProgress {
-    fn report(&mut self, found: u32) {
+    fn report(&mut self, found: u32)
+        ensures { self.new.found ≡ found }
+    {
         self.reports = self.reports.saturating_add(1);
         self.found = found;
     }

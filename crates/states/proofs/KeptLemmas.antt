@@ -12,7 +12,7 @@ use Rattle.graph_search.specs.Walks.{IsWitness}
 use Rattle.schedules.specs.declared.ranges.SweepRange.{SweepRange}
 use Rattle.schedules.specs.Schedules.{next, operation_of_label, AreLabelsOf, AreAllowed}
 use Rattle.schedules.proofs.WalkLemmas.{walk_legal, replayed_reachable}
-use Rattle.states.specs.Kept.{KeptParts, IsSearch, IsWitnessOrder, AreAllKept}
+use Rattle.states.specs.Kept.{KeptParts, at, edge, IsSearch, IsWitnessOrder, AreAllKept}
 
 pub all_kept : (kept : KeptParts) → IsSearch kept → kept.complete ≡ true → AreAllKept kept
 all_kept kept h done order allowed legal =
@@ -51,8 +51,8 @@ same_order image sweeps (l ∷ ls) (x ∷ order) (y ∷ other) are also =
     ∙ ap (λ (os : List Op). y ∷ os) (same_order image sweeps ls order other are.1 also.1)
 
 -- the labels of a state's trace, and its operations
-pub trace_means : (kept : KeptParts) (i : ℕ) (s : MachineState) (labels : List ℕ) → IsSearch kept → kept.at i ≡ Some s →
-    IsTrace kept.edge i (reverse labels) →
+pub trace_means : (kept : KeptParts) (i : ℕ) (s : MachineState) (labels : List ℕ) → IsSearch kept → at kept i ≡ Some s →
+    IsTrace (edge kept) i (reverse labels) →
     (order : List Op) × AreLabelsOf kept.image kept.sweeps labels order
     × ((other : List Op) → AreLabelsOf kept.image kept.sweeps labels other →
     IsWitnessOrder kept.image kept.sweeps s other)

@@ -3,3 +3,5 @@ pub mod TableLemmas
 pub mod GraphLemmas
 pub mod StepLemmas
 pub mod KeptLemmas
+pub mod SizeLemmas
+pub mod LabelLemmas

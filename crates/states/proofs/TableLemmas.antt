@@ -1,13 +1,14 @@
 -- Tables of steps, while more harts, values and steps get numbers.
 use Rattle.std.proofs.Common.{◌≡◌, ◌≢◌, ℕ, zero, suc, ◌+◌, ◌<◌, ◌≤◌, List, [], ◌∷◌, ◌++◌, length, arith, ap, sym, ◌∙◌, refl, subst, inl, inr, ◌⊎◌}
-use Rattle.std.specs.Prelude.{Option, Some, None, slice_get}
-use Rattle.std.proofs.lemmas.Bool.{cases_eq}
-use Rattle.std.proofs.lemmas.List.{length-append}
+use Rattle.std.specs.Prelude.{Option, Some, None, slice_get, Result, Ok, Err, IfOk, OnErr, Bool, true, false, nat_lt, if◌then◌else◌, ◌-◌, take}
+use Rattle.std.proofs.lemmas.Bool.Decides.{nat_tests}
+use Rattle.std.proofs.lemmas.List.{length-append, take_at}
 use Rattle.std.proofs.lemmas.Option.{none-some, same_Some, slice_get_within}
 use Rattle.cheri_model.specs.declared.instr.Instr.{Instr}
 use Rattle.cap_model.specs.values.CapValue.{CapValue}
 use Rattle.cheri_model.specs.steps.Hart.{HartState}
 use Rattle.interner.specs.Rows.{Rows, IsInterned, with_row}
+use Rattle.state_store.specs.Numbered.{IsThereOrLast}
 use Rattle.state_store.specs.Stores.{Stored, hart_at, Keeps}
 use Rattle.state_store.proofs.StoreLemmas.{hart_at_kept}
 use Rattle.states.specs.declared.locals.LocalStep.{LocalStep}
@@ -124,4 +125,73 @@ tabled_step program store sites keys keys' steps h v n after was is interned gro
               ]
         ];
       }
+]
+
+take_last : {A : Type 0} (xs : List A) (x : A) → take (length (xs ++ x ∷ []) - 1) (xs ++ x ∷ []) ≡ xs
+take_last {A} xs x =
+    let count : length (xs ++ x ∷ []) ≡ length xs + 1 = length-append xs (x ∷ []) in
+    let less : length (xs ++ x ∷ []) - 1 ≡ length xs = omega arith in
+    ap (λ (n : ℕ). take n (xs ++ x ∷ [])) less ∙ take_at xs (x ∷ []) (length xs) refl
+
+-- a hart got a number: where it is new, its site is kept
+pub tabled_numbered : {E : Type 0} (program : List Instr) (a b : Stored) (sites : List ℕ) (keys : List (List ℕ)) (steps : List LocalStep)
+    (hart : HartState) (result : Result ℕ E) (site : ℕ) (grown : Bool) → Keeps a b →
+    site ≡ site_of program a.granules hart → grown ≡ nat_lt (length a.harts) (length b.harts) →
+    IfOk result (λ id. hart_at b id ≡ Some hart) → IfOk result (λ id. IsThereOrLast a.harts b.harts id) →
+    OnErr result (b.harts ≡ a.harts) → IsTabled program a sites keys steps →
+    IsTabled program b
+    (if grown then sites ++ site ∷ [] else take (length (sites ++ site ∷ []) - 1) (sites ++ site ∷ [])) keys steps
+tabled_numbered {E} program a b sites keys steps hart (Err fault) site grown keeps same is there added refused was =
+    let count : length b.harts ≡ length a.harts = ap length refused in
+    let no : grown ≡ false = grind (arith, nat_tests) in
+    subst (λ (g : Bool). IsTabled program b
+    (if g then sites ++ site ∷ [] else take (length (sites ++ site ∷ []) - 1) (sites ++ site ∷ [])) keys steps) (sym no)
+    (subst (λ (ss : List ℕ). IsTabled program b ss keys steps) (sym (take_last sites site))
+    (tabled_same program a b sites keys steps keeps count was))
+tabled_numbered {E} program a b sites keys steps hart (Ok id) site grown keeps same is there added refused was = elim added [
+  | inl stays ↦
+      let count : length b.harts ≡ length a.harts = ap length stays in
+      let no : grown ≡ false = grind (arith, nat_tests) in
+      subst (λ (g : Bool). IsTabled program b
+      (if g then sites ++ site ∷ [] else take (length (sites ++ site ∷ []) - 1) (sites ++ site ∷ [])) keys steps) (sym no)
+      (subst (λ (ss : List ℕ). IsTabled program b ss keys steps) (sym (take_last sites site))
+      (tabled_same program a b sites keys steps keeps count was))
+  | inr new ↦
+      let count = new.0 in
+      let yes : grown ≡ true = grind (arith, nat_tests) in
+      subst (λ (g : Bool). IsTabled program b
+      (if g then sites ++ site ∷ [] else take (length (sites ++ site ∷ []) - 1) (sites ++ site ∷ [])) keys steps) (sym yes)
+      (subst (λ (x : ℕ). IsTabled program b (sites ++ x ∷ []) keys steps) (sym same)
+      (tabled_more program a b sites keys steps hart keeps new.0 (ap (hart_at b) (sym new.1) ∙ there) was))
+]
+
+-- a step got a number: where it is new, it is kept
+pub tabled_kept : {E : Type 0} (program : List Instr) (store : Stored) (sites : List ℕ) (keys keys' : Rows) (steps : List LocalStep)
+    (h v : ℕ) (after : LocalStep) (result : Result ℕ E) (grown : Bool) → IsTabled program store sites keys.rows steps →
+    IsLocalStep program store h v after → grown ≡ nat_lt (length keys.rows) (length keys'.rows) →
+    IfOk result (λ n. IsInterned keys keys' (h ∷ v ∷ []) n) → OnErr result (keys' ≡ keys) →
+    IsTabled program store sites keys'.rows
+    (if grown then steps ++ after ∷ [] else take (length (steps ++ after ∷ []) - 1) (steps ++ after ∷ []))
+tabled_kept {E} program store sites keys keys' steps h v after (Err fault) grown was step is added refused =
+    let count : length keys'.rows ≡ length keys.rows = ap (λ (t : Rows). length t.rows) refused in
+    let no : grown ≡ false = grind (arith, nat_tests) in
+    subst (λ (g : Bool). IsTabled program store sites keys'.rows
+    (if g then steps ++ after ∷ [] else take (length (steps ++ after ∷ []) - 1) (steps ++ after ∷ []))) (sym no)
+    (subst (λ (ss : List LocalStep). IsTabled program store sites keys'.rows ss) (sym (take_last steps after))
+    (subst (λ (t : Rows). IsTabled program store sites t.rows steps) (sym refused) was))
+tabled_kept {E} program store sites keys keys' steps h v after (Ok n) grown was step is added refused = elim added.1 [
+  | inl same ↦
+      let count : length keys'.rows ≡ length keys.rows = ap (λ (t : Rows). length t.rows) same in
+      let no : grown ≡ false = grind (arith, nat_tests) in
+      subst (λ (g : Bool). IsTabled program store sites keys'.rows
+      (if g then steps ++ after ∷ [] else take (length (steps ++ after ∷ []) - 1) (steps ++ after ∷ []))) (sym no)
+      (subst (λ (ss : List LocalStep). IsTabled program store sites keys'.rows ss) (sym (take_last steps after))
+      (subst (λ (t : Rows). IsTabled program store sites t.rows steps) (sym same) was))
+  | inr new ↦
+      let rows : keys'.rows ≡ keys.rows ++ (h ∷ v ∷ []) ∷ [] = ap (λ (t : Rows). t.rows) new.0 in
+      let count : length keys'.rows ≡ length keys.rows + 1 = ap length rows ∙ length-append keys.rows ((h ∷ v ∷ []) ∷ []) in
+      let yes : grown ≡ true = grind (arith, nat_tests) in
+      subst (λ (g : Bool). IsTabled program store sites keys'.rows
+      (if g then steps ++ after ∷ [] else take (length (steps ++ after ∷ []) - 1) (steps ++ after ∷ []))) (sym yes)
+      (tabled_step program store sites keys keys' steps h v n after was step added (λ e. omega arith))
 ]

@@ -10,16 +10,18 @@ use Rattle.graph_search.specs.Trees.{IsFound, state_at, edge_at, Found}
 use Rattle.graph_search.specs.Walks.{IsWitness}
 use Rattle.schedules.specs.declared.ranges.SweepRange.{SweepRange}
 use Rattle.schedules.specs.Schedules.{next, AreLabelsOf, AreAllowed}
+use Rattle.state_store.specs.Stores.{Stored}
 use Rattle.states.specs.Graphs.{GraphParts, state_in}
 
--- the state with each number, and the edge by which it was found, of so many states
+-- the rows of the states in a store, the edges by which they were found, the limit of the search, and
+-- whether these are all
 pub record KeptParts : Type 0 where
   pub image : ImageParts
   pub sweeps : List SweepRange
+  pub store : Stored
+  pub nodes : List (List ℕ)
+  pub edges : List Edge
   pub limit : ℕ
-  pub at : ℕ → Option MachineState
-  pub edge : ℕ → Edge
-  pub count : ℕ
   pub complete : Bool
 
 abbrev pub kept_of : GraphParts → Found → ℕ → KeptParts
@@ -27,18 +29,32 @@ kept_of graph found limit =
     record {
       image = graph.image;
       sweeps = graph.sweeps;
+      store = graph.store;
+      nodes = found.nodes;
+      edges = found.edges;
       limit = limit;
-      at = state_at (state_in graph) found.nodes;
-      edge = edge_at found.edges;
-      count = length found.nodes;
       complete = found.complete;
     }
+
+-- the graph that was searched
+abbrev pub graph_of : KeptParts → GraphParts
+graph_of kept = record { image = kept.image; sweeps = kept.sweeps; store = kept.store }
+
+-- how many states are kept; the state with a number, and the edge by which it was found
+abbrev pub count : KeptParts → ℕ
+count kept = length kept.nodes
+
+abbrev pub at : KeptParts → ℕ → Option MachineState
+at kept = state_at (state_in (graph_of kept)) kept.nodes
+
+abbrev pub edge : KeptParts → ℕ → Edge
+edge kept = edge_at kept.edges
 
 -- the kept states are the first ones that any order leads to, or all
 abbrev pub IsSearch : KeptParts → Type 0
 IsSearch kept =
     IsExplored (next kept.image kept.sweeps) (opening_state kept.image) kept.limit
-    kept.at kept.edge kept.count kept.complete
+    (at kept) (edge kept) (count kept) kept.complete
 
 -- The witness of a state as an order: of the orders that lead to it the shortest, and of those the
 -- least, harts ascending before sweeps in the order given.
@@ -54,15 +70,15 @@ pub record IsWitnessOrder (image : ImageParts) (sweeps : List SweepRange) (state
 abbrev pub AreAllKept : KeptParts → Type 0
 AreAllKept kept = (order : List Op) → AreAllowed kept.sweeps order →
     is_legal kept.image (opening_state kept.image) order ≡ true →
-    IsFound kept.at (replayed_state kept.image order)
+    IsFound (at kept) (replayed_state kept.image order)
 
 -- the first kept state that passes, if any does
 abbrev pub IsFirstPassing : KeptParts → (MachineState → Bool) → Option ℕ → Type 0
 IsFirstPassing kept passing None =
-    (i : ℕ) (s : MachineState) → kept.at i ≡ Some s → passing s ≡ false
+    (i : ℕ) (s : MachineState) → at kept i ≡ Some s → passing s ≡ false
 IsFirstPassing kept passing (Some k) =
-    (k < kept.count) × ((s : MachineState) → kept.at k ≡ Some s → passing s ≡ true)
-    × ((i : ℕ) (s : MachineState) → i < k → kept.at i ≡ Some s → passing s ≡ false)
+    (k < count kept) × ((s : MachineState) → at kept k ≡ Some s → passing s ≡ true)
+    × ((i : ℕ) (s : MachineState) → i < k → at kept i ≡ Some s → passing s ≡ false)
 
 -- the search found all states, or as many as it may
 abbrev pub IsWhole : KeptParts → ℕ → Type 0

@@ -11,6 +11,9 @@ ghost use Rattle.std.specs.Prelude.{
   length,
   slice_get,
   slice_set,
+  take,
+  ◌-◌,
+  if◌then◌else◌,
   Some,
   IsSome,
   IfOk,
@@ -74,6 +77,16 @@ impl Model for MachineGraph {
         a.steps.items a.ram a.row.items };
 }
 
+/// Drops the last item unless it is to be kept.
+fn keep_last_if<T: Drop>(items: &mut Vec<T>, keep: bool)
+    ensures { items.new.items
+        ≡ (if keep then items.old.items else take (length items.old.items - 1) items.old.items) }
+{
+    if !keep {
+        items.pop();
+    }
+}
+
 impl MachineGraph {
     /// The graph of an image. Nothing is known of its states yet.
     pub fn new(
@@ -88,6 +101,8 @@ impl MachineGraph {
         ensures granules { IfOk result (λ graph. graph.store.granules ≡ length ram) }
         ensures sweeps { IfOk result (λ graph. graph.sweeps ≡ sweeps.items) }
     {
+        // Its clause says that there are from 1 to 8 harts, and how large RAM is.
+        let _granules = image.granules();
         let granules = ram.granule_count();
         let mut row = Vec::new(alloc);
         row.resize(granules, 0)?;
@@ -157,9 +172,8 @@ impl MachineGraph {
         self.sites.push(site)?;
         let before = self.store.hart_count();
         let number = self.store.number_hart(hart);
-        if self.store.hart_count() == before {
-            self.sites.pop();
-        }
+        let grown = self.store.hart_count() > before;
+        keep_last_if(&mut self.sites, grown);
         number
     }
 
@@ -209,9 +223,8 @@ impl MachineGraph {
         self.steps.push(after)?;
         let before = self.keys.len();
         let number = self.keys.insert(&[hart, value]);
-        if self.keys.len() == before {
-            self.steps.pop();
-        }
+        let grown = self.keys.len() > before;
+        keep_last_if(&mut self.steps, grown);
         number?;
         Ok(())
     }
@@ -305,7 +318,9 @@ impl MachineGraph {
     {
         self.row.copy_from_slice(self.store.memory(memory));
         for place in 0..self.row.len() {
-            self.row[place] = self.swept_value(self.row[place], range)?;
+            let id = self.row[place];
+            let after = self.swept_value(id, range)?;
+            self.row[place] = after;
         }
         self.store.number_row(self.row.as_slice())
     }

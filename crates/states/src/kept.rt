@@ -21,7 +21,7 @@ ghost use Rattle.cheri_model.specs.runs.Machine.{opening_state};
 ghost use Rattle.schedules.specs.Schedules.{operation_of_label, AreLabelsOf};
 ghost use Rattle.state_store.specs.Stores.{state_of};
 ghost use Rattle.states.specs.Graphs.{state_in};
-ghost use Rattle.states.specs.Kept.{kept_of, IsSearch, IsWitnessOrder, AreAllKept};
+ghost use Rattle.states.specs.Kept.{kept_of, at, count, IsSearch, IsWitnessOrder, AreAllKept};
 
 use crate::graph::MachineGraph;
 use cheri_model::{Image, Op};
@@ -56,6 +56,8 @@ fn operation_of_label(image: &Image, sweeps: &[SweepRange], label: u32) -> Op
     requires { IsSome (operation_of_label image.now sweeps.now label) }
     ensures { operation_of_label image.now sweeps.now label ≡ Some result }
 {
+    // Its clause says that there are at most 8 harts.
+    let _granules = image.granules();
     let harts = image.harts().len();
     let label = label as usize;
     if label < harts {
@@ -112,7 +114,7 @@ impl Kept {
 
     /// How many states are kept.
     pub fn len(&self) -> u32
-        ensures count { result ≡ self.now.count }
+        ensures count { result ≡ count self.now }
         ensures search { IsSearch self.now }
     {
         self.reached.len()
@@ -142,8 +144,8 @@ impl Kept {
 
     /// The state of this number.
     pub fn state(&self, number: u32) -> State<'_>
-        requires { number < self.now.count }
-        ensures state { self.now.at number ≡ state_of result.store.now result.row.now }
+        requires { number < count self.now }
+        ensures state { at self.now number ≡ state_of result.store.now result.row.now }
         ensures meant { IsSome (state_of result.store.now result.row.now) }
         ensures harts { length result.row.now ≡ length self.now.image.harts + 1 }
         ensures granules { 16 * result.store.now.granules ≡ self.now.image.ram }
@@ -160,8 +162,8 @@ impl Kept {
     /// The witness of the state of this number: the order that leads to it. Fails only when out of
     /// memory.
     pub fn witness(&self, alloc: Global, number: u32) -> Result<Vec<Op>, AllocError>
-        requires { number < self.now.count }
-        ensures { IfOk result (λ order. (s : MachineState) → self.now.at number ≡ Some s →
+        requires { number < count self.now }
+        ensures { IfOk result (λ order. (s : MachineState) → at self.now number ≡ Some s →
             IsWitnessOrder self.now.image self.now.sweeps s order.items) }
     {
         let labels = self.reached.witness(alloc, number)?;
