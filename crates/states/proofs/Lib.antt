@@ -5,3 +5,4 @@ pub mod StepLemmas
 pub mod KeptLemmas
 pub mod SizeLemmas
 pub mod LabelLemmas
+pub mod KeepLemmas
