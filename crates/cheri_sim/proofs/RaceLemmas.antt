@@ -9,7 +9,7 @@ use Rattle.cheri_model.specs.runs.Image.{ImageParts}
 use Rattle.cheri_model.specs.runs.Replay.{IsReplay}
 use Rattle.reports.specs.Report.{line, report}
 use Rattle.reports.specs.Sinks.{TakesBeginning}
-use Rattle.machine.specs.Cores.{CoreParts}
+use Rattle.cores.specs.Cores.{CoreParts}
 use Rattle.harts.specs.declared.faults.RunFault.{RunFault}
 use Rattle.harts.specs.declared.faults.RunFault.TheVariants as race
 use Rattle.harts.specs.declared.workers.HartReport.{HartReport}

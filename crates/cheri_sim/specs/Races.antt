@@ -6,7 +6,7 @@ use Rattle.cheri_model.specs.runs.Replay.{IsReplay}
 use Rattle.listings.specs.Meaning.{listing_meaning}
 use Rattle.reports.specs.Report.{line, report}
 use Rattle.reports.specs.Sinks.{TakesBeginning}
-use Rattle.machine.specs.Cores.{CoreParts}
+use Rattle.cores.specs.Cores.{CoreParts}
 use Rattle.harts.specs.declared.workers.HartReport.{HartReport}
 use Rattle.harts.specs.Reports.{AreReports}
 use Rattle.cheri_sim.specs.declared.faults.Fault.TheVariants.{CannotStart, ImageDiffers, Listing}

@@ -4,7 +4,7 @@ ghost use Rattle.std.specs.Prelude.{◌≡◌, ◌≢◌, ◌↔◌, IfOk, Err, 
 ghost use Rattle.std.specs.Sync.Mutex.{mutex_guard_value};
 ghost use Rattle.cheri_model.specs.runs.Replay.{operation_of};
 ghost use Rattle.cheri_model.specs.runs.Sweeps.{is_range};
-ghost use Rattle.machine.specs.Cores.{IsCore};
+ghost use Rattle.cores.specs.Cores.{IsCore};
 
 use cheri_model::{Event, Op};
 use machine::{Machine, Naming, StepFault, Watch, WatchFault};

@@ -1,7 +1,7 @@
 //! The loop of one hart: its turns, each one hold of the machine's lock.
 
 ghost use Rattle.std.specs.Prelude.{◌≡◌, ◌≢◌, ◌+◌, ◌≤◌, ◌<◌, ℕ, OnOk, OnErr, Err};
-ghost use Rattle.machine.specs.declared.faults.StepFault.{StepFault};
+ghost use Rattle.cores.specs.declared.faults.StepFault.{StepFault};
 ghost use Rattle.harts.specs.Reports.{IsReason, goes_on};
 
 use crate::gates::{Gate, Turn};

@@ -2,11 +2,11 @@
 use Rattle.std.specs.Prelude.{◌≡◌}
 use Rattle.cheri_model.specs.runs.Image.{ImageParts}
 use Rattle.cheri_model.specs.runs.Replay.{operations_of}
-use Rattle.history.specs.Orders.{OrderName, order}
-use Rattle.machine.specs.Cores.{applied}
-use Rattle.machine.specs.declared.shown.Shown.{Shown}
-use Rattle.machine.specs.declared.shown.Ticket.{Ticket}
-use Rattle.machine.specs.declared.shown.Ticket.TheVariants.{Take, Tell}
+use Rattle.seen_order.specs.Orders.{OrderName, order}
+use Rattle.cores.specs.Cores.{applied}
+use Rattle.machine.specs.declared.watching.shown.Shown.{Shown}
+use Rattle.machine.specs.declared.watching.shown.Ticket.{Ticket}
+use Rattle.machine.specs.declared.watching.shown.Ticket.TheVariants.{Take, Tell}
 
 -- a copy after a ticket: an operation is applied; or it is told what was seen of the order
 unfoldable pub shown_after : Shown → Ticket → Shown

@@ -1,7 +1,7 @@
 -- Where a machine's core is.
-use Rattle.machine.specs.Cores.{CoreParts}
-use Rattle.machine.specs.declared.watched.Stage.{Stage}
-use Rattle.machine.specs.declared.watched.Stage.TheVariants.{Alone, Copied}
+use Rattle.cores.specs.Cores.{CoreParts}
+use Rattle.machine.specs.declared.watching.watched.Stage.{Stage}
+use Rattle.machine.specs.declared.watching.watched.Stage.TheVariants.{Alone, Copied}
 
 -- the core, alone or in copies
 abbrev pub core_at : {J : Type 0} → Stage J → CoreParts

@@ -8,17 +8,17 @@ ghost use Rattle.cheri_model.specs.runs.Authority.{EachOfState};
 ghost use Rattle.cheri_model.specs.runs.Machine.{swept_state, cleared};
 ghost use Rattle.cheri_model.specs.runs.Replay.{is_step_of, step_count};
 ghost use Rattle.cap_model.specs.results.Swept.{is_in_sweep};
-ghost use Rattle.machine.specs.Cores.{answered, answered_step, applied, refused};
+ghost use Rattle.cores.specs.Cores.{answered, answered_step, applied, refused};
 ghost use Rattle.machine.specs.Shares.{share_at, shares_of, IsCounted};
 ghost use Rattle.machine.specs.Watches.{watch_of};
 ghost use Rattle.cheri_model.specs.declared.operation.Event.{Event};
 ghost use Rattle.cheri_model.specs.declared.trace.Entry.{Entry};
 
-use crate::cores::Core;
-use crate::faults::{OpenFault, StepFault, WatchFault};
+use cores::{Core, StepFault};
+use crate::faults::{OpenFault, WatchFault};
 use crate::shares::{Blanks, Books, Naming, Share, Tokens};
-use crate::watched::Watched;
-use crate::watches::{Receipt, Watch};
+use crate::watching::watched::Watched;
+use crate::watching::watch::{Receipt, Watch};
 use cheri_model::{Entry, Event, Image, NoMemory, Op};
 use std::alloc::Global;
 use std::marker::Model;
@@ -36,7 +36,7 @@ pub struct Machine<J: Naming> {
 }
 
 impl<J: Naming> Model for Machine<J> {
-    ghost use Rattle.machine.specs.Cores.{CoreParts};
+    ghost use Rattle.cores.specs.Cores.{CoreParts};
 
     ghost Value = { CoreParts };
 

@@ -4,8 +4,8 @@ use Rattle.std.specs.Prelude.{None}
 use Rattle.cheri_model.specs.runs.Image.{ImageParts}
 use Rattle.cheri_model.specs.declared.operation.Op.TheVariants as operation
 use Rattle.cheri_model.specs.runs.Machine.{entry_of}
-use Rattle.machine.specs.Cores.{CoreParts, applied, core_after, refused}
-use Rattle.machine.proofs.CoreLemmas.{hart_is_there}
+use Rattle.cores.specs.Cores.{CoreParts, applied, core_after, refused}
+use Rattle.cores.proofs.CoreLemmas.{hart_is_there}
 use Rattle.machine.proofs.CopyLemmas.{applied_after, ends_with_step, refused_for_another, refused_step_answered, step_refused_for_another, taken_step_answered}
 use Rattle.machine.proofs.ShareLemmas.{counted_after}
 use Rattle.machine.proofs.machines.Machine.step.Goals as goal

@@ -4,10 +4,10 @@ use Rattle.std.specs.Prelude.{None}
 use Rattle.cheri_model.specs.declared.operation.Op.TheVariants as operation
 use Rattle.cheri_model.specs.declared.operation.Event.TheVariants as event
 use Rattle.cheri_model.specs.runs.Machine.{cleared}
-use Rattle.machine.specs.Cores.{CoreParts, applied, core_after, refused}
+use Rattle.cores.specs.Cores.{CoreParts, applied, core_after, refused}
 use Rattle.machine.proofs.CopyLemmas.{after_some, applied_after, refused_answered, refused_for_another, taken_answered}
 use Rattle.machine.proofs.ShareLemmas.{counted_still}
-use Rattle.machine.proofs.SweepLemmas.{ends_with_sweep, none_left, state_swept}
+use Rattle.cores.proofs.SweepLemmas.{ends_with_sweep, none_left, state_swept}
 use Rattle.machine.proofs.machines.Machine.sweep.Goals as goal
 
 pub returns-in-Some-clause-answered : goal.returns-in-Some-clause-answered
