@@ -20,10 +20,15 @@ use Rattle.cores.specs.declared.faults.StepFault.{StepFault}
 use Rattle.cores.specs.declared.faults.StepFault.TheVariants.{NoSuchHart, TraceFull, HartStopped, NoMemory, BadRange}
 use Rattle.cores.specs.Cores.{CoreParts, applied, answered, answered_step, unless_refused, refused, core_after, unless_kept}
 use Rattle.machine.specs.Copies.{shown_after, IsShown}
+use Rattle.machine.specs.Machines.{MachineParts}
 use Rattle.machine.specs.declared.watching.shown.Shown.{Shown}
 use Rattle.machine.specs.declared.watching.shown.Ticket.{Ticket}
 use Rattle.machine.specs.declared.watching.shown.Ticket.TheVariants.{Take, Tell}
 use Rattle.cores.proofs.CoreLemmas.{operations_after}
+
+-- machines that are one have one core
+pub core_is : {before after : MachineParts} → before ≡ after → before.core ≡ after.core
+core_is same = ap (λ (m : MachineParts). m.core) same
 
 -- a core's trace is that of its order
 pub trace_of_core : (core : CoreParts) (image : ImageParts) → IsReplay core.image core.trace core.state → core.image ≡ image →

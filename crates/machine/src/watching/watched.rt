@@ -1,9 +1,10 @@
 //! The core under a machine: alone until the first watch, and then two copies of it. Beside it the
 //! keeper of the order of its operations.
 
-ghost use Rattle.std.specs.Prelude.{◌≡◌, [], None, IfOk, OnOk, OnErr};
+ghost use Rattle.std.specs.Prelude.{◌≡◌, [], None, IfOk, OnOk, OnErr, Err, true, false};
 ghost use Rattle.cheri_model.specs.runs.Replay.{operation_of, operations_of};
 ghost use Rattle.cores.specs.Cores.{core_after, refused};
+ghost use Rattle.machine.specs.Machines.{unwatched};
 ghost use Rattle.machine.specs.Names.{order_named};
 ghost use Rattle.machine.specs.Watches.{watch_of};
 
@@ -28,7 +29,8 @@ pub enum Stage<J: Naming> {
     Copied(Pair<J>),
 }
 
-/// A core that one thread steps, and that others may watch. Contracts see the core.
+/// A core that one thread steps, and that others may watch. Contracts see the core, and whether
+/// it is in two copies.
 #[derive(Drop)]
 pub struct Watched<J: Naming> {
     stage: Stage<J>,
@@ -37,18 +39,18 @@ pub struct Watched<J: Naming> {
 }
 
 impl<J: Naming> Model for Watched<J> {
-    ghost use Rattle.cores.specs.Cores.{CoreParts};
+    ghost use Rattle.machine.specs.Machines.{MachineParts};
 
-    ghost Value = { CoreParts };
+    ghost Value = { MachineParts };
 
     ghost use Rattle.std.specs.Prelude.{◌≡◌};
     ghost use Rattle.cheri_model.specs.runs.Replay.{operations_of};
-    ghost use Rattle.machine.specs.Stages.{core_at};
+    ghost use Rattle.machine.specs.Machines.{machine_at};
 
-    ghost view = { λ w. core_at w.stage };
+    ghost view = { λ w. machine_at w.stage };
 
-    ghost invariant = { λ w. ((core_at w.stage).image ≡ J.image)
-        × (w.keeper ≡ operations_of (core_at w.stage).trace) };
+    ghost invariant = { λ w. ((machine_at w.stage).core.image ≡ J.image)
+        × (w.keeper ≡ operations_of (machine_at w.stage).core.trace) };
 }
 
 impl<J: Naming> Watched<J> {
@@ -56,7 +58,7 @@ impl<J: Naming> Watched<J> {
     pub fn open(alloc: Global, core: Core, blank: Blank) -> Watched<J>
         requires name { blank ≡ order_named J.names }
         requires image { core.image ≡ J.image }
-        ensures { result ≡ core }
+        ensures { result ≡ unwatched core }
     {
         let mut keeper = blank.named::<OrderOf<J>>();
         add_all::<J>(&mut keeper, core.view().entries);
@@ -69,8 +71,8 @@ impl<J: Naming> Watched<J> {
 
     /// The core.
     pub fn core(&self) -> &Core
-        ensures core { result.now ≡ self.now }
-        ensures image { self.now.image ≡ J.image }
+        ensures core { result.now ≡ self.now.core }
+        ensures image { self.now.core.image ≡ J.image }
     {
         match &self.stage {
             Stage::Alone(core) => core,
@@ -81,9 +83,10 @@ impl<J: Naming> Watched<J> {
     /// Takes an operation that is not refused, and shows it to watchers. Fails only when out of
     /// memory, and then nothing changes. Waits for a watcher that still looks at the other copy.
     pub fn take<R: Wait>(&mut self, rt: &R, op: Op) -> Result<(), NoMemory>
-        requires { refused self.old op ≡ None }
-        ensures ok { OnOk result (self.new ≡ core_after self.old op) }
-        ensures err { OnErr result (self.new ≡ self.old) }
+        requires { refused self.old.core op ≡ None }
+        ensures ok { OnOk result (self.new.core ≡ core_after self.old.core op) }
+        ensures err { OnErr result (self.new.core ≡ self.old.core) }
+        ensures copied { self.new.is_copied ≡ self.old.is_copied }
     {
         match &mut self.stage {
             Stage::Alone(core) => {
@@ -98,8 +101,13 @@ impl<J: Naming> Watched<J> {
     /// A watch of the machine, which has seen its trace of now. Fails with `NoPlace` where no place
     /// is free, and with `NoMemory` where the first one finds none for two copies of the core.
     pub fn watch(&mut self) -> Result<Watch<J>, WatchFault>
-        ensures watch { IfOk result (λ watch. watch ≡ watch_of self.old.image self.old.trace) }
-        ensures same { self.new ≡ self.old }
+        ensures watch { IfOk result (λ watch.
+            watch ≡ watch_of self.old.core.image self.old.core.trace) }
+        ensures same { self.new.core ≡ self.old.core }
+        ensures copied { OnOk result (self.new.is_copied ≡ true) }
+        ensures place { result ≡ Err WatchFault.NoPlace → self.new.is_copied ≡ true }
+        ensures memory { result ≡ Err WatchFault.NoMemory
+            → (self.old.is_copied ≡ false) × (self.new.is_copied ≡ false) }
     {
         let receipt = self.receipt();
         match &self.stage {
@@ -115,15 +123,15 @@ impl<J: Naming> Watched<J> {
 
     /// A receipt for the trace of now.
     pub fn receipt(&self) -> Receipt<J>
-        ensures { result ≡ self.now.trace }
+        ensures { result ≡ self.now.core.trace }
     {
         Receipt::of_core(self.core(), self.keeper.seen())
     }
 
     /// The core, once nobody looks at a copy of it.
     pub fn close<R: Wait>(self, rt: &R) -> Core
-        ensures core { result ≡ self }
-        ensures image { self.image ≡ J.image }
+        ensures core { result ≡ self.core }
+        ensures image { self.core.image ≡ J.image }
     {
         let Watched {
             stage,
