@@ -78,8 +78,8 @@ fn goes_on(outcome: Outcome) -> bool
     }
 }
 
-/// Why a loop ends at a step that is refused after so many steps. A hart that is stopped after steps
-/// of its own was stopped by the last of them: nobody else has its share.
+/// Why a loop ends at a step that is refused after so many steps. A hart that is stopped after
+/// steps of its own was stopped by the last of them: nobody else has its share.
 fn why_refused(steps: u32, fault: StepFault) -> Why
     requires there { fault ≢ StepFault.NoSuchHart }
     requires steps { fault ≢ StepFault.BadRange }

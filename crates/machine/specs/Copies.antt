@@ -13,7 +13,8 @@ unfoldable pub shown_after : Shown → Ticket → Shown
 shown_after shown (Take op) = record { core = applied shown.core op; token = shown.token }
 shown_after shown (Tell token) = record { core = shown.core; token = token }
 
--- What watchers are shown is a core of this image, and the order that was seen is that of its trace.
+-- What watchers are shown is a core of this image, and the order that was seen is that of its
+-- trace.
 pub record IsShown (image : ImageParts) (name : OrderName) (shown : Shown) : Type 0 where
   pub image_is : shown.core.image ≡ image
   pub book_is : shown.token.seen.book ≡ name.book

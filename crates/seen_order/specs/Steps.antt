@@ -35,8 +35,8 @@ MakesPen step before found after =
     × (order (pen_held after).key (links_seen after) ≡ [])
     × (open_end (pen_held after).key (links_seen after) ≡ (pen_held after).key)
 
--- Who holds the pen at the end of a chain adds one operation to it, and then the next pen is the one
--- at its end.
+-- Who holds the pen at the end of a chain adds one operation to it, and then the next pen is the
+-- one at its end.
 abbrev pub AddsLink : Step Link → View Link ℕ → ℕ → View Link ℕ → Type 0
 AddsLink step before found after =
     (first : ℕ) → open_end first (links_seen before) ≡ step.ask.pen
