@@ -22,7 +22,7 @@ use cheri_model::{Instr, Reg, Width};
 /// What an instruction asks for, with the values that it read. An access or a jump goes through the
 /// register `c1`.
 #[derive(Clone, Copy)]
-pub(crate) enum Action {
+pub enum Action {
     /// Writes `cd`.
     Put {
         cd: Reg,
@@ -117,7 +117,7 @@ fn form_action(form: Form, hart: &Hart) -> Action
 
 /// What an instruction asks for.
 #[tactic(auto, using(cheri_model::proofs::Runs::Instructions::forms_back))]
-pub(crate) fn instr_action(instr: Instr, hart: &Hart) -> Action
+pub fn instr_action(instr: Instr, hart: &Hart) -> Action
     ensures { action_of result ≡ action instr hart.now }
 {
     form_action(instr.form(), hart)

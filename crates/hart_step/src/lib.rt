@@ -10,8 +10,11 @@ mod integers;
 mod next_pcc;
 mod view;
 
+pub use actions::{Action, instr_action};
 pub use checks::access::access_check;
+pub use checks::fetch::fetch;
 pub use cheri_model::Access;
 pub use execute::step;
 pub use hart::Hart;
+pub use integers::{immediate, upper_immediate};
 pub use view::View;
