@@ -146,7 +146,7 @@ async function withBrowser(work) {
     const ended = new Promise((resolve) => browser.once("exit", resolve));
     browser.kill();
     await ended;
-    fs.rmSync(profile, { recursive: true, force: true, maxRetries: 5 });
+    fs.rmSync(profile, { recursive: true, force: true, maxRetries: 20, retryDelay: 100 });
   }
 }
 

@@ -8,19 +8,9 @@
 const fs = require("node:fs");
 const path = require("node:path");
 const { withBrowser } = require("./browser.js");
+const { check, checkFocus, checkQuiet, checkScreens, checkTree, end } = require("./checks.js");
 
 const [folder, pictures] = process.argv.slice(2);
-let passed = 0;
-let failed = 0;
-
-function check(name, holds, found) {
-  if (holds) passed += 1;
-  else {
-    failed += 1;
-    console.log(`page: FAILED: ${name}${found === undefined ? "" : `: ${JSON.stringify(found)}`}`);
-  }
-}
-
 const same = (one, other) => JSON.stringify(one) === JSON.stringify(other);
 const isMarked = (event) => event.outcome === "trap" || event.clears !== undefined;
 const fileUrl = (file) => `file://${path.resolve(folder, file)}`;
@@ -83,31 +73,6 @@ function longestMove() {
     document.body.getBoundingClientRect();
     return performance.now() - began;
   }));
-}
-
-/** Texts whose contrast with what lies below them is less than 4.5. */
-function faintTexts() {
-  const numbers = (colour) => colour.match(/[\d.]+/g).map(Number);
-  const light = ([r, g, b]) => [r, g, b].map((part) => part / 255)
-    .map((part) => (part <= 0.04045 ? part / 12.92 : ((part + 0.055) / 1.055) ** 2.4))
-    .reduce((sum, part, index) => sum + part * [0.2126, 0.7152, 0.0722][index], 0);
-  const below = (element) => {
-    for (let one = element; one; one = one.parentElement) {
-      const colour = numbers(getComputedStyle(one).backgroundColor);
-      if (colour.length === 3 || colour[3] === 1) return colour;
-    }
-    return [255, 255, 255];
-  };
-  const walker = document.createTreeWalker(document.body, NodeFilter.SHOW_TEXT);
-  const faint = [];
-  while (walker.nextNode()) {
-    const element = walker.currentNode.parentElement;
-    if (!walker.currentNode.data.trim() || !element.getClientRects().length) continue;
-    const [one, other] = [light(numbers(getComputedStyle(element).color)), light(below(element))];
-    const contrast = (Math.max(one, other) + 0.05) / (Math.min(one, other) + 0.05);
-    if (contrast < 4.5) faint.push([walker.currentNode.data.slice(0, 40), contrast]);
-  }
-  return faint;
 }
 
 // ------------------------------------------------------------------------- the checks
@@ -257,66 +222,6 @@ async function checkControls(tab, name, { events }) {
   check(`${name}: arrow keys in the list`, await place() === `2 of ${events.length}`, await place());
 }
 
-/** Roles, names, captions and headers, as a screen reader has them. */
-async function checkTree(tab, name) {
-  const tree = await tab.tree();
-  const controls = ["button", "slider", "checkbox", "link", "textbox", "combobox", "spinbutton"];
-  const unnamed = tree.filter(({ role, name }) => controls.includes(role) && !name.trim());
-  check(`${name}: every control has a name`, unnamed.length === 0, unnamed);
-  const tables = tree.filter(({ role }) => role === "table");
-  check(`${name}: every table has a caption`,
-    tables.length >= 3 && tables.every(({ name }) => name.trim()), tables.length);
-  const roles = new Set(tree.map(({ role }) => role));
-  for (const role of ["columnheader", "rowheader", "main", "status", "heading", "slider"]) {
-    check(`${name}: there is a ${role}`, roles.has(role));
-  }
-  check(`${name}: drawings have words`, tree.filter(({ role }) => role === "image")
-    .every(({ name }) => name.startsWith("reaches")));
-}
-
-/** The tab key comes to every control, and what has the focus shows it. */
-async function checkFocus(tab, name) {
-  await tab.ask(() => { document.activeElement.blur(); window.scrollTo(0, 0); });
-  const seen = new Set();
-  const unseen = [];
-  for (let count = 0; count < 14; count += 1) {
-    await tab.press("Tab");
-    const { id, outline } = await tab.ask(() => ({
-      id: document.activeElement.id || document.activeElement.tagName,
-      outline: getComputedStyle(document.activeElement).outlineStyle,
-    }));
-    seen.add(id);
-    if (id !== "BODY" && outline === "none") unseen.push(id);
-  }
-  check(`${name}: what has the focus shows it`, unseen.length === 0, unseen);
-  check(`${name}: the tab key comes to slider and filter`,
-    seen.has("slider") && seen.has("only-marked") && seen.has("BUTTON"), [...seen]);
-}
-
-async function checkScreens(tab, name) {
-  for (const [width, height] of [[320, 640], [1280, 800]]) {
-    for (const isDark of [false, true]) {
-      const words = `${name} at ${width} pixels, ${isDark ? "dark" : "light"}`;
-      await tab.screen(width, height, isDark);
-      await tab.go(fileUrl(`${name}.html`));
-      const wide = await tab.ask(() => document.scrollingElement.scrollWidth - innerWidth);
-      check(`${words}: doesn't scroll sideways`, wide <= 0, wide);
-      const faint = await tab.ask(faintTexts);
-      check(`${words}: contrast of text is at least 4.5`, faint.length === 0, faint.slice(0, 3));
-      if (pictures) {
-        await tab.picture(path.join(pictures, `${name}-${width}-${isDark ? "dark" : "light"}.png`));
-      }
-    }
-  }
-  await tab.send("Emulation.setEmulatedMedia",
-    { features: [{ name: "prefers-reduced-motion", value: "reduce" }] });
-  const moving = await tab.ask(() => [...document.querySelectorAll("*")].filter((one) => {
-    const style = getComputedStyle(one);
-    return style.animationName !== "none" || parseFloat(style.transitionDuration) > 0;
-  }).length);
-  check(`${name}: nothing moves where no motion is asked for`, moving === 0, moving);
-}
-
 /** A page of 5,000 events opens and moves quickly: the best of three, as machines are busy. */
 async function checkLarge(tab) {
   const { events } = dataOf("large.html");
@@ -334,13 +239,6 @@ async function checkLarge(tab) {
   check("it goes to any of them in less than half a second", moved < 500, moved);
   console.log(`page: 5,000 events: opened in ${Math.round(opened)} ms, `
     + `the longest move took ${Math.round(moved)} ms`);
-}
-
-/** Nothing leaves the page, and the console stays empty. */
-function checkQuiet(tab, name) {
-  const outside = tab.requests.filter((url) => !/^(file|data):/.test(url));
-  check(`${name}: no request leaves the page`, outside.length === 0, outside);
-  check(`${name}: the console stays empty`, tab.complaints.length === 0, tab.complaints);
 }
 
 withBrowser(async (newTab) => {
@@ -366,15 +264,8 @@ withBrowser(async (newTab) => {
   await tab.go(fileUrl(`${busiest}.html`));
   await checkTree(tab, busiest);
   await checkControls(tab, busiest, dataOf(`${busiest}.html`));
-  await checkFocus(tab, busiest);
-  await checkScreens(tab, busiest);
+  await checkFocus(tab, busiest, ["slider", "only-marked", "BUTTON"]);
+  await checkScreens(tab, busiest, () => tab.go(fileUrl(`${busiest}.html`)), pictures);
   if (fs.existsSync(path.join(folder, "large.html"))) await checkLarge(tab);
   checkQuiet(tab, busiest);
-}).then(() => {
-  console.log(`${passed} passed, ${failed} failed`);
-  process.exit(failed > 0 ? 1 : 0);
-}, (fault) => {
-  console.log(`page: FAILED: ${fault.stack}`);
-  console.log(`${passed} passed, ${failed + 1} failed`);
-  process.exit(1);
-});
+}).then(() => end(), end);

@@ -42,9 +42,9 @@
   }
 
   function begin() {
-    part("summary").textContent = `${view.plural(image.harts, "hart")}, `
-      + `${view.plural(image.code, "instruction")}, ${view.plural(image.ram, "byte")} of RAM, `
-      + `${view.plural(entries, "event")} in the run`
+    part("summary").textContent = `${draw.plural(image.harts, "hart")}, `
+      + `${draw.plural(image.code, "instruction")}, ${draw.plural(image.ram, "byte")} of RAM, `
+      + `${draw.plural(entries, "event")} in the run`
       + (events.length < entries ? `, of which ${events.length} are shown.` : ".");
     part("count").textContent = `(${marked.length} of ${events.length})`;
     slider.max = events.length;

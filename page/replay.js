@@ -42,8 +42,8 @@ const replay = (() => {
   }
 
   function valueAt(state, owner, place) {
-    if (owner === "mem") return state.mem[place] ?? view.NULL;
-    return place === "pcc" ? state.harts[owner].pcc : state.harts[owner].regs[place] ?? view.NULL;
+    if (owner === "mem") return state.mem[place] ?? draw.NULL;
+    return place === "pcc" ? state.harts[owner].pcc : state.harts[owner].regs[place] ?? draw.NULL;
   }
 
   /** Null values are left out of a state, as reports leave them out. */
@@ -96,7 +96,7 @@ const replay = (() => {
     for (const [owner, place, before] of old) {
       const now = valueAt(state, owner, place);
       const name = owner === "mem" ? `mem ${place}` : `${owner}:${place}`;
-      if (before.word !== now.word || before.tag !== now.tag || before.from !== now.from) {
+      if (!view.sameValue(before, now)) {
         changed.set(name, before.tag && !now.tag);
       }
     }

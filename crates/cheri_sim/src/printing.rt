@@ -2,7 +2,7 @@
 
 ghost use Rattle.std.specs.Prelude.{◌≡◌, OnOk, IfErr, IfSome};
 ghost use Rattle.std.specs.Io.KnownBytes.{Appends, Keeps};
-ghost use Rattle.hart_step.specs.View.{state_of};
+ghost use Rattle.hart.specs.View.{state_of};
 ghost use Rattle.reports.specs.Report.{line, report};
 ghost use Rattle.reports.specs.Sinks.{TakesBeginning};
 ghost use Rattle.cheri_sim.specs.Faults.{fault_text};

@@ -11,7 +11,7 @@ ghost use Rattle.cheri_model.specs.runs.Replay.{IsReplay};
 ghost use Rattle.cheri_model.specs.steps.HartStep.{hart_step};
 ghost use Rattle.cap_model.specs.results.Addresses.{address_of};
 ghost use Rattle.cap_model.specs.results.Swept.{is_in_sweep};
-ghost use Rattle.hart_step.specs.View.{state_of};
+ghost use Rattle.hart.specs.View.{state_of};
 ghost use Rattle.cores.specs.Cores.{CoreParts, IsCore, opening_core, is_limit, refused};
 ghost use Rattle.cores.specs.Cores.{answered, answered_step, core_after, applied};
 
@@ -39,13 +39,13 @@ pub struct Core {
 }
 
 impl Model for Core {
-    ghost use Rattle.hart_step.specs.View.{state_of};
+    ghost use Rattle.hart.specs.View.{state_of};
     ghost use Rattle.cores.specs.Cores.{CoreParts};
 
     ghost Value = { CoreParts };
 
     ghost use Rattle.std.specs.Prelude.{◌≤◌, vec_capacity};
-    ghost use Rattle.hart_step.specs.View.{state_of};
+    ghost use Rattle.hart.specs.View.{state_of};
     ghost use Rattle.cores.specs.Cores.{IsCore, parts_of_core};
 
     ghost view = { λ c. parts_of_core c.image c.limit c.trace.items c.harts.items c.ram };

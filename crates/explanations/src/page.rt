@@ -271,16 +271,9 @@ pub const PAGE_END: &str = "\
     </script>\n\
     <script>\n\
     \"use strict\";\n\
-    /**\n \
-    * The view of one moment of a run: harts, memory, events, the reasons, and th\
-    e listing.\n \
-    *\n \
-    * It draws what it is given and works nothing out: values, facts and reasons \
-    are those of the\n \
-    * program's JSON. All text is put in as text, so nothing of a listing becomes \
-    markup.\n \
-    */\n\
-    const view = (() => {\n  \
+    /** Elements, tables, and capabilities as cells and bars: what the view is ma\
+    de of. */\n\
+    const draw = (() => {\n  \
     const CODE_BASE = 0x10000000n;\n  \
     const RAM_BASE = 0x80000000n;\n  \
     const ADDRESS_SPACE = 1n << 64n;\n  \
@@ -293,18 +286,6 @@ pub const PAGE_END: &str = "\
     \"cinvoke\", \"unseal\", \"sysregs\", \"set_cid\", null, null, null, \"sw0\", \
     \"sw1\", \"sw2\", \"sw3\",\n  \
     ];\n\n  \
-    /** Names of a trap's cause by its number. */\n  \
-    const CAUSES = [\n    \
-    null, \"Tag\", \"Seal\", \"Execute\", \"Load\", \"Store\", \"StoreCap\", \"St\
-    oreLocal\", \"Length\",\n    \
-    \"Align\", \"Place\", \"Fetch\", \"Type\", \"CInvoke\",\n  \
-    ];\n\n  \
-    const PCC_NUMBER = 32;\n\n  \
-    /** At most so many lines of a listing, events or granules are drawn at once. \
-    */\n  \
-    const MOST_LINES = 2000;\n  \
-    const MOST_EVENTS = 200;\n  \
-    const MOST_GRANULES = 256;\n\n  \
     // ---------------------------------------------------------------- elements\n\n  \
     /** A new element with these attributes; text among the children stays text. \
     */\n  \
@@ -441,6 +422,33 @@ pub const PAGE_END: &str = "\
     }\n\n  \
     const VALUE_COLUMNS = [\"Tag\", \"Word\", \"Bounds\", \"Allows\", \"From\"];\n  \
     const NULL = { tag: false, word: \"0000000000000000_0000000000000000\" };\n\n  \
+    return { NULL, VALUE_COLUMNS, cell, element, plural, row, table, valueCells }\
+    ;\n\
+    })();\n\n\
+    /**\n \
+    * The view of one moment of a run: harts, memory, events, the reasons, and th\
+    e listing.\n \
+    *\n \
+    * It draws what it is given and works nothing out: values, facts and reasons \
+    are those of the\n \
+    * program's JSON. All text is put in as text, so nothing of a listing becomes \
+    markup.\n \
+    */\n\
+    const view = (() => {\n  \
+    const { NULL, VALUE_COLUMNS, cell, element, plural, row, table, valueCells } \
+    = draw;\n\n  \
+    /** Names of a trap's cause by its number. */\n  \
+    const CAUSES = [\n    \
+    null, \"Tag\", \"Seal\", \"Execute\", \"Load\", \"Store\", \"StoreCap\", \"St\
+    oreLocal\", \"Length\",\n    \
+    \"Align\", \"Place\", \"Fetch\", \"Type\", \"CInvoke\",\n  \
+    ];\n\n  \
+    const PCC_NUMBER = 32;\n\n  \
+    /** At most so many lines of a listing, events or granules are drawn at once. \
+    */\n  \
+    const MOST_LINES = 2000;\n  \
+    const MOST_EVENTS = 200;\n  \
+    const MOST_GRANULES = 256;\n\n  \
     function sameValue(one, other) {\n    \
     return one.word === other.word && one.tag === other.tag && one.from === other\
     .from;\n  \
@@ -768,9 +776,8 @@ pub const PAGE_END: &str = "\
     return { mark };\n  \
     }\n\n  \
     return {\n    \
-    bar, differences, element, eventList, isMarked, listing, plural, scaleOf, sho\
-    wEvent, showHarts,\n    \
-    showMemory, NULL,\n  \
+    differences, eventList, isMarked, listing, sameValue, showEvent, showHarts, s\
+    howMemory,\n  \
     };\n\
     })();\n\n\
     /**\n \
@@ -815,9 +822,9 @@ pub const PAGE_END: &str = "\
     return writes;\n  \
     }\n\n  \
     function valueAt(state, owner, place) {\n    \
-    if (owner === \"mem\") return state.mem[place] ?? view.NULL;\n    \
+    if (owner === \"mem\") return state.mem[place] ?? draw.NULL;\n    \
     return place === \"pcc\" ? state.harts[owner].pcc : state.harts[owner].regs[p\
-    lace] ?? view.NULL;\n  \
+    lace] ?? draw.NULL;\n  \
     }\n\n  \
     /** Null values are left out of a state, as reports leave them out. */\n  \
     function put(state, owner, place, value) {\n    \
@@ -868,8 +875,7 @@ pub const PAGE_END: &str = "\
     for (const [owner, place, before] of old) {\n      \
     const now = valueAt(state, owner, place);\n      \
     const name = owner === \"mem\" ? `mem ${place}` : `${owner}:${place}`;\n      \
-    if (before.word !== now.word || before.tag !== now.tag || before.from !== now\
-    .from) {\n        \
+    if (!view.sameValue(before, now)) {\n        \
     changed.set(name, before.tag && !now.tag);\n      \
     }\n    \
     }\n    \
@@ -937,10 +943,10 @@ pub const PAGE_END: &str = "\
     return target.matches(\"input, textarea, select\");\n  \
     }\n\n  \
     function begin() {\n    \
-    part(\"summary\").textContent = `${view.plural(image.harts, \"hart\")}, `\n      \
-    + `${view.plural(image.code, \"instruction\")}, ${view.plural(image.ram, \"by\
+    part(\"summary\").textContent = `${draw.plural(image.harts, \"hart\")}, `\n      \
+    + `${draw.plural(image.code, \"instruction\")}, ${draw.plural(image.ram, \"by\
     te\")} of RAM, `\n      \
-    + `${view.plural(entries, \"event\")} in the run`\n      \
+    + `${draw.plural(entries, \"event\")} in the run`\n      \
     + (events.length < entries ? `, of which ${events.length} are shown.` : \".\"\
     );\n    \
     part(\"count\").textContent = `(${marked.length} of ${events.length})`;\n    \

@@ -1,4 +1,2 @@
 pub mod Open
-pub mod OpenedHarts
-pub mod SweptHarts
 pub mod Verdicts

@@ -1,38 +1,13 @@
 -- Names for `unfolding(..)` that open what their own line names, and for `using(..)` of a long path.
-use Rattle.std.specs.Prelude.{ℕ, ℤ, List}
-use Rattle.cheri_model.specs.declared.form.Form.{Form}
-use Rattle.cheri_model.specs.declared.form.ThreeOp.{ThreeOp}
-use Rattle.cheri_model.specs.declared.form.ImmediateOp.{ImmediateOp}
-use Rattle.cheri_model.specs.declared.form.LoadOp.{LoadOp}
-use Rattle.cheri_model.specs.declared.form.BranchOp.{BranchOp}
+use Rattle.std.specs.Prelude.{ℕ, List}
 use Rattle.cheri_model.specs.declared.instr.Instr.{Instr}
-use Rattle.cheri_model.specs.declared.image.HartImage.{HartImage}
-use Rattle.cheri_model.specs.instructions.Form.{instr_of, three_instr, two_instr, immediate_instr}
-use Rattle.cheri_model.specs.instructions.Form.{shift_instr, word_shift_instr, upper_instr}
-use Rattle.cheri_model.specs.instructions.Form.{load_instr, store_instr, branch_instr}
-use Rattle.cheri_model.specs.instructions.Integers.{sum, difference, word_sum, word_difference}
-use Rattle.cheri_model.specs.instructions.Integers.{is_less_signed, shifted_left, shifted_right}
-use Rattle.cheri_model.specs.instructions.Integers.{shifted_arithmetic, extended_word, extended}
-use Rattle.cheri_model.specs.instructions.Integers.{word_shifted_left, word_shifted_right}
-use Rattle.cheri_model.specs.instructions.Integers.{word_shifted_arithmetic, upper_immediate}
-use Rattle.cheri_model.specs.steps.Actions.{Action, action, address_of_target}
+use Rattle.cheri_model.specs.steps.Actions.{Action, action}
 use Rattle.cheri_model.specs.steps.Checks.{CheckLine, fetch_table, target_table, jump_table}
 use Rattle.cheri_model.specs.steps.Checks.{invoke_table}
-use Rattle.cheri_model.specs.steps.Hart.{HartState, register, put, next}
+use Rattle.cheri_model.specs.steps.Hart.{HartState}
 use Rattle.cheri_model.specs.steps.HartStep.{Stepped, execute, trapped, hart_step, permitted}
 use Rattle.cheri_model.specs.steps.HartStep.{instruction_at}
-use Rattle.cheri_model.specs.runs.Image.{opening_hart}
-use Rattle.cap_model.specs.results.CapInstructions.{capability_result}
 use Rattle.cap_model.specs.values.CapValue.{CapValue}
-use Rattle.cheri_model.proofs.Runs.Instructions.{integers_back, extended_low}
-
-pub ruleset back = (integers_back)
-
-pub ruleset low = (extended_low)
-
-unfoldable pub hart : HartImage → HartState
-unfolding opening_hart register put next
-hart image = opening_hart image
 
 unfoldable pub done : Action → HartState → List CapValue → Stepped
 unfolding execute trapped permitted
@@ -42,10 +17,6 @@ unfoldable pub step : List Instr → HartState → List CapValue → Stepped
 unfolding hart_step trapped
 step program hart memory = hart_step program hart memory
 
-unfoldable pub integers : ℕ → ℕ → ℕ
-unfolding is_less_signed shifted_left shifted_right shifted_arithmetic extended_word word_sum word_difference word_shifted_left word_shifted_right word_shifted_arithmetic upper_immediate extended
-integers a b = word_sum a b
-
 unfoldable pub fetches : CapValue → ℕ → List CheckLine
 unfolding fetch_table instruction_at
 fetches pcc count = fetch_table pcc count
@@ -53,24 +24,3 @@ fetches pcc count = fetch_table pcc count
 unfoldable pub jump_checks : CapValue → ℕ → List CheckLine
 unfolding target_table jump_table invoke_table
 jump_checks pcc target = target_table pcc target
-
--- what instructions ask for, by their forms
-unfoldable pub forms : Form → HartState → Action
-unfolding instr_of action
-forms form hart = action (instr_of form) hart
-
-unfoldable pub registers : ThreeOp → ℕ → ℕ → ℕ → HartState → Action
-unfolding three_instr two_instr action capability_result sum difference
-registers op cd c1 c2 hart = action (three_instr op cd c1 c2) hart
-
-unfoldable pub immediates : ImmediateOp → ℕ → ℕ → ℤ → HartState → Action
-unfolding immediate_instr shift_instr word_shift_instr upper_instr action capability_result sum
-immediates op cd c1 imm hart = action (immediate_instr op cd c1 imm) hart
-
-unfoldable pub accesses : LoadOp → ℕ → ℕ → ℤ → HartState → Action
-unfolding load_instr store_instr action sum
-accesses op cd c1 imm hart = action (load_instr op cd c1 imm) hart
-
-unfoldable pub jumps : BranchOp → ℕ → ℕ → ℕ → HartState → Action
-unfolding branch_instr action address_of_target
-jumps op c1 c2 target hart = action (branch_instr op c1 c2 target) hart

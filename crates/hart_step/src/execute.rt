@@ -17,18 +17,16 @@ ghost use Rattle.cheri_model.specs.runs.Authority.{IsConfinedTo, alone};
 ghost use Rattle.cap_model.specs.values.CapValue.{IsLawfulValue};
 ghost use Rattle.cheri_model.specs.steps.HartStep.{execute, hart_step, loaded, permitted};
 ghost use Rattle.cap_model.specs.results.Addresses.{address_of, in_bounds, is_open};
-ghost use Rattle.hart_step.specs.Actions.{action_of};
+ghost use Rattle.instructions.specs.Actions.{action_of};
 
-use crate::actions::{Action, instr_action};
 use crate::checks::access::access_check;
 use crate::checks::fetch::fetch;
 use crate::checks::jumps::{invoke_check, jump_check, target_check};
-use crate::hart::Hart;
-use crate::integers::extended;
-use crate::next_pcc::{at_target, jumped_to, link};
 use cap_ops::Cap;
 use cheri_model::permission::LOAD_CAP;
 use cheri_model::{Access, Instr, Outcome, Reg, Status, Width};
+use hart::{Hart, at_target, jumped_to, link};
+use instructions::{Action, extended, instr_action};
 use tagged_mem::Ram;
 
 /// A loaded number, sign-extended or not.
@@ -298,8 +296,7 @@ pub fn step(program: &[Instr], hart: &mut Hart, ram: &mut Ram) -> Outcome
     let _granules = ram.granule_count();
     match fetch(program, hart.pcc()) {
         Ok(instr) => {
-            let action = instr_action(instr, hart);
-            execute(action, hart, ram)
+            execute(instr_action(instr, hart), hart, ram)
         }
         Err(trap) => hart.trap(trap),
     }

@@ -1,20 +1,13 @@
-//! One hart of a CHERI-RISC-V machine, and one step of it: the checks of a fetch, then what the
-//! instruction at PCC asks for.
+//! One step of one hart of a CHERI-RISC-V machine: the checks of a fetch, then what the instruction
+//! at PCC asks for.
 #![tactic(auto)]
 
-mod actions;
 mod checks;
 mod execute;
-mod hart;
-mod integers;
-mod next_pcc;
-mod view;
 
-pub use actions::{Action, instr_action};
 pub use checks::access::access_check;
 pub use checks::fetch::fetch;
 pub use cheri_model::Access;
 pub use execute::step;
-pub use hart::Hart;
-pub use integers::{immediate, upper_immediate};
-pub use view::View;
+pub use hart::{Hart, View};
+pub use instructions::{Action, immediate, instr_action, upper_immediate};

@@ -28,7 +28,7 @@ use Rattle.origins.proofs.Made.{IsOf-itself, IsOf-result, IsOf-next_pcc, IsOf-wi
 use Rattle.origins.proofs.Writes.{at_each, at_set}
 
 -- a lawful hart's register
-register_lawful : (hart : HartState) (n : ℕ) → EachOfHart IsLawfulValue hart → IsLawfulValue (register hart n)
+pub register_lawful : (hart : HartState) (n : ℕ) → EachOfHart IsLawfulValue hart → IsLawfulValue (register hart n)
 unfolding register
 register_lawful hart n lawful = at_each IsLawfulValue hart.regs n null (omega arith) lawful.regs
 

@@ -1,6 +1,6 @@
 -- Flows: for each instruction, which places it sets, and from where as they were before (CHERI ISA
 -- v9, "provenance"). Where a result has no tag its flow says nothing.
-use Rattle.std.specs.Prelude.{ℕ, ◌==◌, if◌then◌else◌, List, [], ◌∷◌}
+use Rattle.std.specs.Prelude.{ℕ, ◌<◌, ◌==◌, if◌then◌else◌, List, [], ◌∷◌, ⊤}
 use Rattle.cheri_model.specs.declared.instr.Instr.{Instr}
 use Rattle.cheri_model.specs.declared.instr.Instr.TheVariants as instr
 use Rattle.cheri_model.specs.declared.trace.Outcome.{Outcome}
@@ -92,3 +92,15 @@ step_flows program hart memory =
 unfoldable pub source_of : List Flow → Spot → Spot
 source_of [] spot = spot
 source_of (flow ∷ rest) spot = if is_same flow.set spot then flow.source else source_of rest spot
+
+-- a place that a hart names, in a machine with this many granules
+abbrev pub IsSpot : ℕ → Spot → Type 0
+IsSpot granules Pcc = ⊤
+IsSpot granules (Register number) = number < 32
+IsSpot granules (Granule number) = number < granules
+
+-- flows between such places
+abbrev pub AreSpots : ℕ → List Flow → Type 0
+AreSpots granules [] = ⊤
+AreSpots granules (flow ∷ rest) =
+    IsSpot granules flow.set × IsSpot granules flow.source × AreSpots granules rest

@@ -1,9 +1,9 @@
 //! The flows of an instruction.
 
-ghost use Rattle.std.specs.Prelude.{◌≡◌, ◌+◌, ◌^◌, ◌<◌, ◌∷◌};
-ghost use Rattle.cheri_model.specs.steps.Memory.{ram_base};
+ghost use Rattle.std.specs.Prelude.{◌≡◌, ℕ, ◌+◌, ◌^◌, ◌<◌, ◌∷◌};
+ghost use Rattle.cheri_model.specs.steps.Memory.{ram_base, granule_number};
 ghost use Rattle.origins.specs.declared.place.Spot.TheVariants.{Pcc, Register};
-ghost use Rattle.origins.specs.Flows.{flow, into, flows_at, granule_of};
+ghost use Rattle.origins.specs.Flows.{flow, into, flows_at, granule_of, IsSpot, AreSpots};
 ghost use Rattle.origins.specs.Table.{list_of};
 
 use crate::place::{Flow, Spot};
@@ -23,14 +23,16 @@ pub enum StepFlows {
 /// The granule that the byte at `address` is in.
 fn granule(address: u64) -> Spot
     requires { address < ram_base + 2 ^ 20 }
-    ensures { result ≡ granule_of address }
+    ensures value { result ≡ granule_of address }
+    ensures spot { (count : ℕ) → granule_number address < count → IsSpot count result }
 {
     Spot::Granule((address.saturating_sub(RAM_BASE) / u64::from(GRANULE_BYTES)) as u32)
 }
 
 /// A result in `cd` that comes from `source`; a write to c0 is dropped.
 fn into(cd: Reg, source: Spot) -> StepFlows
-    ensures { list_of result ≡ into cd source }
+    ensures value { list_of result ≡ into cd source }
+    ensures spots { (count : ℕ) → IsSpot count source → AreSpots count (list_of result) }
 {
     let number = cd.number();
     if number == 0 {
@@ -45,7 +47,9 @@ fn into(cd: Reg, source: Spot) -> StepFlows
 /// The granule at `address`, set to what is in `stored`.
 fn stored(address: u64, stored: Reg) -> Flow
     requires { address < ram_base + 2 ^ 20 }
-    ensures { result ≡ flow (granule_of address) (Register stored) }
+    ensures value { result ≡ flow (granule_of address) (Register stored) }
+    ensures set { (count : ℕ) → granule_number address < count → IsSpot count result.set }
+    ensures source { (count : ℕ) → IsSpot count result.source }
 {
     Flow {
         set: granule(address),
@@ -55,7 +59,9 @@ fn stored(address: u64, stored: Reg) -> Flow
 
 /// PCC, set by a jump through a register.
 fn jumped_to(through: Reg) -> Flow
-    ensures { result ≡ flow Pcc (Register through) }
+    ensures value { result ≡ flow Pcc (Register through) }
+    ensures set { (count : ℕ) → IsSpot count result.set }
+    ensures source { (count : ℕ) → IsSpot count result.source }
 {
     Flow {
         set: Spot::Pcc,
@@ -65,7 +71,9 @@ fn jumped_to(through: Reg) -> Flow
 
 /// A flow, and a result in `cd` that comes from `source`.
 fn and_into(first: Flow, cd: Reg, source: Spot) -> StepFlows
-    ensures { list_of result ≡ first ∷ into cd source }
+    ensures value { list_of result ≡ first ∷ into cd source }
+    ensures spots { (count : ℕ) → IsSpot count first.set → IsSpot count first.source →
+        IsSpot count source → AreSpots count (list_of result) }
 {
     let number = cd.number();
     if number == 0 {
@@ -81,11 +89,14 @@ fn and_into(first: Flow, cd: Reg, source: Spot) -> StepFlows
 }
 
 /// What an instruction that is done sets, and where from (CHERI ISA v9, "provenance"). Its access
-/// of memory, if it has one, is at `address`.
+/// of memory, if it has one, is at `address`. All are places of a machine whose memory has the
+/// granule there.
 #[tactic(auto, unfolding(crate::specs::Flows::flows_at))]
 pub fn flows(instr: &Instr, address: u64) -> StepFlows
     requires { address < ram_base + 2 ^ 20 }
-    ensures { list_of result ≡ flows_at instr.now address }
+    ensures value { list_of result ≡ flows_at instr.now address }
+    ensures spots { (count : ℕ) → granule_number address < count →
+        AreSpots count (list_of result) }
 {
     match *instr {
         Instr::CMove { cd, c1 }

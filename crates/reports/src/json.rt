@@ -3,7 +3,7 @@
 ghost use Rattle.std.specs.Prelude.{◌≡◌, ◌+◌, ◌*◌, ◌++◌, IfOk, OnOk};
 ghost use Rattle.std.specs.Prelude.{codes, decimal, map, string_bytes};
 ghost use Rattle.reports.specs.ReportText.{hex_text};
-ghost use Rattle.hart_step.specs.View.{state_of};
+ghost use Rattle.hart.specs.View.{state_of};
 ghost use Rattle.reports.specs.Json.{capability_data, entry_data, hart_data, image_data};
 ghost use Rattle.reports.specs.Json.{json_report};
 ghost use Rattle.reports.specs.Json.{put_granules, put_listed, put_registers, value_data};

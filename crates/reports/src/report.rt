@@ -9,7 +9,7 @@ ghost use Rattle.reports.specs.Report.{hart_lines, granule_line};
 ghost use Rattle.reports.specs.Report.{head_lines, shown_lines, report};
 ghost use Rattle.reports.specs.ReportFaults.{failures_of};
 ghost use Rattle.reports.specs.Sinks.{TakesAllBut, TakesBeginning};
-ghost use Rattle.hart_step.specs.View.{state_of};
+ghost use Rattle.hart.specs.View.{state_of};
 
 pub mod fault;
 pub mod text;

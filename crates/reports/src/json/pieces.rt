@@ -8,7 +8,7 @@ ghost use Rattle.serde_json.specs.Written.{comma_if, compact_text, has_float};
 ghost use Rattle.cheri_model.specs.declared.trace.Outcome.TheVariants.{Done};
 ghost use Rattle.cheri_model.specs.runs.ImageForm.{is_listed};
 ghost use Rattle.cheri_model.specs.steps.Memory.{IsMemory};
-ghost use Rattle.hart_step.specs.View.{state_of};
+ghost use Rattle.hart.specs.View.{state_of};
 ghost use Rattle.reports.specs.Json.{count, entry_data, image_data, json_report, outcome_data};
 ghost use Rattle.reports.specs.JsonText.{entries_part, entry_item, granule_member};
 ghost use Rattle.reports.specs.JsonText.{hart_item, harts_part, json_parts};

@@ -5,7 +5,7 @@ use Rattle.std.proofs.lemmas.Bool.{false≢true}
 use Rattle.std.proofs.lemmas.List.Sums.{fold_more}
 use Rattle.cheri_model.specs.steps.Memory.{store_capability, cleared_memory, is_ram_size}
 use Rattle.cheri_model.proofs.Granules.ImageGranules.{IsPlaced, image_placed, placed_fits}
-use Rattle.hart_step.proofs.OpenedHarts.{at_item, length-store_capability, image_ram_size}
+use Rattle.hart.proofs.OpenedHarts.{at_item, length-store_capability, image_ram_size}
 use Rattle.cores.proofs.opening.opening_ram.Goals as goal
 
 pub store_cap-requires : goal.store_cap-requires

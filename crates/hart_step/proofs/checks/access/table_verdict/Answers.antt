@@ -1,5 +1,5 @@
 -- The code's table is the definition's, line by line.
-use Rattle.std.proofs.Common.{◌≡◌, ℕ, ◌%◌, ◌==◌, Bool, ◌&&◌, not, refl, ap, ◌∙◌}
+use Rattle.std.proofs.Common.{ℕ, ◌%◌, ◌==◌, Bool, ◌&&◌, not, refl, ap, ◌∙◌}
 use Rattle.cap_model.specs.declared.permission.TheConstants as permission
 use Rattle.cheri_model.specs.declared.trace.TheConstants.Trap as cause
 use Rattle.cheri_model.specs.steps.Checks.{access_table, check_line, first_failing}

@@ -1,4 +1,0 @@
--- A hart, its actions, and what a view of a machine shows.
-pub mod Hart
-pub mod Actions
-pub mod View

@@ -1,0 +1,2 @@
+-- What an instruction asks for.
+pub mod Actions
