@@ -9,7 +9,7 @@ use Rattle.grammar.specs.declared.fault.ListingFaultKind.TheVariants as listing_
 use Rattle.orders.specs.declared.fault.OrderFault.{OrderFault}
 use Rattle.orders.specs.declared.fault.OrderFaultKind.{OrderFaultKind}
 use Rattle.orders.specs.declared.fault.OrderFaultKind.TheVariants as order_kinds
-use Rattle.reports.specs.Sinks.{TakesBeginning}
+use Rattle.sinks.specs.Sinks.{TakesBeginning}
 use Rattle.cores.specs.Runs.{Stop}
 use Rattle.cheri_sim.specs.declared.faults.Fault.{Fault}
 use Rattle.cheri_sim.specs.declared.faults.Fault.TheVariants as faults

@@ -3,15 +3,15 @@ use Rattle.std.proofs.Common.{◌≡◌, refl, subst, sym, ℕ, List, [], Option
 use Rattle.std.specs.Prelude.{IfErr}
 use Rattle.std.specs.Io.KnownBytes.{Appends, Keeps}
 use Rattle.std.proofs.KnownBytes.{Appends-kept}
-use Rattle.reports.specs.Sinks.{TakesBeginning}
-use Rattle.reports.specs.declared.report.fault.ReportFault.{ReportFault}
-use Rattle.reports.specs.declared.report.fault.ReportFault.TheVariants as written
+use Rattle.sinks.specs.Sinks.{TakesBeginning}
+use Rattle.sinks.specs.declared.fault.WriteFault.{WriteFault}
+use Rattle.sinks.specs.declared.fault.WriteFault.TheVariants as written
 use Rattle.cheri_sim.specs.declared.faults.Fault.{Fault}
 use Rattle.cheri_sim.specs.declared.faults.Fault.TheVariants as faults
 use Rattle.cheri_sim.specs.Faults.{written_fault}
 use Rattle.cheri_sim.specs.Printing.{IsUnwritten}
 
-pub unwritten : (refused : ReportFault) (old new : Option (List ℕ)) (text : List ℕ) → TakesBeginning old new text →
+pub unwritten : (refused : WriteFault) (old new : Option (List ℕ)) (text : List ℕ) → TakesBeginning old new text →
     IsUnwritten old new text (written_fault refused)
 unwritten written.Write old new text begun = begun
 unwritten written.NoMemory old new text begun = begun

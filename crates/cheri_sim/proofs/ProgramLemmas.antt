@@ -7,8 +7,8 @@ use Rattle.listings.specs.Faults.{Gives, no_memory}
 use Rattle.listings.specs.Meaning.{listing_meaning}
 use Rattle.cheri_model.specs.runs.Image.{ImageParts}
 use Rattle.cap_model.specs.declared.encoding.TheConstants.{ADDRESS_SPACE}
-use Rattle.reports.specs.Report.{line}
-use Rattle.reports.specs.Sinks.{TakesBeginning}
+use Rattle.report_lines.specs.Texts.{line}
+use Rattle.sinks.specs.Sinks.{TakesBeginning}
 use Rattle.cores.specs.Runs.{Stop}
 use Rattle.cores.specs.declared.faults.StepFault.{StepFault}
 use Rattle.command_line.specs.Requests.{Asked, Check, Run, Race, Bounds, Decode}

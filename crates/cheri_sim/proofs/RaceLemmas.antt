@@ -7,8 +7,9 @@ use Rattle.listings.specs.Faults.{Gives, no_memory}
 use Rattle.listings.specs.Meaning.{listing_meaning}
 use Rattle.cheri_model.specs.runs.Image.{ImageParts}
 use Rattle.cheri_model.specs.runs.Replay.{IsReplay}
-use Rattle.reports.specs.Report.{line, report}
-use Rattle.reports.specs.Sinks.{TakesBeginning}
+use Rattle.report_lines.specs.Texts.{line}
+use Rattle.reports.specs.Report.{report}
+use Rattle.sinks.specs.Sinks.{TakesBeginning}
 use Rattle.cores.specs.Cores.{CoreParts}
 use Rattle.harts.specs.declared.faults.RunFault.{RunFault}
 use Rattle.harts.specs.declared.faults.RunFault.TheVariants as race

@@ -3,11 +3,11 @@ use Rattle.std.proofs.Common.{◌≡◌, ◌∙◌, subst, sym, ap, ℕ, List, O
 use Rattle.std.specs.Prelude.{◌⊎◌, ⊤, IfOk, Result, Ok, Err}
 use Rattle.std.specs.Io.KnownBytes.{Appends, Keeps}
 use Rattle.std.proofs.KnownBytes.{Appends-kept, Appends-trans}
-use Rattle.reports.specs.Report.{line}
-use Rattle.reports.proofs.SinkLemmas.{begins_on, stops_on, puts_all}
-use Rattle.reports.specs.Sinks.{TakesBeginning}
-use Rattle.reports.specs.declared.report.fault.ReportFault.{ReportFault}
-use Rattle.reports.specs.declared.report.fault.ReportFault.TheVariants as written
+use Rattle.report_lines.specs.Texts.{line}
+use Rattle.sinks.proofs.SinkLemmas.{begins_on, stops_on, puts_all}
+use Rattle.sinks.specs.Sinks.{TakesBeginning}
+use Rattle.sinks.specs.declared.fault.WriteFault.{WriteFault}
+use Rattle.sinks.specs.declared.fault.WriteFault.TheVariants as written
 use Rattle.listings.specs.declared.fault.ListingFault.{ListingFault}
 use Rattle.listings.specs.Faults.{no_memory}
 use Rattle.simulation.specs.declared.faults.SimFault.{SimFault}
@@ -106,7 +106,7 @@ json_begun listing order run old new is core confined begun =
 -- a refusal, which printed nothing unless it was of the report
 unprinted : (form : ReportForm) (listing order : List ℕ) (IsSo : Run → Type 0) (refused : SimFault) (old new : Option (List ℕ)) →
     IsRefusedRun (longest_run listing order) IsSo refused → (is_reported refused ≡ false → new ≡ old) →
-    ((fault : ReportFault) → refused ≡ sim.Report fault → Fails (IsRunAnswer form listing order) true (written_fault fault) old new) →
+    ((fault : WriteFault) → refused ≡ sim.Report fault → Fails (IsRunAnswer form listing order) true (written_fault fault) old new) →
     Fails (IsRunAnswer form listing order) true (sim_fault refused) old new
 unprinted form listing order IsSo (sim.Listing fault) old new is same reported =
     listing_fails (IsRunAnswer form listing order) true old new fault (by is) (same refl)
@@ -126,7 +126,7 @@ text_begun : (listing order : List ℕ) (old new : Option (List ℕ)) (meaning :
 text_begun listing order old new (Ok run) is begun = (report_of run, run.1, run_answer forms.Text listing order run run.1 is begun.0 refl, begun.1)
 text_begun listing order old new (Err fault) is begun = absurd begun
 
-stops : (form : ReportForm) (listing order : List ℕ) (fault : ReportFault) (old new : Option (List ℕ)) →
+stops : (form : ReportForm) (listing order : List ℕ) (fault : WriteFault) (old new : Option (List ℕ)) →
     HasPrefix (IsRunAnswer form listing order) old new →
     Fails (IsRunAnswer form listing order) true (written_fault fault) old new
 stops form listing order written.Write old new begun = begun

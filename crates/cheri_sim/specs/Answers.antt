@@ -12,8 +12,9 @@ use Rattle.grammar.specs.declared.fault.ListingFaultKind.{ListingFaultKind}
 use Rattle.cheri_sim.specs.declared.faults.Fault.{Fault}
 use Rattle.cheri_sim.specs.declared.faults.Fault.TheVariants.{BadNumber}
 use Rattle.grammar.specs.Numerals.{number_of}
-use Rattle.reports.specs.Report.{line}
-use Rattle.reports.specs.ReportText.{◌+++◌, hex_text, type_text}
+use Rattle.report_lines.specs.Texts.{line}
+use Rattle.report_lines.specs.Texts.{◌+++◌}
+use Rattle.report_lines.specs.ValueText.{hex_text, type_text}
 
 -- a number that a word of a listing writes, where it is at most the limit
 abbrev pub number_within : ℕ → Result (Option ℕ) ListingFaultKind → Result ℕ Fault

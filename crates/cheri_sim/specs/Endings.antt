@@ -1,7 +1,7 @@
 -- How a command ends, and what standard output then has of its answer.
 use Rattle.std.specs.Prelude.{◌≡◌, ℕ, List, Option, Some, Result, Ok, Err, ◌⊎◌, Bool, true}
 use Rattle.std.specs.Io.KnownBytes.{Appends}
-use Rattle.reports.specs.Sinks.{TakesBeginning}
+use Rattle.sinks.specs.Sinks.{TakesBeginning}
 use Rattle.cores.specs.Runs.{Stop}
 use Rattle.cheri_sim.specs.declared.faults.Fault.{Fault}
 use Rattle.cheri_sim.specs.declared.faults.Fault.TheVariants.{NoMemory, CannotWrite, Step}

@@ -12,8 +12,8 @@ use Rattle.orders.specs.declared.fault.OrderFaultKind.{OrderFaultKind}
 use Rattle.orders.specs.declared.fault.OrderFaultKind.TheVariants as order_kinds
 use Rattle.grammar.specs.Faults.{listing_fault_text}
 use Rattle.orders.specs.Orders.{order_fault_text}
-use Rattle.reports.specs.declared.report.fault.ReportFault.{ReportFault}
-use Rattle.reports.specs.declared.report.fault.ReportFault.TheVariants as written
+use Rattle.sinks.specs.declared.fault.WriteFault.{WriteFault}
+use Rattle.sinks.specs.declared.fault.WriteFault.TheVariants as written
 use Rattle.cores.specs.Faults.{step_fault_text}
 use Rattle.simulation.specs.declared.faults.SimFault.{SimFault}
 use Rattle.simulation.specs.declared.faults.SimFault.TheVariants as sim
@@ -63,7 +63,7 @@ abbrev pub order_fault : OrderFault → Fault
 order_fault fault = order_fault_of_kind fault.kind fault
 
 -- a report that was not written whole
-abbrev pub written_fault : ReportFault → Fault
+abbrev pub written_fault : WriteFault → Fault
 written_fault written.Write = CannotWrite
 written_fault written.NoMemory = NoMemory
 

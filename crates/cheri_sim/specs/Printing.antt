@@ -1,6 +1,6 @@
 -- What is printed of a text that is not written whole.
 use Rattle.std.specs.Prelude.{ℕ, List, Option}
-use Rattle.reports.specs.Sinks.{TakesBeginning}
+use Rattle.sinks.specs.Sinks.{TakesBeginning}
 use Rattle.cheri_sim.specs.declared.faults.Fault.{Fault}
 use Rattle.cheri_sim.specs.declared.faults.Fault.TheVariants.{NoMemory, CannotWrite}
 

@@ -11,8 +11,8 @@ use Rattle.cheri_sim.specs.declared.program.TheConstants.{GREATEST_ADDRESS, GREA
 use Rattle.cheri_sim.specs.declared.faults.Fault.{Fault}
 use Rattle.cheri_sim.specs.declared.faults.Fault.TheVariants as fault
 use Rattle.cheri_sim.specs.Answers.{number_given, bounds_line, check_line, decode_line}
-use Rattle.reports.specs.Report.{line}
-use Rattle.reports.specs.Sinks.{TakesBeginning}
+use Rattle.report_lines.specs.Texts.{line}
+use Rattle.sinks.specs.Sinks.{TakesBeginning}
 use Rattle.cheri_sim.specs.Endings.{Answer, Fails}
 use Rattle.cheri_sim.specs.Faults.{fault_text, listing_fault, status_of}
 use Rattle.cheri_sim.specs.Files.{KnownFiles, AreBytesOf}

@@ -4,8 +4,9 @@ use Rattle.std.specs.Prelude.{Ok, Err, ⊤}
 use Rattle.cheri_model.specs.runs.Image.{ImageParts}
 use Rattle.cheri_model.specs.runs.Replay.{IsReplay}
 use Rattle.listings.specs.Meaning.{listing_meaning}
-use Rattle.reports.specs.Report.{line, report}
-use Rattle.reports.specs.Sinks.{TakesBeginning}
+use Rattle.report_lines.specs.Texts.{line}
+use Rattle.reports.specs.Report.{report}
+use Rattle.sinks.specs.Sinks.{TakesBeginning}
 use Rattle.cores.specs.Cores.{CoreParts}
 use Rattle.harts.specs.declared.workers.HartReport.{HartReport}
 use Rattle.harts.specs.Reports.{AreReports}

@@ -2,7 +2,7 @@
 use Rattle.std.specs.Prelude.{◌≡◌, ℕ, List, Result, Ok, Err, IfOk}
 use Rattle.serde_json.specs.Written.{compact_text}
 use Rattle.reports.specs.Json.{json_report}
-use Rattle.reports.specs.Report.{line}
+use Rattle.report_lines.specs.Texts.{line}
 use Rattle.cores.specs.declared.cores.TheConstants.{GREATEST_TRACE_LIMIT}
 use Rattle.simulation.specs.declared.faults.SimFault.{SimFault}
 use Rattle.cores.specs.Runs.{IsConfinedRun, Run}

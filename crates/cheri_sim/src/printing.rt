@@ -3,8 +3,9 @@
 ghost use Rattle.std.specs.Prelude.{◌≡◌, OnOk, IfErr, IfSome};
 ghost use Rattle.std.specs.Io.KnownBytes.{Appends, Keeps};
 ghost use Rattle.hart.specs.View.{state_of};
-ghost use Rattle.reports.specs.Report.{line, report};
-ghost use Rattle.reports.specs.Sinks.{TakesBeginning};
+ghost use Rattle.report_lines.specs.Texts.{line};
+ghost use Rattle.reports.specs.Report.{report};
+ghost use Rattle.sinks.specs.Sinks.{TakesBeginning};
 ghost use Rattle.cheri_sim.specs.Faults.{fault_text};
 ghost use Rattle.cheri_sim.specs.Printing.{IsUnwritten};
 

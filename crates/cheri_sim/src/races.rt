@@ -5,8 +5,8 @@ ghost use Rattle.std.specs.Prelude.{false, true};
 ghost use Rattle.cheri_model.specs.runs.Replay.{IsReplay};
 ghost use Rattle.cores.specs.Cores.{is_limit};
 ghost use Rattle.harts.specs.Reports.{AreReports};
-ghost use Rattle.reports.specs.Report.{line};
-ghost use Rattle.reports.specs.Sinks.{TakesBeginning};
+ghost use Rattle.report_lines.specs.Texts.{line};
+ghost use Rattle.sinks.specs.Sinks.{TakesBeginning};
 ghost use Rattle.cheri_sim.specs.Endings.{Fails, HasWhole};
 ghost use Rattle.cheri_sim.specs.Races.{IsRaceAnswer, TellsLooks, looks_text};
 

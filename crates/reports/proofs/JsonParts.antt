@@ -8,8 +8,8 @@ use Rattle.cheri_model.specs.runs.ImageForm.{is_listed}
 use Rattle.cheri_model.specs.declared.memory.TheConstants.{GRANULE_BYTES, MAX_RAM_BYTES}
 use Rattle.cheri_model.specs.steps.Memory.{IsMemory}
 use Rattle.reports.specs.JsonText.{granule_member, granule_members}
-use Rattle.reports.specs.Sinks.{TakesAllBut, TakesBeginning}
-use Rattle.reports.proofs.SinkLemmas.{takes_none, takes_then, stops_then, stops_on, begins_on, takes_to_end}
+use Rattle.sinks.specs.Sinks.{TakesAllBut, TakesBeginning}
+use Rattle.sinks.proofs.SinkLemmas.{takes_none, takes_then, stops_then, stops_on, begins_on, takes_to_end}
 
 -- one granule more
 granule_step : (memory : List CapValue) (number : ℕ) (d v : CapValue) (later more : Bool) (kept written : List ℕ)

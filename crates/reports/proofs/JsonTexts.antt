@@ -1,84 +1,27 @@
 -- The text of the JSON report is that of its pieces.
-use Rattle.std.proofs.Common.{◌≡◌, Equal, Greater, Ordering, ℕ, zero, suc, ◌+◌, ◌*◌, ◌/◌, ◌%◌, ◌^◌, ◌<◌, ◌≤◌, nat_lt, List, [], ◌∷◌, ◌++◌, length, map, flat_map, codes, decimal, Bool, true, false, ◌||◌, if◌then◌else◌, refl, sym, ap, ◌∙◌, inl, inr, append_assoc, append-nil, arith}
-use Rattle.std.proofs.Math.Nat.{div-lt_iff_lt-mul}
-use Rattle.std.proofs.lemmas.Nat.{le-div, pow-add, pow_pos, mod_below, div-add-mod'}
-use Rattle.std.proofs.lemmas.Bool.{cases_lt, cases_Bool, lt-ltb}
-use Rattle.std.proofs.lemmas.Bool.Decides.{nat_tests}
-use Rattle.std.proofs.lemmas.Grind.{flat_map-append}
-use Rattle.std.specs.Char.{digit_char}
-use Rattle.std.specs.Cmp.{nat_cmp_is}
+use Rattle.std.proofs.Common.{◌≡◌, Greater, ℕ, ◌+◌, ◌<◌, ◌≤◌, nat_lt, List, [], ◌∷◌, ◌++◌, length, map, codes, decimal, Bool, true, false, ◌||◌, if◌then◌else◌, refl, sym, ap, ◌∙◌, inl, inr, append_assoc, append-nil, arith}
+use Rattle.std.proofs.lemmas.Bool.{cases_Bool, lt-ltb}
 use Rattle.std.specs.Cmp.Lexicographic.{slice_cmp}
-use Rattle.std.specs.Ordering.{nat_cmp, match_ordering}
+use Rattle.std.specs.Ordering.{nat_cmp}
 use Rattle.serde_json.proofs.OnLiterals.{serde_json_on_literals}
-use Rattle.serde_json.specs.Data.{Data, string, array, object, Items, Members, no_members, member, put}
+use Rattle.serde_json.specs.Data.{Data, string, Members, no_members, member, put}
 use Rattle.serde_json.specs.View.{items_of}
 use Rattle.serde_json.specs.Written.{comma_if, compact_text, items_text, members_text}
-use Rattle.cheri_model.specs.declared.memory.TheConstants.{RAM_BASE, GRANULE_BYTES}
 use Rattle.cheri_model.specs.declared.operation.Event.{Event}
-use Rattle.cheri_model.specs.declared.trace.Outcome.TheVariants as outcome
 use Rattle.cap_model.specs.values.CapValue.{CapValue}
 use Rattle.cheri_model.specs.steps.Hart.{HartState}
 use Rattle.cheri_model.specs.runs.Image.{ImageParts}
 use Rattle.cheri_model.specs.runs.ImageForm.{is_listed}
 use Rattle.cheri_model.specs.runs.Machine.{MachineState}
-use Rattle.reports.specs.ReportText.{hex_text}
-use Rattle.reports.specs.Report.{numbered, version_of}
-use Rattle.reports.specs.Json.{count, value_data, entry_data, outcome_data, hart_data, put_listed, put_granules, image_data, json_report}
-use Rattle.reports.specs.JsonText.{entry_item, hart_item, granule_member, granule_members, entries_part, harts_part, memory_part, last_part, json_parts}
-use Rattle.reports.proofs.HexDigits.{first_digit, low_part}
-
--- ---- digits in quotes
-
--- one digit more, which stands for itself
-quoted_digit : (d : ℕ) (s t : List ℕ) → d < 16 → compact_text (string s) ≡ 34 ∷ t
-    → compact_text (string (digit_char d ∷ s)) ≡ 34 ∷ digit_char d ∷ t
-unfolding serde_json_on_literals
-quoted_digit d s t small same = grind (arith, nat_tests)
-
-pub plain_digits : (width n : ℕ) → compact_text (string (hex_text width n)) ≡ 34 ∷ (hex_text width n ++ 34 ∷ [])
-unfolding hex_text
-plain_digits zero n = refl
-plain_digits (suc width) n =
-    rw (first_digit width (4 * width) n refl) (quoted_digit (n / 2 ^ (4 * width) % 16) _ _ (omega arith) (plain_digits width n))
-
--- ---- digits in order
-
-digit_order : (d e : ℕ) → e < d → d < 16 → digit_char e < digit_char d
-digit_order d e less small = grind (arith, nat_tests)
-
-cmp_more : (x y : ℕ) (xs ys : List ℕ) → y < x → slice_cmp nat_cmp (x ∷ xs) (y ∷ ys) ≡ Greater
-cmp_more x y xs ys less = rw (sym (nat_cmp_is x y Greater less)) refl
-
-cmp_same : (x : ℕ) (xs ys : List ℕ) → slice_cmp nat_cmp xs ys ≡ Greater → slice_cmp nat_cmp (x ∷ xs) (x ∷ ys) ≡ Greater
-cmp_same x xs ys more = rw (sym (nat_cmp_is x x Equal refl)) more
-
-same_quotient : (a b k : ℕ) → b < a → a / k ≤ b / k → 0 < k → b / k ≡ a / k
-same_quotient a b k less least positive =
-    let ordered : b / k ≤ a / k = le-div (b / k) a k positive (omega (arith, div-add-mod' b k)) in omega arith
-
-pub hex_order : (width bits a b : ℕ) → bits ≡ 4 * width → a < 2 ^ bits → b < a →
-    slice_cmp nat_cmp (hex_text width a) (hex_text width b) ≡ Greater
-hex_order zero bits a b is below less = let none : bits ≡ 0 = omega arith in let small = rw none at below in absurd (omega arith)
-hex_order (suc width) bits a b is below less =
-    let k : ℕ = 4 * width in
-    let more : bits ≡ k + 4 = omega arith in
-    let size : 2 ^ bits ≡ 16 * 2 ^ k = rw more (omega (arith, pow-add 2 k 4)) in
-    let first : a / 2 ^ k < 16 = (div-lt_iff_lt-mul {k = 2 ^ k} {x = a} {y = 16} (pow_pos k)).1 (omega arith) in
-    let whole_a = div-add-mod' a (2 ^ k) in
-    let whole_b = div-add-mod' b (2 ^ k) in
-    rw (first_digit width k a refl, first_digit width k b refl)
-    (elim (cases_lt (b / 2 ^ k) (a / 2 ^ k)) [
-      | inl lower ↦
-          (let other : b / 2 ^ k % 16 ≡ b / 2 ^ k = omega arith in
-          let own : a / 2 ^ k % 16 ≡ a / 2 ^ k = omega arith in
-          rw (own, other) (cmp_more (digit_char (a / 2 ^ k)) (digit_char (b / 2 ^ k)) (hex_text width a) (hex_text width b) (digit_order (a / 2 ^ k) (b / 2 ^ k) lower first)))
-      | inr least ↦
-          (let same : b / 2 ^ k ≡ a / 2 ^ k = same_quotient a b (2 ^ k) less least (pow_pos k) in
-          let scaled = ap (λ (z : ℕ). z * 2 ^ k) same in
-          let rest : b % 2 ^ k < a % 2 ^ k = omega arith in
-          let later = hex_order width k (a % 2 ^ k) (b % 2 ^ k) refl (mod_below a (2 ^ k) (pow_pos k)) rest in
-          rw same (cmp_same (digit_char (a / 2 ^ k % 16)) (hex_text width a) (hex_text width b) (rw (low_part width k a refl, low_part width k b refl) at later)))
-    ])
+use Rattle.report_lines.specs.EventData.{event_data, image_data}
+use Rattle.report_lines.specs.Names.{address_of_granule}
+use Rattle.report_lines.specs.Texts.{numbered}
+use Rattle.report_lines.specs.ValueData.{value_data}
+use Rattle.report_lines.specs.ValueText.{hex_text}
+use Rattle.report_lines.proofs.JsonTexts.{hex_order, plain_digits}
+use Rattle.reports.specs.Json.{hart_data, put_granules, json_report}
+use Rattle.reports.specs.JsonText.{event_item, hart_item, granule_member, granule_members, events_part, harts_part, memory_part, last_part, json_parts}
+use Rattle.reports.specs.Report.{version_of}
 
 -- ---- items
 
@@ -94,10 +37,10 @@ items_are data_of place (x ∷ rest) =
     let others = rw some at (items_are data_of (place + 1) rest) in
     rw others (simp append_assoc)
 
-entry_items : (place : ℕ) (events : List Event) → numbered (item_text entry_data) place events ≡ numbered entry_item place events
-unfolding numbered entry_item
-entry_items place [] = refl
-entry_items place (x ∷ rest) = rw (entry_items (place + 1) rest) refl
+event_items : (place : ℕ) (events : List Event) → numbered (item_text event_data) place events ≡ numbered event_item place events
+unfolding numbered event_item
+event_items place [] = refl
+event_items place (x ∷ rest) = rw (event_items (place + 1) rest) refl
 
 hart_items : (number : ℕ) (harts : List HartState) → numbered (item_text hart_data) number harts ≡ numbered hart_item number harts
 unfolding numbered hart_item
@@ -153,7 +96,7 @@ some_more (member l e rest) k d = refl
 
 -- the key of a granule
 abbrev key : ℕ → List ℕ
-key number = hex_text 16 (RAM_BASE + GRANULE_BYTES * number)
+key number = hex_text 16 (address_of_granule number)
 
 -- keys of granules with lower numbers
 abbrev AreBefore : ℕ → Members → Type 0
@@ -161,7 +104,7 @@ AreBefore number no_members = Unit {0}
 AreBefore number (member l e rest) = ((n : ℕ) × ((n < number) × (l ≡ key n))) × AreBefore number rest
 
 key_order : (a b : ℕ) → b < a → a ≤ 65536 → slice_cmp nat_cmp (key a) (key b) ≡ Greater
-key_order a b less most = hex_order 16 64 (RAM_BASE + GRANULE_BYTES * a) (RAM_BASE + GRANULE_BYTES * b) refl (omega arith) (omega arith)
+key_order a b less most = hex_order 16 64 (address_of_granule a) (address_of_granule b) refl (omega arith) (omega arith)
 
 put_after : (number : ℕ) (d : Data) (members : Members) → AreBefore number members → number ≤ 65536
     → put (key number) d members ≡ followed_by members (key number) d
@@ -208,8 +151,8 @@ granules_are number (v ∷ rest) members before most = elim (cases_Bool (is_list
 
 -- ---- the whole
 
-entries_are : (events : List Event) → items_text false (items_of (map entry_data events)) ≡ numbered entry_item 0 events ++ 93 ∷ []
-entries_are events = items_are entry_data 0 events ∙ ap (λ l. l ++ 93 ∷ []) (entry_items 0 events)
+events_are : (events : List Event) → items_text false (items_of (map event_data events)) ≡ numbered event_item 0 events ++ 93 ∷ []
+events_are events = items_are event_data 0 events ∙ ap (λ l. l ++ 93 ∷ []) (event_items 0 events)
 
 harts_are : (harts : List HartState) → items_text false (items_of (map hart_data harts)) ≡ numbered hart_item 0 harts ++ 93 ∷ []
 harts_are harts = items_are hart_data 0 harts ∙ ap (λ l. l ++ 93 ∷ []) (hart_items 0 harts)
@@ -241,22 +184,12 @@ whole_text entries harts image mem version =
 -- a report is what is shown and its end
 pub json_report_text : (image : ImageParts) (events : List Event) (state : MachineState) → length state.memory ≤ 65536
     → compact_text (json_report image events state) ≡ json_parts image events state ++ last_part events
-unfolding json_report json_parts entries_part harts_part memory_part last_part serde_json_on_literals
+unfolding json_report json_parts events_part harts_part memory_part last_part serde_json_on_literals
 json_report_text image events state most =
-    (λ i. whole_of (entries_are events i) (harts_are state.harts i) (compact_text (image_data image))
+    (λ i. whole_of (events_are events i) (harts_are state.harts i) (compact_text (image_data image))
     (memory_are state.memory most i) (decimal (version_of events)))
-    ∙ whole_text (numbered entry_item 0 events) (numbered hart_item 0 state.harts) (compact_text (image_data image))
+    ∙ whole_text (numbered event_item 0 events) (numbered hart_item 0 state.harts) (compact_text (image_data image))
     (granule_members false 0 state.memory) (decimal (version_of events))
-
--- ---- an event
-
-pub done_text : (hart pc : ℕ) → compact_text (outcome_data (count hart) (string (hex_text 16 pc)) outcome.Done)
-    ≡ codes "{\"hart\":" ++ (decimal hart ++ (codes ",\"outcome\":\"done\",\"pc\":\"" ++ (hex_text 16 pc ++ codes "\"}")))
-unfolding serde_json_on_literals
-done_text hart pc =
-    ap (λ (l : List ℕ). codes "{\"hart\":" ++ (decimal hart ++ (codes ",\"outcome\":\"done\",\"pc\":" ++ (l ++ codes "}")))) (plain_digits 16 pc)
-    ∙ ap (λ (l : List ℕ). codes "{\"hart\":" ++ (decimal hart ++ (codes ",\"outcome\":\"done\",\"pc\":\"" ++ l)))
-    (append_assoc (hex_text 16 pc) (34 ∷ []) (codes "}"))
 
 -- ---- a granule
 
@@ -266,11 +199,11 @@ name_then old comma name value = simp append_assoc
 
 pub granule_written : (later : Bool) (place : ℕ) (v : CapValue) (old first second third fourth new : List ℕ)
     → is_listed v ≡ true → first ≡ old ++ comma_if later → second ≡ first ++ 34 ∷ []
-    → third ≡ second ++ hex_text 16 (RAM_BASE + GRANULE_BYTES * place) → fourth ≡ third ++ 34 ∷ 58 ∷ []
+    → third ≡ second ++ hex_text 16 (address_of_granule place) → fourth ≡ third ++ 34 ∷ 58 ∷ []
     → new ≡ fourth ++ compact_text (value_data v) → new ≡ old ++ granule_member later place v
 unfolding granule_member
 granule_written later place v old first second third fourth new listed a b c d e =
-    let name : List ℕ = hex_text 16 (RAM_BASE + GRANULE_BYTES * place) in
+    let name : List ℕ = hex_text 16 (address_of_granule place) in
     rw (listed, e, d, c, b, a)
     (name_then old (comma_if later) name (compact_text (value_data v))
-    ∙ ap (λ (l : List ℕ). old ++ (comma_if later ++ (l ++ 58 ∷ compact_text (value_data v)))) (sym (plain_digits 16 (RAM_BASE + GRANULE_BYTES * place))))
+    ∙ ap (λ (l : List ℕ). old ++ (comma_if later ++ (l ++ 58 ∷ compact_text (value_data v)))) (sym (plain_digits 16 (address_of_granule place))))

@@ -1,22 +1,25 @@
 -- The text of the JSON report in pieces: what stands for each event, hart and granule.
-use Rattle.std.specs.Prelude.{ℕ, ◌+◌, ◌*◌, nat_lt, Bool, false, ◌||◌, if◌then◌else◌}
+use Rattle.std.specs.Prelude.{ℕ, ◌+◌, nat_lt, Bool, false, ◌||◌, if◌then◌else◌}
 use Rattle.std.specs.Prelude.{List, [], ◌∷◌, ◌++◌, codes, decimal}
 use Rattle.serde_json.specs.Data.{string}
 use Rattle.serde_json.specs.Written.{comma_if, compact_text}
-use Rattle.cheri_model.specs.declared.memory.TheConstants.{RAM_BASE, GRANULE_BYTES}
 use Rattle.cheri_model.specs.declared.operation.Event.{Event}
 use Rattle.cap_model.specs.values.CapValue.{CapValue}
 use Rattle.cheri_model.specs.steps.Hart.{HartState}
 use Rattle.cheri_model.specs.runs.Image.{ImageParts}
 use Rattle.cheri_model.specs.runs.ImageForm.{is_listed}
 use Rattle.cheri_model.specs.runs.Machine.{MachineState}
-use Rattle.reports.specs.ReportText.{◌+++◌, hex_text}
-use Rattle.reports.specs.Report.{numbered, version_of}
-use Rattle.reports.specs.Json.{value_data, entry_data, hart_data, image_data}
+use Rattle.report_lines.specs.EventData.{event_data, image_data}
+use Rattle.report_lines.specs.Names.{address_of_granule}
+use Rattle.report_lines.specs.Texts.{◌+++◌, numbered}
+use Rattle.report_lines.specs.ValueData.{value_data}
+use Rattle.report_lines.specs.ValueText.{hex_text}
+use Rattle.reports.specs.Json.{hart_data}
+use Rattle.reports.specs.Report.{version_of}
 
 -- an event, after a comma where it isn't the first
-unfoldable pub entry_item : ℕ → Event → List ℕ
-entry_item place event = comma_if (nat_lt 0 place) ++ compact_text (entry_data event)
+unfoldable pub event_item : ℕ → Event → List ℕ
+event_item number event = comma_if (nat_lt 0 number) ++ compact_text (event_data event)
 
 unfoldable pub hart_item : ℕ → HartState → List ℕ
 hart_item number hart = comma_if (nat_lt 0 number) ++ compact_text (hart_data hart)
@@ -24,7 +27,7 @@ hart_item number hart = comma_if (nat_lt 0 number) ++ compact_text (hart_data ha
 -- a granule under its address, after a comma where one stands before; an untagged 0 has no text
 unfoldable pub granule_member : Bool → ℕ → CapValue → List ℕ
 granule_member later number v =
-    let name = hex_text 16 (RAM_BASE + GRANULE_BYTES * number) in
+    let name = hex_text 16 (address_of_granule number) in
     if is_listed v
     then comma_if later ++ (compact_text (string name) ++ 58 ∷ compact_text (value_data v))
     else []
@@ -36,8 +39,8 @@ granule_members later number (v ∷ rest) =
     granule_member later number v ++ granule_members (later || is_listed v) (number + 1) rest
 
 -- the events
-unfoldable pub entries_part : List Event → List ℕ
-entries_part events = codes "{\"entries\":[" ++ numbered entry_item 0 events
+unfoldable pub events_part : List Event → List ℕ
+events_part events = codes "{\"entries\":[" ++ numbered event_item 0 events
 
 -- the harts
 unfoldable pub harts_part : List HartState → List ℕ
@@ -56,4 +59,4 @@ last_part events = codes "},\"report\":" ++ (decimal (version_of events) ++ code
 -- what is shown before the end
 unfoldable pub json_parts : ImageParts → List Event → MachineState → List ℕ
 json_parts image events state =
-    entries_part events +++ harts_part state.harts +++ memory_part image state.memory
+    events_part events +++ harts_part state.harts +++ memory_part image state.memory

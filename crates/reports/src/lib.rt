@@ -1,16 +1,13 @@
-//! Reports: what is shown of a machine, as text.
+//! Reports: what is shown of a machine, as text and in JSON.
 #![tactic(auto)]
 
 mod json;
-pub mod laws;
 mod report;
-mod sink;
+mod state;
 
 pub use json::pieces::write_json;
 pub use json::report_json;
-pub use report::fault::ReportFault;
-pub use report::text::{Hex, HexWord, MOST_DIGITS, TypeText};
 pub use report::write_report;
-pub use sink::memory::MemSink;
-pub use sink::writer::ToWrite;
-pub use sink::{Sink, SinkFailed, put_whole};
+pub use report_lines::{Hex, HexWord, MOST_DIGITS, TypeText};
+pub use sinks::{MemSink, Sink, SinkFailed, ToWrite, WriteFault as ReportFault, put_whole};
+pub use state::{put_granules, put_harts};

@@ -9,7 +9,7 @@ use Rattle.orders.specs.Orders.{order_of}
 use Rattle.cheri_model.specs.declared.operation.Op.{Op}
 use Rattle.cheri_model.specs.runs.Image.{ImageParts}
 use Rattle.reports.specs.Report.{report}
-use Rattle.reports.specs.ReportFaults.{failures_of}
+use Rattle.sinks.specs.WriteFaults.{failures_of}
 use Rattle.cores.specs.declared.faults.BootFault.{BootFault}
 use Rattle.cores.specs.declared.faults.BootFault.TheVariants as boot
 use Rattle.simulation.specs.declared.faults.SimFault.{SimFault}

@@ -1,100 +1,43 @@
 //! The JSON report in pieces, so that no value of it is ever whole.
 
-ghost use Rattle.std.specs.Prelude.{◌≡◌, ◌+◌, ◌||◌, ◌++◌, false, codes, IfOk, OnOk, string_bytes};
+ghost use Rattle.std.specs.Prelude.{◌≡◌, ◌+◌, ◌||◌, ◌++◌, codes, IfOk, OnOk, string_bytes};
 ghost use Rattle.std.specs.Io.KnownBytes.{Appends};
-ghost use Rattle.serde_json.specs.Data.{string};
-ghost use Rattle.serde_json.specs.View.{view as data_of};
-ghost use Rattle.serde_json.specs.Written.{comma_if, compact_text, has_float};
-ghost use Rattle.cheri_model.specs.declared.trace.Outcome.TheVariants.{Done};
 ghost use Rattle.cheri_model.specs.runs.ImageForm.{is_listed};
 ghost use Rattle.cheri_model.specs.steps.Memory.{IsMemory};
 ghost use Rattle.hart.specs.View.{state_of};
-ghost use Rattle.reports.specs.Json.{count, entry_data, image_data, json_report, outcome_data};
-ghost use Rattle.reports.specs.JsonText.{entries_part, entry_item, granule_member};
+ghost use Rattle.report_lines.specs.EventData.{image_data};
+ghost use Rattle.reports.specs.Json.{json_report};
+ghost use Rattle.reports.specs.JsonText.{event_item, events_part, granule_member};
 ghost use Rattle.reports.specs.JsonText.{hart_item, harts_part, json_parts};
 ghost use Rattle.reports.specs.JsonText.{last_part, memory_part};
-ghost use Rattle.reports.specs.ReportFaults.{failures_of};
-ghost use Rattle.reports.specs.ReportText.{hex_text};
-ghost use Rattle.reports.specs.Sinks.{TakesAllBut, TakesBeginning};
+ghost use Rattle.serde_json.specs.Written.{compact_text};
+ghost use Rattle.sinks.specs.Sinks.{TakesAllBut, TakesBeginning};
+ghost use Rattle.sinks.specs.WriteFaults.{failures_of};
 
-use super::{entry_json, hart_json, image_json, step_json, value_json};
-use crate::report::fault::ReportFault;
-use crate::report::text::{HexWord, granule_address};
-use crate::report::{PIECE, is_listed, make_room, version_of};
-use crate::sink::{Sink, put_whole};
+use super::hart_json;
+use crate::report::version_of;
 use cap_ops::Cap;
-use cheri_model::{Entry, Event, Image, NoMemory, Outcome};
-use hart_step::{Hart, View};
+use cheri_model::{Event, Image, NoMemory};
+use hart::{Hart, View};
 use itoa::Buffer;
-use serde_json::Value;
+use report_lines::{granule_address, image_json, is_listed, value_json, write_comma};
+use report_lines::{write_event_json, write_json_value};
+use sinks::{PIECE, Sink, WriteFault, make_room, put_whole};
 use std::alloc::Global;
 
-/// Appends the text of a value that has no float.
-fn write_value(alloc: Global, out: &mut String, value: Value) -> Result<(), NoMemory>
-    requires { has_float (data_of value) ≡ false }
+/// Appends an event of the trace by its number.
+#[tactic(auto, unfolding(crate::specs::JsonText::event_item))]
+fn write_event(
+    alloc: Global,
+    out: &mut String,
+    number: usize,
+    event: &Event,
+) -> Result<(), NoMemory>
     ensures { OnOk result (string_bytes out.new
-        ≡ string_bytes out.old ++ compact_text (data_of value)) }
+        ≡ string_bytes out.old ++ event_item number event.now) }
 {
-    let text = value.to_string(alloc)?;
-    out.push_str(text.as_str())
-}
-
-/// Appends a step that was done, as most are: piece by piece, since a report has up to 100,000.
-fn write_done(out: &mut String, hart: u8, pc: u64) -> Result<(), NoMemory>
-    ensures { OnOk result (string_bytes out.new ≡ string_bytes out.old
-        ++ compact_text (outcome_data (count hart) (string (hex_text 16 pc)) Done)) }
-{
-    let mut number = Buffer::new();
-    out.push_str("{\"hart\":")?;
-    out.push_str(number.format(hart))?;
-    out.push_str(",\"outcome\":\"done\",\"pc\":\"")?;
-    out.push_str(number.format(HexWord(pc)))?;
-    out.push_str("\"}")?;
-    Ok(())
-}
-
-/// Appends a step.
-#[tactic(auto, using(crate::proofs::JsonLemmas::floatless), unfolding(crate::proofs::Open::event))]
-fn write_step(alloc: Global, out: &mut String, entry: &Entry) -> Result<(), NoMemory>
-    ensures { OnOk result (string_bytes out.new
-        ≡ string_bytes out.old ++ compact_text (entry_data (Event.Step entry.now))) }
-{
-    match entry.outcome {
-        Outcome::Done => write_done(out, entry.hart, entry.pc),
-        _ => write_value(alloc, out, step_json(alloc, entry)?),
-    }
-}
-
-/// Appends an event.
-#[tactic(auto, using(crate::proofs::JsonLemmas::floatless))]
-fn write_event(alloc: Global, out: &mut String, event: &Event) -> Result<(), NoMemory>
-    ensures { OnOk result (string_bytes out.new
-        ≡ string_bytes out.old ++ compact_text (entry_data event.now)) }
-{
-    match event {
-        Event::Step(entry) => write_step(alloc, out, entry),
-        Event::Sweep { .. } => write_value(alloc, out, entry_json(alloc, event)?),
-    }
-}
-
-/// Appends the comma that stands before all items but the first.
-fn write_comma(out: &mut String, later: bool) -> Result<(), NoMemory>
-    ensures { OnOk result (string_bytes out.new ≡ string_bytes out.old ++ comma_if later) }
-{
-    if later {
-        out.push(',')?;
-    }
-    Ok(())
-}
-
-/// Appends an event of the trace by its place.
-#[tactic(auto, unfolding(crate::specs::JsonText::entry_item))]
-fn write_entry(alloc: Global, out: &mut String, place: usize, event: &Event) -> Result<(), NoMemory>
-    ensures { OnOk result (string_bytes out.new
-        ≡ string_bytes out.old ++ entry_item place event.now) }
-{
-    write_comma(out, place > 0)?;
-    write_event(alloc, out, event)
+    write_comma(out, number > 0)?;
+    write_event_json(alloc, out, event)
 }
 
 /// Appends a hart.
@@ -104,7 +47,7 @@ fn write_hart(alloc: Global, out: &mut String, number: usize, hart: &Hart) -> Re
         ≡ string_bytes out.old ++ hart_item number hart.now) }
 {
     write_comma(out, number > 0)?;
-    write_value(alloc, out, hart_json(alloc, hart)?)
+    write_json_value(alloc, out, hart_json(alloc, hart)?)
 }
 
 /// Appends a granule under its address, unless it is an untagged 0. Answers whether one stands
@@ -129,27 +72,27 @@ fn write_granule(
     out.push_str("\"")?;
     out.push_str(digits.format(granule_address(number)))?;
     out.push_str("\":")?;
-    write_value(alloc, out, value_json(alloc, value)?)?;
+    write_json_value(alloc, out, value_json(alloc, value)?)?;
     Ok(true)
 }
 
 /// Writes the events.
-fn put_entries<S: Sink>(
+fn put_events<S: Sink>(
     alloc: Global,
     out: &mut String,
     sink: &mut S,
-    entries: &[Event],
-) -> Result<(), ReportFault>
+    events: &[Event],
+) -> Result<(), WriteFault>
     ensures whole { OnOk result (TakesAllBut (S.taken sink.old) (S.taken sink.new)
-        (string_bytes out.new) (string_bytes out.old ++ entries_part entries.now)) }
+        (string_bytes out.new) (string_bytes out.old ++ events_part events.now)) }
     ensures beginning { TakesBeginning (S.taken sink.old) (S.taken sink.new)
-        (string_bytes out.old ++ entries_part entries.now) }
+        (string_bytes out.old ++ events_part events.now) }
     ensures failures { S.failures sink.new ≡ S.failures sink.old + failures_of result }
     ensures place { S.place sink.new ≡ S.place sink.old }
 {
     out.push_str("{\"entries\":[")?;
-    for (place, event) in entries.iter().enumerate() {
-        write_entry(alloc, out, place, event)?;
+    for (number, event) in events.iter().enumerate() {
+        write_event(alloc, out, number, event)?;
         make_room(out, sink)?;
     }
     Ok(())
@@ -161,7 +104,7 @@ fn put_harts<S: Sink>(
     out: &mut String,
     sink: &mut S,
     harts: &[Hart],
-) -> Result<(), ReportFault>
+) -> Result<(), WriteFault>
     ensures whole { OnOk result (TakesAllBut (S.taken sink.old) (S.taken sink.new)
         (string_bytes out.new) (string_bytes out.old ++ harts_part harts.now)) }
     ensures beginning { TakesBeginning (S.taken sink.old) (S.taken sink.new)
@@ -183,7 +126,7 @@ fn put_granules<S: Sink>(
     out: &mut String,
     sink: &mut S,
     view: View<'_>,
-) -> Result<(), ReportFault>
+) -> Result<(), WriteFault>
     ensures whole { OnOk result (TakesAllBut (S.taken sink.old) (S.taken sink.new)
         (string_bytes out.new)
         (string_bytes out.old ++ memory_part view.entry.image.now (state_of view.entry).memory)) }
@@ -208,16 +151,16 @@ fn write_image(alloc: Global, out: &mut String, image: &Image) -> Result<(), NoM
         ++ (codes "],\"image\":" ++ compact_text (image_data image.now) ++ codes ",\"mem\":{")) }
 {
     out.push_str("],\"image\":")?;
-    write_value(alloc, out, image_json(alloc, image)?)?;
+    write_json_value(alloc, out, image_json(alloc, image)?)?;
     out.push_str(",\"mem\":{")
 }
 
 /// Appends the end.
-fn write_end(out: &mut String, entries: &[Event]) -> Result<(), NoMemory>
+fn write_end(out: &mut String, events: &[Event]) -> Result<(), NoMemory>
     ensures { OnOk result (string_bytes out.new
-        ≡ string_bytes out.old ++ last_part entries.now) }
+        ≡ string_bytes out.old ++ last_part events.now) }
 {
-    let version = version_of(entries);
+    let version = version_of(events);
     let mut number = Buffer::new();
     out.push_str("},\"report\":")?;
     out.push_str(number.format(version))?;
@@ -231,7 +174,7 @@ fn put_parts<S: Sink>(
     out: &mut String,
     sink: &mut S,
     view: View<'_>,
-) -> Result<(), ReportFault>
+) -> Result<(), WriteFault>
     ensures whole { OnOk result (TakesAllBut (S.taken sink.old) (S.taken sink.new)
         (string_bytes out.new) (string_bytes out.old
         ++ json_parts view.entry.image.now view.entry.entries.now (state_of view.entry))) }
@@ -240,14 +183,14 @@ fn put_parts<S: Sink>(
     ensures failures { S.failures sink.new ≡ S.failures sink.old + failures_of result }
     ensures place { S.place sink.new ≡ S.place sink.old }
 {
-    put_entries(alloc, out, sink, view.entries)?;
+    put_events(alloc, out, sink, view.entries)?;
     put_harts(alloc, out, sink, view.harts)?;
     put_granules(alloc, out, sink, view)
 }
 
 /// Writes the JSON report of what a view shows, compact, with its keys in byte order, in pieces of
 /// at most 64 KiB. After a fault the sink took a beginning of it.
-pub fn write_json<S: Sink>(alloc: Global, view: View<'_>, sink: &mut S) -> Result<(), ReportFault>
+pub fn write_json<S: Sink>(alloc: Global, view: View<'_>, sink: &mut S) -> Result<(), WriteFault>
     ensures whole { OnOk result (Appends (S.taken sink.old) (S.taken sink.new) (compact_text
         (json_report view.entry.image.now view.entry.entries.now (state_of view.entry)))) }
     ensures beginning { TakesBeginning (S.taken sink.old) (S.taken sink.new) (compact_text

@@ -1,4 +1,4 @@
-use Rattle.reports.proofs.SinkLemmas.{takes_none}
+use Rattle.sinks.proofs.SinkLemmas.{takes_none}
 use Rattle.cheri_sim.proofs.printing.write_fault.Goals as goal
 
 pub returns-in-None-clause-beginning : goal.returns-in-None-clause-beginning

@@ -1,5 +1,5 @@
 -- where no line is made, nothing is written
-use Rattle.reports.proofs.SinkLemmas.{takes_none}
+use Rattle.sinks.proofs.SinkLemmas.{takes_none}
 use Rattle.cheri_sim.proofs.races.write_looks.Goals as goal
 
 pub returns-in_default : goal.returns-in_default

@@ -7,5 +7,5 @@ use Rattle.reports.proofs.json.granules_json.Given as goal
 
 abbrev pub invariant-loop-number : goal.invariant-loop-number
 invariant-loop-number l =
-    put_granules l.number (drop l.number l.view.ram.now) (members_view l.members.entries)
-    ≡ put_granules 0 l.view.ram.now no_members
+    put_granules l.number (drop l.number l.ram) (members_view l.members.entries)
+    ≡ put_granules 0 l.ram no_members

@@ -1,5 +1,5 @@
 use Rattle.std.proofs.Common.{◌∙◌}
-use Rattle.reports.proofs.SinkLemmas.{takes_none}
+use Rattle.sinks.proofs.SinkLemmas.{takes_none}
 use Rattle.reports.proofs.ReportParts.{report_begins, report_stops, report_ends}
 use Rattle.reports.proofs.report.write_report.Goals as goal
 

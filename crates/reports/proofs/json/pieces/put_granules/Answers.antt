@@ -1,7 +1,7 @@
 use Rattle.std.proofs.Common.{◌<◌, ◌≤◌, length, refl, arith, ◌∙◌}
 use Rattle.cheri_model.specs.steps.Memory.{granule_at}
 use Rattle.reports.specs.JsonText.{memory_part}
-use Rattle.reports.proofs.SinkLemmas.{no_failure}
+use Rattle.sinks.proofs.SinkLemmas.{no_failure}
 use Rattle.reports.proofs.JsonParts.{head_begun, part_taken, part_begun, granule_takes, granule_stops, granules_end}
 use Rattle.reports.proofs.json.pieces.put_granules.Goals as goal
 

@@ -1,7 +1,7 @@
 -- What the sink took, what is kept and the texts of the others are those of all; no put has failed.
 use Rattle.std.proofs.Common.{◌≡◌, ◌++◌, drop, false, string_bytes}
 use Rattle.reports.specs.JsonText.{granule_members}
-use Rattle.reports.specs.Sinks.{TakesAllBut}
+use Rattle.sinks.specs.Sinks.{TakesAllBut}
 use Rattle.reports.proofs.json.pieces.put_granules.Given as goal
 
 abbrev pub invariant-loop-number : goal.invariant-loop-number

@@ -1,6 +1,6 @@
 use Rattle.std.proofs.Common.{refl, ◌∙◌}
-use Rattle.reports.proofs.SinkLemmas.{no_failure}
-use Rattle.reports.proofs.ReportParts.{item_takes, item_stops, items_end}
+use Rattle.sinks.proofs.SinkLemmas.{no_failure}
+use Rattle.report_lines.proofs.Items.{item_takes, item_stops, items_end}
 use Rattle.reports.specs.JsonText.{hart_item, harts_part}
 use Rattle.reports.proofs.JsonParts.{head_begun, part_taken, part_begun}
 use Rattle.reports.proofs.json.pieces.put_harts.Goals as goal

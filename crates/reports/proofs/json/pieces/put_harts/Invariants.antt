@@ -1,8 +1,8 @@
 -- What the sink took, what is kept and the texts of the others are those of all; no put has failed.
 use Rattle.std.proofs.Common.{◌≡◌, ◌++◌, drop, string_bytes}
-use Rattle.reports.specs.Report.{numbered}
+use Rattle.report_lines.specs.Texts.{numbered}
 use Rattle.reports.specs.JsonText.{hart_item}
-use Rattle.reports.specs.Sinks.{TakesAllBut}
+use Rattle.sinks.specs.Sinks.{TakesAllBut}
 use Rattle.reports.proofs.json.pieces.put_harts.Given as goal
 
 abbrev pub invariant-loop-number : goal.invariant-loop-number

@@ -1,31 +1,31 @@
 use Rattle.std.proofs.Common.{append_assoc, string_bytes}
-use Rattle.reports.specs.JsonText.{json_parts, entries_part, harts_part, memory_part}
-use Rattle.reports.proofs.SinkLemmas.{takes_on, stops_on, begins_on, takes_on_ok}
+use Rattle.reports.specs.JsonText.{json_parts, events_part, harts_part, memory_part}
+use Rattle.sinks.proofs.SinkLemmas.{takes_on, stops_on, begins_on, takes_on_ok}
 use Rattle.reports.proofs.ReportParts.{three_parts}
 use Rattle.reports.proofs.json.pieces.put_parts.Goals as goal
 
-pub returns-in_err-put_entries-clause-beginning : goal.returns-in_err-put_entries-clause-beginning
+pub returns-in_err-put_events-clause-beginning : goal.returns-in_err-put_events-clause-beginning
 unfolding json_parts
-returns-in_err-put_entries-clause-beginning g c =
-    rw (← append_assoc) (begins_on _ _ _ _ c.put_entries.ensures.beginning)
+returns-in_err-put_events-clause-beginning g c =
+    rw (← append_assoc) (begins_on _ _ _ _ c.put_events.ensures.beginning)
 
 pub returns-in_err-put_harts-clause-beginning : goal.returns-in_err-put_harts-clause-beginning
 unfolding json_parts
 returns-in_err-put_harts-clause-beginning g c =
     rw (← three_parts)
-    (begins_on _ _ _ _ (stops_on _ _ _ _ _ _ c.in_ok-put_entries.ensures.whole c.put_harts.ensures.beginning))
+    (begins_on _ _ _ _ (stops_on _ _ _ _ _ _ c.in_ok-put_events.ensures.whole c.put_harts.ensures.beginning))
 
 pub returns-clause-beginning : goal.returns-clause-beginning
 unfolding json_parts
 returns-clause-beginning g c =
     rw (← three_parts)
-    (stops_on _ _ _ _ _ _ (takes_on _ _ _ _ _ _ _ c.in_ok-put_entries.ensures.whole c.in_ok-put_harts.ensures.whole)
+    (stops_on _ _ _ _ _ _ (takes_on _ _ _ _ _ _ _ c.in_ok-put_events.ensures.whole c.in_ok-put_harts.ensures.whole)
     c.put_granules.ensures.beginning)
 
 pub returns-clause-whole : goal.returns-clause-whole
 unfolding json_parts
 returns-clause-whole g c =
     takes_on_ok _ _ _ _ _ _ _ _ _
-    (three_parts (string_bytes c.args.out.now) (entries_part c.args.view.entries.now)
+    (three_parts (string_bytes c.args.out.now) (events_part c.args.view.entries.now)
     (harts_part c.args.view.harts.now) (memory_part c.args.view.image.now c.args.view.ram.now))
-    (takes_on _ _ _ _ _ _ _ c.in_ok-put_entries.ensures.whole c.in_ok-put_harts.ensures.whole) c.put_granules.ensures.whole
+    (takes_on _ _ _ _ _ _ _ c.in_ok-put_events.ensures.whole c.in_ok-put_harts.ensures.whole) c.put_granules.ensures.whole

@@ -1,6 +1,6 @@
 use Rattle.std.proofs.Common.{◌≤◌, length, ◌∙◌, arith}
 use Rattle.std.proofs.lemmas.Grind.{common_steps}
-use Rattle.reports.proofs.SinkLemmas.{takes_none}
+use Rattle.sinks.proofs.SinkLemmas.{takes_none}
 use Rattle.reports.proofs.JsonTexts.{json_report_text}
 use Rattle.reports.proofs.JsonParts.{memory_fits, parts_begin, parts_stop, parts_end}
 use Rattle.reports.proofs.json.pieces.write_json.Goals as goal

@@ -1,0 +1,4 @@
+pub mod HexDigits
+pub mod Items
+pub mod JsonLemmas
+pub mod JsonTexts

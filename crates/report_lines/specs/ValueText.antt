@@ -1,0 +1,35 @@
+-- How numbers, object types, words and values are written.
+use Rattle.std.specs.Prelude.{ℕ, ◌/◌, ◌%◌, ◌^◌, ◌==◌, if◌then◌else◌, List, [], ◌∷◌, ◌++◌}
+use Rattle.std.specs.Prelude.{codes, decimal, zero, suc}
+use Rattle.std.specs.Char.{digit_char}
+use Rattle.cap_model.specs.values.Capability.{Capability, unsealed_type, sentry_type}
+use Rattle.cap_model.specs.values.CapValue.{CapValue, bits_of, tag_of, parts_of}
+use Rattle.report_lines.specs.Texts.{◌+++◌}
+
+-- a number's lowest hexadecimal digits, this many, in lower case
+unfoldable pub hex_text : ℕ → ℕ → List ℕ
+hex_text zero n = []
+hex_text (suc width) n = hex_text width (n / 16) ++ digit_char (n % 16) ∷ []
+
+-- an object type: by its name where it has one, else in decimal
+abbrev pub type_text : ℕ → List ℕ
+type_text otype =
+    if otype == unsealed_type then codes "unsealed"
+    else if otype == sentry_type then codes "sentry"
+    else decimal otype
+
+-- the two halves of a word of 128 bits
+abbrev pub word_text : ℕ → List ℕ
+word_text bits = hex_text 16 (bits / 2 ^ 64) +++ codes "_" +++ hex_text 16 (bits % 2 ^ 64)
+
+-- the bounds, the permissions in CGetPerm's form and the object type
+abbrev pub parts_text : Capability → List ℕ
+parts_text parts =
+    hex_text 16 parts.base +++ codes " " +++ hex_text 17 parts.top +++ codes " "
+    +++ hex_text 5 parts.perms +++ codes " " +++ type_text parts.otype
+
+-- a value: its tag and word, and where it is tagged what the capability is
+abbrev pub value_text : CapValue → List ℕ
+value_text v =
+    if tag_of v then codes "1 " +++ word_text (bits_of v) +++ codes " " +++ parts_text (parts_of v)
+    else codes "0 " +++ word_text (bits_of v)

@@ -1,0 +1,111 @@
+//! Outcomes, statuses and events as texts.
+
+ghost use Rattle.std.specs.Prelude.{◌≡◌, ◌++◌, OnOk, Some, string_bytes};
+ghost use Rattle.std.specs.Fmt.{DisplaysOnOk};
+ghost use Rattle.cheri_model.specs.declared.operation.Event.TheVariants as event;
+ghost use Rattle.report_lines.specs.EventText.{cause_text, ending, event_text, outcome_text};
+ghost use Rattle.report_lines.specs.EventText.{status_text};
+
+use crate::digits::{Hex, HexWord};
+use cheri_model::{Entry, Event, NoMemory, Outcome, Status, Trap};
+use itoa::Buffer;
+use std::fmt;
+
+/// A trap's cause and register.
+#[derive(Clone, Copy)]
+struct Cause(Trap);
+
+impl fmt::Display for Cause {
+    ghost output = { λ c. Some (cause_text c.0) };
+
+    fn fmt<W: fmt::Write>(&self, f: &mut fmt::Formatter<W>) -> fmt::Result {
+        let Trap { cause, reg } = self.0;
+        write!(f, " cause={cause} reg={reg}")
+    }
+}
+
+/// How a step ended.
+#[derive(Clone, Copy)]
+pub struct OutcomeText(pub Outcome);
+
+impl fmt::Display for OutcomeText {
+    ghost output = { λ o. Some (outcome_text o.0) };
+
+    fn fmt<W: fmt::Write>(&self, f: &mut fmt::Formatter<W>) -> fmt::Result {
+        match self.0 {
+            Outcome::Done => f.write_str("done"),
+            Outcome::Halt => f.write_str("halt"),
+            Outcome::Trap(trap) => write!(f, "trap{}", Cause(trap)),
+        }
+    }
+}
+
+/// Whether a hart runs.
+#[derive(Clone, Copy)]
+pub struct StatusText(pub Status);
+
+impl fmt::Display for StatusText {
+    ghost output = { λ s. Some (status_text s.0) };
+
+    fn fmt<W: fmt::Write>(&self, f: &mut fmt::Formatter<W>) -> fmt::Result {
+        match self.0 {
+            Status::Running => f.write_str("running"),
+            Status::Halted => f.write_str("halted"),
+            Status::Trapped(trap) => write!(f, "trapped{}", Cause(trap)),
+        }
+    }
+}
+
+/// Appends how a step ended, after a space. Most steps are done.
+#[tactic(auto, unfolding(crate::specs::EventText::ending))]
+fn write_ending(out: &mut String, outcome: Outcome) -> Result<(), NoMemory>
+    ensures { OnOk result (string_bytes out.new ≡ string_bytes out.old ++ ending outcome) }
+{
+    match outcome {
+        Outcome::Done => out.push_str(" done"),
+        _ => write!(out, " {}", OutcomeText(outcome)),
+    }
+}
+
+/// Appends a step after its number, piece by piece: a report has up to 100,000 of them, and a
+/// formatter takes twice the time.
+fn write_step(out: &mut String, number: usize, entry: &Entry) -> Result<(), NoMemory>
+    ensures { OnOk result (string_bytes out.new
+        ≡ string_bytes out.old ++ event_text number (event.Step entry.now)) }
+{
+    let mut digits = Buffer::new();
+    out.push_str(digits.format(number))?;
+    out.push_str(" hart=")?;
+    out.push_str(digits.format(entry.hart))?;
+    out.push_str(" pc=")?;
+    out.push_str(digits.format(HexWord(entry.pc)))?;
+    write_ending(out, entry.outcome)?;
+    Ok(())
+}
+
+/// Appends a sweep after its number.
+#[tactic(auto, unfolding(crate::specs::EventText::event_text))]
+fn write_sweep(
+    out: &mut String,
+    number: usize,
+    lo: u64,
+    hi: u128,
+    cleared: u32,
+) -> Result<(), NoMemory>
+    ensures { OnOk result (string_bytes out.new
+        ≡ string_bytes out.old ++ event_text number (event.Sweep cleared lo hi)) }
+{
+    let (lo, hi) = (HexWord(lo), Hex::of_top(hi));
+    write!(out, "{number} sweep lo={lo} hi={hi} cleared={cleared}")
+}
+
+/// Appends an event of a trace after its number.
+pub fn write_event(out: &mut String, number: usize, event: &Event) -> Result<(), NoMemory>
+    ensures { OnOk result (string_bytes out.new
+        ≡ string_bytes out.old ++ event_text number event.now) }
+{
+    match event {
+        Event::Step(entry) => write_step(out, number, entry),
+        Event::Sweep { lo, hi, cleared } => write_sweep(out, number, *lo, *hi, *cleared),
+    }
+}

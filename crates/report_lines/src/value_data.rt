@@ -1,0 +1,87 @@
+//! Values in JSON.
+
+ghost use Rattle.std.specs.Prelude.{◌≡◌, ◌+◌, ◌*◌, ◌++◌, IfOk, OnOk, string_bytes};
+ghost use Rattle.serde_json.specs.Data.{object};
+ghost use Rattle.serde_json.specs.View.{members_view, view as data_of};
+ghost use Rattle.report_lines.specs.Names.{address_of_granule, register_name};
+ghost use Rattle.report_lines.specs.ValueData.{capability_members, put_listed, value_data};
+ghost use Rattle.report_lines.specs.ValueText.{hex_text};
+
+use crate::digits::{Hex, HexWord};
+use crate::names::granule_address;
+use crate::value_text::{TypeText, Word, is_listed};
+use cap_ops::Cap;
+use cheri_model::NoMemory;
+use serde_json::{Map, Value, json, put};
+use std::alloc::Global;
+
+/// A capability that is tagged, by the texts of its parts.
+fn capability_json(
+    alloc: Global,
+    base: String,
+    perms: String,
+    top: String,
+    otype: String,
+    word: String,
+) -> Result<Value, NoMemory>
+    ensures { IfOk result (λ v. data_of v ≡ object (capability_members (string_bytes base)
+        (string_bytes perms) (string_bytes top) (string_bytes otype) (string_bytes word))) }
+{
+    json!(in alloc; {
+        "base": base, "perms": perms, "tag": true, "top": top, "type": otype, "word": word
+    })
+}
+
+/// A value in JSON.
+#[tactic(auto, unfolding(crate::specs::ValueData::value_members))]
+pub fn value_json(alloc: Global, held: Cap) -> Result<Value, NoMemory>
+    ensures { IfOk result (λ v. data_of v ≡ value_data held) }
+{
+    let word = Word(held.bits()).to_string(alloc)?;
+    if !held.tag() {
+        return json!(in alloc; {"tag": false, "word": word});
+    }
+    let (base, top) = held.bounds();
+    let base = HexWord(base).to_string(alloc)?;
+    let top = Hex::of_top(top).to_string(alloc)?;
+    let perms = Hex::of_perms(held.perm()).to_string(alloc)?;
+    let otype = TypeText(held.object_type()).to_string(alloc)?;
+    capability_json(alloc, base, perms, top, otype, word)
+}
+
+/// Puts a register under its name, unless it is null.
+pub fn put_register(
+    alloc: Global,
+    members: &mut Map<String, Value>,
+    number: u8,
+    held: Cap,
+) -> Result<(), NoMemory>
+    ensures { OnOk result (members_view members.new.entries
+        ≡ put_listed (register_name number) held (members_view members.old.entries)) }
+{
+    if is_listed(held) {
+        let name = format!(in alloc; "c{number}")?;
+        let value = value_json(alloc, held)?;
+        put(members, alloc, name.as_str(), value)?;
+    }
+    Ok(())
+}
+
+/// Puts the granule with this number under its address, unless it is an untagged 0.
+pub fn put_granule(
+    alloc: Global,
+    members: &mut Map<String, Value>,
+    number: usize,
+    value: Cap,
+) -> Result<(), NoMemory>
+    ensures { OnOk result (members_view members.new.entries
+        ≡ put_listed (hex_text 16 (address_of_granule number)) value
+        (members_view members.old.entries)) }
+{
+    if is_listed(value) {
+        let name = granule_address(number).to_string(alloc)?;
+        let value = value_json(alloc, value)?;
+        put(members, alloc, name.as_str(), value)?;
+    }
+    Ok(())
+}

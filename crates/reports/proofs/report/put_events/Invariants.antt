@@ -1,0 +1,15 @@
+-- What the sink took, what is kept and the lines of the others are those of all; no put has failed.
+use Rattle.std.proofs.Common.{◌≡◌, ◌++◌, drop, string_bytes}
+use Rattle.report_lines.specs.Lines.{event_line}
+use Rattle.report_lines.specs.Texts.{numbered}
+use Rattle.sinks.specs.Sinks.{TakesAllBut}
+use Rattle.reports.proofs.report.put_events.Given as goal
+
+abbrev pub invariant-loop-number : goal.invariant-loop-number
+invariant-loop-number g l = record {
+  taken : TakesAllBut (g.S.Sink.taken l.initial.sink) (g.S.Sink.taken l.sink)
+      (string_bytes l.out ++ numbered event_line l.number (drop l.number l.events))
+      (string_bytes l.initial.out ++ numbered event_line 0 l.events);
+  failures : g.S.Sink.failures l.sink ≡ g.S.Sink.failures l.initial.sink;
+  place : g.S.Sink.place l.sink ≡ g.S.Sink.place l.initial.sink;
+}

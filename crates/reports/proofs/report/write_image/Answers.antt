@@ -1,9 +1,0 @@
-use Rattle.std.proofs.Common.{append_assoc}
-use Rattle.reports.specs.Report.{image_line}
-use Rattle.reports.proofs.report.write_image.Goals as goal
-
-pub returns : goal.returns
-unfolding image_line
-returns c =
-    let e = simp (c.harts.ensures, c.program.ensures, c.ram.ensures) at c.in_ok-writeln.ensures.bytes in
-    simp append_assoc e
