@@ -1,0 +1,15 @@
+-- Lemmas of facts.
+pub mod Open
+pub mod Numbers
+pub mod Tables
+pub mod Placed
+pub mod Stepped
+pub mod Aligned
+pub mod Reasons
+pub mod Built
+pub mod Derived
+pub mod Written
+pub mod Exact
+pub mod TrapsSo
+pub mod SweptPlaces
+pub mod Links

@@ -1,41 +1,45 @@
 -- The facts of an event, and of all events of an order.
-use Rattle.std.specs.Prelude.{ℕ, ◌+◌, if◌then◌else◌, List, [], ◌∷◌, ◌++◌}
+use Rattle.std.specs.Prelude.{ℕ, if◌then◌else◌, List, [], ◌∷◌, ◌++◌, length, slice_index_or}
+use Rattle.std.proofs.Common.{zero, suc}
 use Rattle.cap_model.specs.values.CapValue.{CapValue}
 use Rattle.cap_model.specs.results.Swept.{is_in_sweep}
 use Rattle.cheri_model.specs.declared.operation.Op.{Op}
 use Rattle.cheri_model.specs.declared.operation.Op.TheVariants as operation
-use Rattle.cheri_model.specs.steps.Hart.{HartState}
+use Rattle.cheri_model.specs.steps.Hart.{HartState, register}
+use Rattle.cheri_model.specs.steps.Memory.{granule_at}
 use Rattle.cheri_model.specs.runs.Image.{ImageParts}
-use Rattle.cheri_model.specs.runs.Machine.{MachineState, opening_state, state_after_one}
+use Rattle.cheri_model.specs.runs.Machine.{MachineState, opening_state, no_hart, state_after_one}
 use Rattle.origins.specs.declared.place.Place.{Place}
 use Rattle.origins.specs.declared.place.Place.TheVariants.{PccOf, RegisterOf, GranuleOf}
 use Rattle.origins.specs.Origins.{Origins, came_from}
 use Rattle.facts.specs.declared.step_facts.StepFacts.{StepFacts}
 use Rattle.facts.specs.StepFacts.{step_facts}
 
--- the places of these values, numbered from k on, whose tag a sweep clears
-unfoldable pub swept_from : (ℕ → Place) → ℕ → ℕ → ℕ → List CapValue → List Place
-swept_from place lo hi k [] = []
-swept_from place lo hi k (v ∷ rest) =
-    if is_in_sweep lo hi v then place k ∷ swept_from place lo hi (k + 1) rest
-    else swept_from place lo hi (k + 1) rest
+-- of the places from number 0 up to n, in this order, those whose tag a sweep clears
+unfoldable pub swept_among : (ℕ → Place) → (ℕ → CapValue) → ℕ → ℕ → ℕ → List Place
+swept_among place value lo hi zero = []
+swept_among place value lo hi (suc n) =
+    swept_among place value lo hi n
+    ++ (if is_in_sweep lo hi (value n) then place n ∷ [] else [])
 
 -- in a hart: PCC, then its registers
-abbrev pub swept_in_hart : ℕ → ℕ → ℕ → HartState → List Place
+unfoldable pub swept_in_hart : ℕ → ℕ → ℕ → HartState → List Place
 swept_in_hart lo hi number hart =
-    swept_from (λ k. PccOf number) lo hi 0 (hart.pcc ∷ [])
-    ++ swept_from (λ k. RegisterOf number k) lo hi 0 hart.regs
+    (if is_in_sweep lo hi hart.pcc then PccOf number ∷ [] else [])
+    ++ swept_among (λ k. RegisterOf number k) (register hart) lo hi 32
 
-unfoldable pub swept_in_harts : ℕ → ℕ → ℕ → List HartState → List Place
-swept_in_harts lo hi number [] = []
-swept_in_harts lo hi number (hart ∷ rest) =
-    swept_in_hart lo hi number hart ++ swept_in_harts lo hi (number + 1) rest
+-- in the first n harts
+unfoldable pub swept_in_harts : ℕ → ℕ → List HartState → ℕ → List Place
+swept_in_harts lo hi harts zero = []
+swept_in_harts lo hi harts (suc n) =
+    swept_in_harts lo hi harts n ++ swept_in_hart lo hi n (slice_index_or harts n no_hart)
 
 -- the places whose tag a sweep of the addresses from lo up to hi clears: the harts in order, then
 -- the granules
 unfoldable pub swept_places : ℕ → ℕ → MachineState → List Place
 swept_places lo hi state =
-    swept_in_harts lo hi 0 state.harts ++ swept_from (λ k. GranuleOf k) lo hi 0 state.memory
+    swept_in_harts lo hi state.harts (length state.harts)
+    ++ swept_among GranuleOf (granule_at state.memory) lo hi (length state.memory)
 
 -- what is said of an event: of a step its facts, of a sweep what it cleared
 pub data EventFacts : Type 0 where

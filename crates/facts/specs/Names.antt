@@ -1,6 +1,6 @@
 -- Which places an instruction reads and sets, and which bytes it accesses.
 use Rattle.std.specs.Prelude.{ℕ, ◌==◌, Bool, true, false, if◌then◌else◌, List, [], ◌∷◌}
-use Rattle.std.specs.Prelude.{Option, Some, None}
+use Rattle.std.specs.Prelude.{Option, Some, None, ⊤}
 use Rattle.cheri_model.specs.declared.instr.Instr.{Instr}
 use Rattle.cheri_model.specs.declared.instr.Instr.TheVariants as instr
 use Rattle.cheri_model.specs.declared.form.Form.{Form}
@@ -16,7 +16,6 @@ use Rattle.cheri_model.specs.steps.Actions.{Branch, Jump, JumpThrough, Invoke, H
 use Rattle.cheri_model.specs.steps.HartStep.{invoked_data}
 use Rattle.origins.specs.declared.place.Spot.{Spot}
 use Rattle.origins.specs.declared.place.Spot.TheVariants.{Pcc, Register}
-use Rattle.origins.specs.Flows.{granule_of}
 use Rattle.facts.specs.declared.step_facts.Extent.{Extent}
 use Rattle.facts.specs.declared.step_facts.UpToTwo.{UpToTwo}
 use Rattle.facts.specs.declared.step_facts.UpToTwo.TheVariants.{Zero, One, Two}
@@ -33,10 +32,21 @@ each_of f Zero = Zero
 each_of f (One first) = One (f first)
 each_of f (Two first second) = Two (f first) (f second)
 
+-- a fact of each
+abbrev pub EachIs : {T : Type 0} → (T → Type 0) → UpToTwo T → Type 0
+EachIs P Zero = ⊤
+EachIs P (One first) = P first
+EachIs P (Two first second) = P first × P second
+
 -- two registers in this order, each once
 abbrev pub both : ℕ → ℕ → UpToTwo Spot
 both first second =
     if first == second then One (Register first) else Two (Register first) (Register second)
+
+-- what a load reads, and CJALR, which has a load's operands
+abbrev pub load_reads : LoadOp → ℕ → UpToTwo Spot
+load_reads CJalr c1 = Two Pcc (Register c1)
+load_reads _ c1 = One (Register c1)
 
 -- what an instruction reads, by its form: the source registers in the order in which the operands
 -- are written, after PCC for AUIPCC, CJAL and CJALR
@@ -49,8 +59,7 @@ reads_of (form.WordShift op cd c1 amount) = One (Register c1)
 reads_of (form.SetBoundsImm cd c1 len) = One (Register c1)
 reads_of (form.Upper Lui cd imm) = Zero
 reads_of (form.Upper AuiPcc cd imm) = One Pcc
-reads_of (form.Load CJalr cd c1 imm) = Two Pcc (Register c1)
-reads_of (form.Load op cd c1 imm) = One (Register c1)
+reads_of (form.Load op cd c1 imm) = load_reads op c1
 reads_of (form.Store op c2 c1 imm) = both c2 c1
 reads_of (form.Swap cd c2 c1) = both c2 c1
 reads_of (form.Branch op c1 c2 target) = both c1 c2
@@ -75,12 +84,12 @@ access_of (JumpThrough cd c1 is_entry target) = None
 access_of (Invoke c1 c2 target) = None
 access_of Halt = None
 
--- the granule that an action which is done stores in
-abbrev pub stored_in : Action → Option Spot
-stored_in (Store c1 addr width number) = Some (granule_of addr)
-stored_in (StoreCap c1 addr v) = Some (granule_of addr)
-stored_in (Swap cd c1 addr v) = Some (granule_of addr)
-stored_in _ = None
+-- whether an action stores
+abbrev pub is_store : Action → Bool
+is_store (Store c1 addr width number) = true
+is_store (StoreCap c1 addr v) = true
+is_store (Swap cd c1 addr v) = true
+is_store _ = false
 
 -- a result in cd; a write to c0 sets nothing
 abbrev pub result_in : ℕ → UpToTwo Spot

@@ -1,5 +1,5 @@
 -- Why a step trapped, by the trap's cause.
-use Rattle.std.specs.Prelude.{ℕ, ◌==◌, Bool, true, false, if◌then◌else◌, Option, Some, None}
+use Rattle.std.specs.Prelude.{ℕ, ◌==◌, nat_lt, Bool, true, false, if◌then◌else◌, Option, Some, None}
 use Rattle.cap_model.specs.declared.permission.TheConstants as permission
 use Rattle.cap_model.specs.values.CapValue.{CapValue}
 use Rattle.cap_model.specs.results.Addresses.{address_of, has_permission}
@@ -11,7 +11,7 @@ use Rattle.cheri_model.specs.declared.trace.TheConstants.Trap as cause
 use Rattle.cheri_model.specs.declared.instr.Instr.{Instr}
 use Rattle.cheri_model.specs.declared.instr.Instr.TheVariants as instr
 use Rattle.cheri_model.specs.steps.Memory.{bytes_of}
-use Rattle.cheri_model.specs.steps.Hart.{HartState, register}
+use Rattle.cheri_model.specs.steps.Hart.{HartState, null, register}
 use Rattle.cheri_model.specs.steps.Actions.{Action, Put, Load, Store, LoadCap, StoreCap, Swap}
 use Rattle.cheri_model.specs.steps.Actions.{Branch, Jump, JumpThrough, Invoke, Halt, action}
 use Rattle.origins.specs.declared.place.Spot.{Spot}
@@ -21,12 +21,13 @@ use Rattle.facts.specs.declared.why.TrapWhy.{TrapWhy}
 use Rattle.facts.specs.declared.why.TrapWhy.TheVariants as why
 use Rattle.facts.specs.Names.{extent}
 
--- the register that a trap names, and what is in it
+-- the register that a trap names, and what is in it: null where there is no such register
 abbrev pub name_of : ℕ → Spot
 name_of reg = if reg == cause.PCC then Pcc else Register reg
 
 abbrev pub named_by : HartState → ℕ → CapValue
-named_by hart reg = if reg == cause.PCC then hart.pcc else register hart reg
+named_by hart reg =
+    if reg == cause.PCC then hart.pcc else if nat_lt reg 32 then register hart reg else null
 
 -- the bytes that an action's checks are about: those of an access, or the instruction at a target
 unfoldable pub checked_by : Action → Extent
@@ -92,16 +93,19 @@ access_why number name stored bytes otherwise =
     else if number == cause.CINVOKE then why.Lacks name permission.CINVOKE
     else otherwise
 
--- why a step of this hart trapped, in its fetch or in the instruction that was fetched
-unfoldable pub trap_why : Option Instr → HartState → Trap → TrapWhy
-trap_why fetched hart trap =
-    let name = name_of trap.reg in
-    let v = named_by hart trap.reg in
+-- why a step of this hart trapped by a cause, which speaks of this register and its value
+unfoldable pub why_of_cause : Option Instr → HartState → ℕ → Spot → CapValue → TrapWhy
+why_of_cause fetched hart number name v =
     let bytes = checked_bytes fetched hart in
-    if trap.cause == cause.TAG then why.Untagged name
-    else if trap.cause == cause.SEAL then not_invocable (is_invoke fetched) name v
-    else if trap.cause == cause.EXECUTE then execute_why name v
-    else if trap.cause == cause.LENGTH then outside bytes name v
-    else if trap.cause == cause.ALIGNMENT then why.Misaligned bytes.address bytes.bytes
-    else if trap.cause == cause.FETCH then why.NoInstruction bytes.address
-    else access_why trap.cause name (stored_by fetched) bytes (types_differ fetched hart)
+    if number == cause.TAG then why.Untagged name
+    else if number == cause.SEAL then not_invocable (is_invoke fetched) name v
+    else if number == cause.EXECUTE then execute_why name v
+    else if number == cause.LENGTH then outside bytes name v
+    else if number == cause.ALIGNMENT then why.Misaligned bytes.address bytes.bytes
+    else if number == cause.FETCH then why.NoInstruction bytes.address
+    else access_why number name (stored_by fetched) bytes (types_differ fetched hart)
+
+-- the same of a trap, in its fetch or in the instruction that was fetched
+abbrev pub trap_why : Option Instr → HartState → Trap → TrapWhy
+trap_why fetched hart trap =
+    why_of_cause fetched hart trap.cause (name_of trap.reg) (named_by hart trap.reg)

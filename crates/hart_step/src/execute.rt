@@ -295,9 +295,7 @@ pub fn step(program: &[Instr], hart: &mut Hart, ram: &mut Ram) -> Outcome
     // The count's clause says that every granule's value is lawful.
     let _granules = ram.granule_count();
     match fetch(program, hart.pcc()) {
-        Ok(instr) => {
-            execute(instr_action(instr, hart), hart, ram)
-        }
+        Ok(instr) => { execute(instr_action(instr, hart), hart, ram) }
         Err(trap) => hart.trap(trap),
     }
 }

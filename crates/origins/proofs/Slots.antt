@@ -10,7 +10,7 @@ use Rattle.origins.specs.declared.place.Place.TheVariants.{PccOf, RegisterOf, Gr
 use Rattle.origins.specs.declared.place.Flow.{Flow}
 use Rattle.origins.specs.Places.{place_of}
 use Rattle.origins.specs.Flows.{flow, source_of}
-use Rattle.origins.specs.Origins.{before_in, before_flows, came_from}
+use Rattle.origins.specs.Origins.{Origins, before_in, before_flows, came_from, replayed_origins}
 use Rattle.origins.specs.Table.{Table, slot_of, IsPlaceIn, IsPlace, origin_in, with_origin, AreFlows, place_at, IsAfter, IsOpening, TellsOrigins, next_flows}
 use Rattle.cheri_model.specs.declared.operation.Op.{Op}
 use Rattle.cheri_model.specs.declared.operation.Op.TheVariants as operation
@@ -148,14 +148,21 @@ are_before table number (f ∷ rest) place are is =
     ] in
     subst (IsPlace table) (sym before) there
 
+-- a table that tells where each value was from tells where each is from after flows
+pub tells_after : (number : ℕ) (flows : List Flow) (origins : Origins) (old new : Table) → AreFlows old number flows → IsAfter number flows old new →
+    ((place : Place) → IsPlace old place → origin_in old place ≡ origins place) →
+    (place : Place) → IsPlace new place → origin_in new place ≡ origins (before_flows number flows place)
+tells_after number flows origins old new are after tells place is =
+    let sized = subst (λ n. IsPlaceIn new.harts n place) after.size is in
+    let there = subst (λ h. IsPlaceIn h (length old.slots) place) after.harts sized in
+    after.origins place there ∙ tells _ (are_before old number flows place are there)
+
 pub tells_step : (image : ImageParts) (order : List Op) (number : ℕ) (old new : Table) → AreFlows old number (next_flows image order number) →
     IsAfter number (next_flows image order number) old new → TellsOrigins image order old →
     TellsOrigins image (order ++ operation.Step number ∷ []) new
 unfolding came_from
 tells_step image order number old new are after tells place is =
-    let sized = subst (λ n. IsPlaceIn new.harts n place) after.size is in
-    let there = subst (λ h. IsPlaceIn h (length old.slots) place) after.harts sized in
-    after.origins place there ∙ tells _ (are_before old number (next_flows image order number) place are there)
+    tells_after number (next_flows image order number) (replayed_origins image order) old new are after tells place is
     ∙ sym (origins_push image order (operation.Step number) place)
 
 pub tells_sweep : (image : ImageParts) (order : List Op) (lo hi : ℕ) (table : Table) → TellsOrigins image order table →

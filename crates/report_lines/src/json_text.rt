@@ -52,11 +52,7 @@ fn write_done(out: &mut String, hart: u8, pc: u64) -> Result<(), NoMemory>
 }
 
 /// Appends a step.
-#[tactic(
-    auto,
-    using(crate::proofs::JsonLemmas::floatless),
-    unfolding(crate::specs::EventData::event_members)
-)]
+#[tactic(auto, using(crate::proofs::JsonLemmas::floatless), unfolding(crate::specs::EventData::event_members))]
 fn write_step_json(alloc: Global, out: &mut String, entry: &Entry) -> Result<(), NoMemory>
     ensures { OnOk result (string_bytes out.new
         ≡ string_bytes out.old ++ compact_text (event_data (event.Step entry.now))) }

@@ -15,8 +15,10 @@ pub use digits::{Hex, HexWord, MOST_DIGITS};
 pub use event_data::{event_json, image_json};
 pub use event_text::{OutcomeText, StatusText, write_event};
 pub use json_text::{write_comma, write_event_json, write_json_value};
-pub use lines::{write_count_line, write_event_line, write_granule_line, write_image_line};
-pub use lines::{write_pcc_line, write_register_line, write_status_line};
+pub use lines::{
+    write_count_line, write_event_line, write_granule_line, write_image_line, write_pcc_line,
+    write_register_line, write_status_line,
+};
 pub use names::{CauseName, PlaceName, granule_address};
 pub use value_data::{put_granule, put_register, value_json};
 pub use value_text::{TypeText, ValueText, Word, is_listed};

@@ -39,11 +39,7 @@ fn write_title(out: &mut String, version: u8) -> Result<(), NoMemory>
 }
 
 /// Writes the lines of the events.
-fn put_events<S: Sink>(
-    out: &mut String,
-    sink: &mut S,
-    events: &[Event],
-) -> Result<(), WriteFault>
+fn put_events<S: Sink>(out: &mut String, sink: &mut S, events: &[Event]) -> Result<(), WriteFault>
     ensures whole { OnOk result (TakesAllBut (S.taken sink.old) (S.taken sink.new)
         (string_bytes out.new) (string_bytes out.old ++ numbered event_line 0 events.now)) }
     ensures beginning { TakesBeginning (S.taken sink.old) (S.taken sink.new)

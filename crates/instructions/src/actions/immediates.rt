@@ -14,13 +14,13 @@ ghost use Rattle.instructions.specs.Actions.{action_of};
 
 use crate::actions::Action;
 use crate::actions::registers::{put, put_integer, put_truth};
-use hart::Hart;
 use crate::integers::{
     immediate, is_less_signed, shifted_arithmetic, shifted_left, shifted_right, upper_immediate,
     word_shifted_arithmetic, word_shifted_left, word_shifted_right, word_sum,
 };
 use cheri_model::Reg;
 use cheri_model::form::{ImmediateOp, ShiftOp, UpperOp, WordShiftOp};
+use hart::Hart;
 
 /// What an instruction with a signed immediate asks for.
 pub fn immediate_action(op: ImmediateOp, cd: Reg, c1: Reg, imm: i16, hart: &Hart) -> Action

@@ -9,10 +9,10 @@ ghost use Rattle.instructions.specs.Actions.{action_of};
 
 use crate::actions::Action;
 use crate::actions::memory::even;
-use hart::Hart;
 use crate::integers::is_less_signed;
 use cheri_model::form::BranchOp;
 use cheri_model::{CODE_BASE, INSTRUCTION_BYTES, Reg, Target};
+use hart::Hart;
 
 /// The address of an instruction.
 pub fn address_of_target(target: Target) -> u64

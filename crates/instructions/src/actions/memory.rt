@@ -8,10 +8,10 @@ ghost use Rattle.cheri_model.specs.declared.instr.Instr.TheVariants.{AmoSwapC};
 ghost use Rattle.instructions.specs.Actions.{action_of};
 
 use crate::actions::Action;
-use hart::Hart;
 use crate::integers::immediate;
 use cheri_model::form::{LoadOp, StoreOp};
 use cheri_model::{Reg, Width};
+use hart::Hart;
 
 /// The address with bit 0 cleared, as jumps take it.
 pub fn even(addr: u64) -> u64

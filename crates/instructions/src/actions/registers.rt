@@ -9,7 +9,6 @@ ghost use Rattle.cap_model.specs.results.Readings.{number_of};
 ghost use Rattle.instructions.specs.Actions.{action_of};
 
 use crate::actions::Action;
-use hart::Hart;
 use crate::integers::{
     is_less_signed, number_of, shifted_arithmetic, shifted_left, shifted_right, word_difference,
     word_shifted_arithmetic, word_shifted_left, word_shifted_right, word_sum,
@@ -19,6 +18,7 @@ use cap_bounds::{cram, crrl};
 use cap_ops::Cap;
 use cheri_model::Reg;
 use cheri_model::form::{ThreeOp, TwoOp};
+use hart::Hart;
 
 /// Writes a value to `cd`.
 pub fn put(cd: Reg, value: Cap) -> Action

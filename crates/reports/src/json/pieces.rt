@@ -20,8 +20,10 @@ use cap_ops::Cap;
 use cheri_model::{Event, Image, NoMemory};
 use hart::{Hart, View};
 use itoa::Buffer;
-use report_lines::{granule_address, image_json, is_listed, value_json, write_comma};
-use report_lines::{write_event_json, write_json_value};
+use report_lines::{
+    granule_address, image_json, is_listed, value_json, write_comma, write_event_json,
+    write_json_value,
+};
 use sinks::{PIECE, Sink, WriteFault, make_room, put_whole};
 use std::alloc::Global;
 

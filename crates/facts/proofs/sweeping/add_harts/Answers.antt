@@ -1,0 +1,10 @@
+use Rattle.facts.proofs.SweptPlaces.{harts_none, harts_more}
+use Rattle.facts.proofs.sweeping.add_harts.Goals as goal
+
+pub loop-i-init : goal.loop-i-init
+loop-i-init c = harts_none _ _ _ _
+
+pub loop-i-preserved : goal.loop-i-preserved
+loop-i-preserved c =
+    let more = rw c.hart_in-hart.ensures at c.in_ok-add_hart.ensures in
+    harts_more _ _ _ c.loop-i.i _ _ _ c.loop-i.invariant more

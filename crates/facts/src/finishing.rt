@@ -1,0 +1,243 @@
+//! The second half of a step's facts: what is there after it.
+#![tactic(auto, unfolding(crate::proofs::Open::stepping))]
+
+ghost use Rattle.std.specs.Prelude.{◌≡◌, ℕ, ◌+◌, ◌^◌, ◌<◌, List, length};
+ghost use Rattle.cap_model.specs.values.CapValue.{CapValue};
+ghost use Rattle.cheri_model.specs.declared.instr.Instr.{Instr};
+ghost use Rattle.cheri_model.specs.steps.Hart.{HartState};
+ghost use Rattle.cheri_model.specs.steps.HartStep.{hart_step};
+ghost use Rattle.cheri_model.specs.steps.Memory.{ram_base, granule_number};
+ghost use Rattle.origins.specs.Origins.{Origins};
+ghost use Rattle.origins.specs.Flows.{AreSpots, flows_at, step_flows};
+ghost use Rattle.origins.specs.Table.{list_of};
+ghost use Rattle.facts.specs.Stepping.{
+  IsTableFor,
+  Tells,
+  IsPlaced,
+  IsSeen,
+  IsSeenBefore,
+  IsNotTrap,
+  address_accessed,
+};
+ghost use Rattle.facts.specs.StepFacts.{
+  trapped_by,
+  fetch_trap,
+  fetch_facts,
+  trapped_facts,
+  done_facts,
+  instruction_facts,
+  facts_by,
+  fetched_of,
+};
+
+use crate::clearing::clears_of;
+use crate::names::{is_store, sets_of};
+use crate::step_facts::{Extent, StepFacts, Trapped, UpToTwo};
+use crate::stepping::{Seen, each_named, found_at};
+use crate::trapping::trap_why;
+use cheri_model::{Entry, Instr, Outcome, Trap};
+use hart::Hart;
+use origins::{OriginTable, StepFlows, flows};
+use tagged_mem::Ram;
+
+/// A trap of a step of this hart, and why.
+fn trapped_by(fetched: &Option<Instr>, hart: &Hart, trap: Trap) -> Trapped
+    ensures { result ≡ trapped_by fetched.now hart.now trap }
+{
+    Trapped {
+        trap,
+        why: trap_why(fetched, hart, trap),
+    }
+}
+
+/// The trap of a fetch, if it trapped.
+fn fetch_trap(outcome: Outcome, hart: &Hart) -> Option<Trapped>
+    ensures { result ≡ fetch_trap outcome hart.now }
+{
+    match outcome {
+        Outcome::Done | Outcome::Halt => None,
+        Outcome::Trap(trap) => Some(trapped_by(&None, hart, trap)),
+    }
+}
+
+/// The facts of a step whose fetch trapped.
+fn fetch_facts(number: u8, outcome: Outcome, hart: &Hart) -> StepFacts
+    ensures { result ≡ fetch_facts number hart.now outcome }
+{
+    StepFacts {
+        entry: Entry {
+            hart: number,
+            pc: hart.pcc().addr(),
+            outcome,
+        },
+        fetched: None,
+        reads: UpToTwo::Zero,
+        at: None,
+        finds: None,
+        traps: fetch_trap(outcome, hart),
+        leaves: None,
+        sets: UpToTwo::Zero,
+        clears: None,
+    }
+}
+
+/// The facts of an instruction that trapped.
+fn trapped_facts(seen: &Seen, number: u8, trap: Trap, hart: &Hart) -> StepFacts
+    ensures { (memory : List CapValue) (from : Origins) →
+        IsSeen seen.now number hart.now memory from →
+        result ≡ trapped_facts number hart.now memory from seen.now.fetched trap }
+{
+    StepFacts {
+        entry: Entry {
+            hart: number,
+            pc: hart.pcc().addr(),
+            outcome: Outcome::Trap(trap),
+        },
+        fetched: Some(seen.fetched),
+        reads: seen.reads,
+        at: seen.at,
+        finds: None,
+        traps: Some(trapped_by(&Some(seen.fetched.instr), hart, trap)),
+        leaves: None,
+        sets: UpToTwo::Zero,
+        clears: None,
+    }
+}
+
+/// The facts of an instruction that was done, from this hart to the one after it, with the memory
+/// and the origins after it.
+fn done_facts(
+    seen: &Seen,
+    number: u8,
+    outcome: Outcome,
+    hart: &Hart,
+    after: &Hart,
+    ram: &Ram,
+    origins: &OriginTable,
+) -> StepFacts
+    requires { IsTableFor origins.now number (length ram.now) }
+    ensures { (memory : List CapValue) (from later : Origins) →
+        IsSeen seen.now number hart.now memory from → Tells origins.now later →
+        IsPlaced memory seen.now.at → IsPlaced ram.now seen.now.at →
+        result ≡ done_facts number hart.now memory from seen.now.fetched
+        (record { hart = after.now; memory = ram.now; outcome = outcome }) later }
+{
+    let leaves = if is_store(&seen.action) {
+        found_at(seen.at, number, after, ram, origins)
+    } else {
+        None
+    };
+    StepFacts {
+        entry: Entry {
+            hart: number,
+            pc: hart.pcc().addr(),
+            outcome,
+        },
+        fetched: Some(seen.fetched),
+        reads: seen.reads,
+        at: seen.at,
+        finds: seen.found,
+        traps: None,
+        leaves,
+        sets: each_named(sets_of(&seen.action), number, after, ram, origins),
+        clears: clears_of(&seen.fetched.instr, &seen.action, hart, seen.found),
+    }
+}
+
+/// The address of an access, where it is aligned and in RAM; else that of the first byte of RAM.
+#[tactic(auto, using(crate::proofs::Tables::placed))]
+fn address_in(at: Option<Extent>, ram: &Ram) -> u64
+    ensures value { IsPlaced ram.now at → result ≡ address_accessed at }
+    ensures below { result < ram_base + 2 ^ 20 }
+    ensures granule { granule_number result < length ram.now }
+{
+    // The count's clause says that memory has a granule, and ends below RAM's greatest size.
+    let _count = ram.granule_count();
+    let Some(extent) = at else {
+        return 0;
+    };
+    if !ram.fits(extent.address, extent.bytes) {
+        return 0;
+    }
+    extent.address
+}
+
+/// The flows of an instruction that was done, in the memory after it.
+fn instruction_flows(seen: &Seen, ram: &Ram) -> StepFlows
+    ensures value { IsPlaced ram.now seen.now.at →
+        list_of result ≡ flows_at seen.now.fetched.instr (address_accessed seen.now.at) }
+    ensures spots { AreSpots (length ram.now) (list_of result) }
+{
+    flows(&seen.fetched.instr, address_in(seen.at, ram))
+}
+
+/// The flows of a step, by what was seen before it.
+pub fn flows_of_step(seen: &Option<Seen>, outcome: Outcome, ram: &Ram) -> StepFlows
+    ensures value { (program : List Instr) (number : ℕ) (hart after : HartState)
+        (memory : List CapValue) (from : Origins) →
+        IsSeenBefore seen.now program number hart memory from →
+        hart_step program hart memory
+        ≡ record { hart = after; memory = ram.now; outcome = outcome } →
+        list_of result ≡ step_flows program hart memory }
+    ensures spots { AreSpots (length ram.now) (list_of result) }
+{
+    match outcome {
+        Outcome::Done => match seen {
+            Some(seen) => instruction_flows(seen, ram),
+            None => StepFlows::Nothing,
+        },
+        Outcome::Halt => StepFlows::Nothing,
+        Outcome::Trap(_) => StepFlows::Nothing,
+    }
+}
+
+/// The facts of an instruction, by its outcome.
+#[tactic(auto)]
+fn instruction_facts(
+    seen: &Seen,
+    number: u8,
+    outcome: Outcome,
+    hart: &Hart,
+    after: &Hart,
+    ram: &Ram,
+    origins: &OriginTable,
+) -> StepFacts
+    requires { IsTableFor origins.now number (length ram.now) }
+    ensures { (memory : List CapValue) (from later : Origins) →
+        IsSeen seen.now number hart.now memory from → Tells origins.now later →
+        (IsNotTrap outcome → IsPlaced memory seen.now.at) →
+        (IsNotTrap outcome → IsPlaced ram.now seen.now.at) →
+        result ≡ instruction_facts outcome number hart.now memory from seen.now.fetched
+        (record { hart = after.now; memory = ram.now; outcome = outcome }) later }
+{
+    match outcome {
+        Outcome::Done => done_facts(seen, number, Outcome::Done, hart, after, ram, origins),
+        Outcome::Halt => done_facts(seen, number, Outcome::Halt, hart, after, ram, origins),
+        Outcome::Trap(trap) => trapped_facts(seen, number, trap, hart),
+    }
+}
+
+/// The facts of a step, by what was seen before it and what is there after it.
+#[tactic(auto)]
+pub fn after_step(
+    seen: &Option<Seen>,
+    number: u8,
+    outcome: Outcome,
+    hart: &Hart,
+    after: &Hart,
+    ram: &Ram,
+    origins: &OriginTable,
+) -> StepFacts
+    requires { IsTableFor origins.now number (length ram.now) }
+    ensures { (program : List Instr) (memory : List CapValue) (from later : Origins) →
+        IsSeenBefore seen.now program number hart.now memory from → Tells origins.now later →
+        hart_step program hart.now memory
+        ≡ record { hart = after.now; memory = ram.now; outcome = outcome } →
+        result ≡ facts_by (fetched_of program hart.now.pcc) number hart.now memory from
+        (record { hart = after.now; memory = ram.now; outcome = outcome }) later }
+{
+    match seen {
+        None => fetch_facts(number, outcome, hart),
+        Some(seen) => instruction_facts(seen, number, outcome, hart, after, ram, origins),
+    }
+}

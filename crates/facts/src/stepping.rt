@@ -1,0 +1,189 @@
+//! The facts of one step of a hart: what is read before it, and what is there after it.
+#![tactic(auto, unfolding(crate::proofs::Open::stepping))]
+
+ghost use Rattle.std.specs.Prelude.{◌≡◌, length};
+ghost use Rattle.std.specs.Option.{option_map, ForSome};
+ghost use Rattle.origins.specs.Places.{value_at_spot, place_of};
+ghost use Rattle.origins.specs.Flows.{IsSpot};
+ghost use Rattle.origins.specs.Origins.{Origins};
+ghost use Rattle.facts.specs.Names.{EachIs, each_of};
+ghost use Rattle.facts.specs.Stepping.{IsTableFor, Tells, IsPlaced, IsSeen, IsSeenBefore};
+ghost use Rattle.facts.specs.StepFacts.{
+  named_at,
+  fetched_of,
+  granule_accessed,
+};
+
+use crate::names::{access_of, granule_at, reads_of};
+use crate::step_facts::{Extent, Fetched, NamedValue, UpToTwo};
+use cap_ops::Cap;
+use cheri_model::{CODE_BASE, INSTRUCTION_BYTES, Instr, Reg};
+use hart::Hart;
+use hart_step::fetch;
+use instructions::{Action, instr_action};
+use origins::{OriginTable, Place, Spot};
+use tagged_mem::Ram;
+
+/// The instruction at PCC, where its fetch passes, and its number.
+#[tactic(auto, unfolding(crate::proofs::Open::fetching))]
+fn fetched(program: &[Instr], pcc: Cap) -> Option<Fetched>
+    ensures { result ≡ fetched_of program.now pcc }
+{
+    match fetch(program, pcc) {
+        Ok(instr) => Some(Fetched {
+            number: (pcc.addr().saturating_sub(CODE_BASE) / INSTRUCTION_BYTES) as usize,
+            instr,
+        }),
+        Err(_) => None,
+    }
+}
+
+/// What is in a place that a hart names.
+fn value_at(spot: Spot, hart: &Hart, ram: &Ram) -> Cap
+    requires { IsSpot (length ram.now) spot }
+    ensures { result ≡ value_at_spot hart.now ram.now spot }
+{
+    match spot {
+        Spot::Pcc => hart.pcc(),
+        Spot::Register(number) => hart.register(Reg::new(number)),
+        Spot::Granule(number) => ram.granule(number as usize),
+    }
+}
+
+/// The origin of what is in a place that a hart names.
+#[tactic(auto, using(crate::proofs::Tables::spot_is_place))]
+fn origin_at(spot: Spot, number: u8, granules: usize, origins: &OriginTable) -> Place
+    requires spot { IsSpot granules spot }
+    requires table { IsTableFor origins.now number granules }
+    ensures { (from : Origins) → Tells origins.now from → result ≡ from (place_of number spot) }
+{
+    origins.origin(spot.of(number))
+}
+
+/// What the hart with this number names so, with its origin where it is tagged.
+fn named_at(spot: Spot, number: u8, hart: &Hart, ram: &Ram, origins: &OriginTable) -> NamedValue
+    requires spot { IsSpot (length ram.now) spot }
+    requires table { IsTableFor origins.now number (length ram.now) }
+    ensures { (from : Origins) → Tells origins.now from →
+        result ≡ named_at hart.now ram.now from number spot }
+{
+    let value = value_at(spot, hart, ram);
+    let place = origin_at(spot, number, ram.granule_count(), origins);
+    let origin = if value.tag() { Some(place) } else { None };
+    NamedValue {
+        name: spot,
+        value,
+        origin,
+    }
+}
+
+/// The same of up to two.
+pub fn each_named(
+    spots: UpToTwo<Spot>,
+    number: u8,
+    hart: &Hart,
+    ram: &Ram,
+    origins: &OriginTable,
+) -> UpToTwo<NamedValue>
+    requires spots { EachIs (IsSpot (length ram.now)) spots }
+    requires table { IsTableFor origins.now number (length ram.now) }
+    ensures { (from : Origins) → Tells origins.now from →
+        result ≡ each_of (named_at hart.now ram.now from number) spots }
+{
+    match spots {
+        UpToTwo::Zero => UpToTwo::Zero,
+        UpToTwo::One(only) => UpToTwo::One(named_at(only, number, hart, ram, origins)),
+        UpToTwo::Two(first, second) => UpToTwo::Two(
+            named_at(first, number, hart, ram, origins),
+            named_at(second, number, hart, ram, origins),
+        ),
+    }
+}
+
+/// The granule that an access lies in, where it is aligned and in RAM.
+#[tactic(auto, using(crate::proofs::Tables::placed))]
+fn granule_in(at: Option<Extent>, ram: &Ram) -> Option<Spot>
+    ensures value { IsPlaced ram.now at → result ≡ granule_accessed at }
+    ensures spot { ForSome result (IsSpot (length ram.now)) }
+{
+    let extent = at?;
+    // The count's clause says that memory ends below RAM's greatest size.
+    let _count = ram.granule_count();
+    if !ram.fits(extent.address, extent.bytes) {
+        return None;
+    }
+    Some(granule_at(extent.address))
+}
+
+/// The same as a hart finds it.
+pub fn found_at(
+    at: Option<Extent>,
+    number: u8,
+    hart: &Hart,
+    ram: &Ram,
+    origins: &OriginTable,
+) -> Option<NamedValue>
+    requires { IsTableFor origins.now number (length ram.now) }
+    ensures { (from : Origins) → Tells origins.now from → IsPlaced ram.now at →
+        result ≡ option_map (named_at hart.now ram.now from number) (granule_accessed at) }
+{
+    match granule_in(at, ram) {
+        Some(granule) => Some(named_at(granule, number, hart, ram, origins)),
+        None => None,
+    }
+}
+
+/// What is seen of an instruction before its step.
+#[derive(Clone, Copy)]
+pub struct Seen {
+    pub fetched: Fetched,
+    pub action: Action,
+    pub reads: UpToTwo<NamedValue>,
+    pub at: Option<Extent>,
+    pub found: Option<NamedValue>,
+}
+
+/// The first half of a step's facts, before it.
+fn seen_before(
+    fetched: &Fetched,
+    number: u8,
+    hart: &Hart,
+    ram: &Ram,
+    origins: &OriginTable,
+) -> Seen
+    requires { IsTableFor origins.now number (length ram.now) }
+    ensures same { result.fetched ≡ fetched.now }
+    ensures seen { (from : Origins) → Tells origins.now from →
+        IsSeen result number hart.now ram.now from }
+{
+    let action = instr_action(fetched.instr, hart);
+    let at = access_of(&action);
+    let reads = each_named(reads_of(&fetched.instr.form()), number, hart, ram, origins);
+    let found = found_at(at, number, hart, ram, origins);
+    Seen {
+        fetched: *fetched,
+        action,
+        reads,
+        at,
+        found,
+    }
+}
+
+/// What is seen before a step of the hart with this number: nothing where its fetch traps.
+#[tactic(auto)]
+pub fn before_step(
+    program: &[Instr],
+    number: u8,
+    hart: &Hart,
+    ram: &Ram,
+    origins: &OriginTable,
+) -> Option<Seen>
+    requires { IsTableFor origins.now number (length ram.now) }
+    ensures { (from : Origins) → Tells origins.now from →
+        IsSeenBefore result program.now number hart.now ram.now from }
+{
+    match fetched(program, hart.pcc()) {
+        Some(fetched) => Some(seen_before(&fetched, number, hart, ram, origins)),
+        None => None,
+    }
+}
