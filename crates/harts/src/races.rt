@@ -2,8 +2,9 @@
 
 ghost use Rattle.std.specs.Prelude.{◌≡◌, ◌≢◌, ◌↔◌, [], length, map, All, false, IfOk, Ok, Err};
 ghost use Rattle.std.specs.Prelude.{MatchResult, vec_len};
+ghost use Rattle.cheri_model.specs.runs.Replay.{IsReplay};
 ghost use Rattle.cores.specs.Cores.{is_limit};
-ghost use Rattle.harts.specs.Reports.{IsRaceOf, KeepsTurns};
+ghost use Rattle.harts.specs.Reports.{AreReports, KeepsTurns};
 
 use crate::faults::RunFault;
 use crate::gates::Gate;
@@ -34,16 +35,13 @@ pub fn run_harts<G: Gate + Sync, R: Threads + Wait + Sync>(
     gate: &G,
 ) -> Result<(Core, Vec<HartReport>), RunFault>
     ensures limit { (result ≡ Err (RunFault.Boot BootFault.Limit)) ↔ (is_limit limit ≡ false) }
-    ensures race { IfOk result (λ run. IsRaceOf image limit turns run.0 run.1.items) }
+    ensures image { IfOk result (λ run. run.0.image ≡ image) }
+    ensures room { IfOk result (λ run. run.0.limit ≡ limit) }
+    ensures replay { IfOk result (λ run. IsReplay run.0.image run.0.trace run.0.state) }
+    ensures reports { IfOk result (λ run.
+        AreReports turns run.0.trace (length image.harts) run.1.items) }
 {
-    let race = Race {
-        rt,
-        alloc,
-        turns,
-        gate,
-        is_watched: false,
-    };
-    race.run(image, limit, &mut Nobody)
+    boot_and_race(rt, alloc, image, turns, limit, gate, &mut Nobody, false)
 }
 
 /// Runs the harts of an image as `run_harts` does, while the calling thread has the viewer look on
@@ -59,92 +57,101 @@ pub fn run_watched<G: Gate + Sync, V: Viewer, R: Threads + Wait + Sync>(
     viewer: &mut V,
 ) -> Result<(Core, Vec<HartReport>), RunFault>
     ensures limit { (result ≡ Err (RunFault.Boot BootFault.Limit)) ↔ (is_limit limit ≡ false) }
-    ensures race { IfOk result (λ run. IsRaceOf image limit turns run.0 run.1.items) }
+    ensures image { IfOk result (λ run. run.0.image ≡ image) }
+    ensures room { IfOk result (λ run. run.0.limit ≡ limit) }
+    ensures replay { IfOk result (λ run. IsReplay run.0.image run.0.trace run.0.state) }
+    ensures reports { IfOk result (λ run.
+        AreReports turns run.0.trace (length image.harts) run.1.items) }
 {
-    let race = Race {
+    boot_and_race(rt, alloc, image, turns, limit, gate, viewer, true)
+}
+
+/// Boots an image and races its harts. Only where the race is watched, a watch is asked for and the
+/// viewer looks on through it.
+fn boot_and_race<G: Gate + Sync, V: Viewer, R: Threads + Wait + Sync>(
+    rt: &R,
+    alloc: Global,
+    image: Image,
+    turns: u32,
+    limit: u32,
+    gate: &G,
+    viewer: &mut V,
+    is_watched: bool,
+) -> Result<(Core, Vec<HartReport>), RunFault>
+    ensures limit { (result ≡ Err (RunFault.Boot BootFault.Limit)) ↔ (is_limit limit ≡ false) }
+    ensures image { IfOk result (λ run. run.0.image ≡ image) }
+    ensures room { IfOk result (λ run. run.0.limit ≡ limit) }
+    ensures replay { IfOk result (λ run. IsReplay run.0.image run.0.trace run.0.state) }
+    ensures reports { IfOk result (λ run.
+        AreReports turns run.0.trace (length image.harts) run.1.items) }
+{
+    let core = Core::boot(alloc, image, limit)?;
+    let given = core.view().image.copy(alloc)?;
+    let (core, reports) = race::<Brand, G, V, R>(
         rt,
         alloc,
+        core,
+        given,
         turns,
         gate,
-        is_watched: true,
-    };
-    race.run(image, limit, viewer)
-}
-
-/// How harts race: each in up to this many turns, with what each turn asks the gate. Only where the
-/// race is watched, a watch is asked for and the viewer looks on through it.
-#[derive(Drop)]
-struct Race<'a, G, R> {
-    rt: &'a R,
-    alloc: Global,
-    turns: u32,
-    gate: &'a G,
-    is_watched: bool,
-}
-
-impl<G: Gate + Sync, R: Threads + Wait + Sync> Race<'_, G, R> {
-    /// Boots an image and races its harts.
-    fn run<V: Viewer>(
-        &self,
-        image: Image,
-        limit: u32,
-        viewer: &mut V,
-    ) -> Result<(Core, Vec<HartReport>), RunFault>
-        ensures limit { (result ≡ Err (RunFault.Boot BootFault.Limit)) ↔ (is_limit limit ≡ false) }
-        ensures race { IfOk result (λ run. IsRaceOf image limit self.now.turns run.0 run.1.items) }
-    {
-        let core = Core::boot(self.alloc, image, limit)?;
-        let given = core.view().image.copy(self.alloc)?;
-        let (core, reports) = self.race::<Brand, V>(core, given, viewer, Blanks::new())?;
-        if core.limit() != limit {
-            return Err(RunFault::ImageDiffers);
-        }
-        Ok((core, reports))
+        viewer,
+        is_watched,
+        Blanks::new(),
+    )?;
+    if core.limit() != limit {
+        return Err(RunFault::ImageDiffers);
     }
+    Ok((core, reports))
+}
 
-    /// Races the harts of a core that was just booted from an image that is given, too.
-    fn race<J: Naming + Send + Sync, V: Viewer>(
-        &self,
-        core: Core,
-        given: Image,
-        viewer: &mut V,
-        blanks: Blanks,
-    ) -> Result<(Core, Vec<HartReport>), RunFault>
-        requires names { blanks ≡ J.names }
-        requires image { core.image ≡ J.image }
-        requires start { core.trace ≡ [] }
-        ensures limit { result ≢ Err (RunFault.Boot BootFault.Limit) }
-        ensures race { IfOk result (λ run.
-            IsRaceOf J.image run.0.limit self.now.turns run.0 run.1.items) }
-    {
-        let (machine, shares) = Machine::<J>::open(self.alloc, core, blanks)?;
-        let shared = Shared::new(machine);
-        let work = Work {
-            rt: self.rt,
-            shared: &shared,
-            gate: self.gate,
-        };
-        let onlooker = Onlooker {
-            viewer,
-            watch: if self.is_watched {
-                shared.watch(self.rt).ok()
-            } else {
-                None
-            },
-        };
-        let raced = race_all(&work, self.alloc, self.turns, shares, onlooker);
-        match raced {
-            Err(fault) => {
-                let _core = shared.into_machine().close(self.rt, Vec::new(self.alloc));
-                Err(fault)
+/// Races the harts of a core that was just booted from an image that is given, too.
+fn race<J: Naming + Send + Sync, G: Gate + Sync, V: Viewer, R: Threads + Wait + Sync>(
+    rt: &R,
+    alloc: Global,
+    core: Core,
+    given: Image,
+    turns: u32,
+    gate: &G,
+    viewer: &mut V,
+    is_watched: bool,
+    blanks: Blanks,
+) -> Result<(Core, Vec<HartReport>), RunFault>
+    requires names { blanks ≡ J.names }
+    requires image { core.image ≡ J.image }
+    requires start { core.trace ≡ [] }
+    ensures limit { result ≢ Err (RunFault.Boot BootFault.Limit) }
+    ensures image { IfOk result (λ run. run.0.image ≡ J.image) }
+    ensures replay { IfOk result (λ run. IsReplay run.0.image run.0.trace run.0.state) }
+    ensures reports { IfOk result (λ run.
+        AreReports turns run.0.trace (length J.image.harts) run.1.items) }
+{
+    let (machine, shares) = Machine::<J>::open(alloc, core, blanks)?;
+    let shared = Shared::new(machine);
+    let work = Work {
+        rt,
+        shared: &shared,
+        gate,
+    };
+    let onlooker = Onlooker {
+        viewer,
+        watch: if is_watched {
+            shared.watch(rt).ok()
+        } else {
+            None
+        },
+    };
+    let raced = race_all(&work, alloc, turns, shares, onlooker);
+    match raced {
+        Err(fault) => {
+            let _core = shared.into_machine().close(rt, Vec::new(alloc));
+            Err(fault)
+        }
+        Ok((reports, shares)) => {
+            let core = shared.into_machine().close(rt, shares);
+            if core.view().image != &given {
+                return Err(RunFault::ImageDiffers);
             }
-            Ok((reports, shares)) => {
-                let core = shared.into_machine().close(self.rt, shares);
-                if core.view().image != &given {
-                    return Err(RunFault::ImageDiffers);
-                }
-                Ok((core, reports))
-            }
+            Ok((core, reports))
         }
     }
 }

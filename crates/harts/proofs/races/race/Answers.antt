@@ -1,10 +1,10 @@
 -- The shares of a booted machine have counted nothing, and at the end each report's steps are what its share counted.
-use Rattle.std.proofs.Common.{◌≡◌, List, length, refl, sym, ap, subst, ◌∙◌}
+use Rattle.std.proofs.Common.{◌≡◌, List, length, sym, ap, subst, ◌∙◌}
 use Rattle.std.specs.Prelude.{All}
 use Rattle.cheri_model.specs.declared.operation.Event.{Event}
 use Rattle.machine.specs.Shares.{ShareParts, shares_of}
 use Rattle.harts.proofs.ReportLemmas.{nothing_counted, reports_raced}
-use Rattle.harts.proofs.races.Race.race.Goals as goal
+use Rattle.harts.proofs.races.race.Goals as goal
 
 pub race_all-raced-requires-after_bounds : goal.race_all-raced-requires-after_bounds
 race_all-raced-requires-after_bounds g c = λ lifetimes bounds.
@@ -12,13 +12,9 @@ race_all-raced-requires-after_bounds g c = λ lifetimes bounds.
     let opened = c.in_ok-machine.ensures.shares ∙ ap (λ (trace : List Event). shares_of trace harts) c.requires.start in
     subst (λ (shares : List ShareParts). All (λ (s : ShareParts). s.amount ≡ 0) shares) (sym opened) (nothing_counted harts)
 
-pub returns-clause-race : goal.returns-clause-race
-returns-clause-race g c =
+pub returns-clause-reports : goal.returns-clause-reports
+returns-clause-reports g c =
     let harts = length g.J.Naming.image.harts in
     let opened = c.in_ok-machine.ensures.shares ∙ ap (λ (trace : List Event). shares_of trace harts) c.requires.start in
-    rw c.close-core-in-Ok.ensures.core (record {
-      image_is = c.close-core-in-Ok.ensures.image;
-      limit_is = refl;
-      replay = c.into_machine-in-Ok.ensures.core.replay;
-      reported = reports_raced c.args.self.now.turns c.into_machine-in-Ok.result.core.trace harts _ _ _ opened c.in-Ok.ensures.harts c.in-Ok.ensures.counted c.close-core-in-Ok.ensures.counts c.in-Ok.ensures.turned;
-    })
+    rw c.close-core-in-Ok.ensures.core
+    (reports_raced c.args.turns c.into_machine-in-Ok.result.core.trace harts _ _ _ opened c.in-Ok.ensures.harts c.in-Ok.ensures.counted c.close-core-in-Ok.ensures.counts c.in-Ok.ensures.turned)
