@@ -15,12 +15,12 @@ ghost use Rattle.machine.specs.Watches.{watch_of};
 ghost use Rattle.cheri_model.specs.declared.operation.Event.{Event};
 ghost use Rattle.cheri_model.specs.declared.trace.Entry.{Entry};
 
-use cores::{Core, StepFault};
 use crate::faults::{OpenFault, WatchFault};
 use crate::shares::{Blanks, Books, Naming, Share, Tokens};
-use crate::watching::watched::Watched;
 use crate::watching::watch::{Receipt, Watch};
+use crate::watching::watched::Watched;
 use cheri_model::{Entry, Event, Image, NoMemory, Op};
+use cores::{Core, StepFault};
 use std::alloc::Global;
 use std::marker::Model;
 use std::sync::Wait;

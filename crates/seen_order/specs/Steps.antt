@@ -41,5 +41,5 @@ abbrev pub AddsLink : Step Link → View Link ℕ → ℕ → View Link ℕ → 
 AddsLink step before found after =
     (first : ℕ) → open_end first (links_seen before) ≡ step.ask.pen
     → (order first (links_seen after)
-        ≡ order first (links_seen before) ++ step.ask.operation ∷ [])
+    ≡ order first (links_seen before) ++ step.ask.operation ∷ [])
     × (open_end first (links_seen after) ≡ step.ask.next)

@@ -8,9 +8,9 @@ ghost use Rattle.machine.specs.declared.watching.shown.Ticket.TheVariants.{Tell}
 use crate::shares::Naming;
 use crate::watching::shown::{Shown, Ticket};
 use crossbeam_utils::rule::{Outcome, Protocol};
-use seen_order::{Order, Token};
 use left_right::reader::{Reader, Reading};
 use left_right::writer::Writer;
+use seen_order::{Order, Token};
 use std::marker::PhantomData;
 use std::sync::Wait;
 

@@ -1,10 +1,10 @@
 //! What watchers read of a machine: one of two copies of its core, beside what was seen of the
 //! order of its operations.
 
-use cores::Core;
 use cheri_model::Op;
-use seen_order::Token;
+use cores::Core;
 use left_right::Absorb;
+use seen_order::Token;
 use std::alloc::AllocError;
 
 /// A copy of a machine's core. Whenever it is shown, what the token has seen is the order of the

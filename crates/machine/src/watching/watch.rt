@@ -6,10 +6,10 @@ ghost use Rattle.machine.specs.Copies.{IsShown};
 ghost use Rattle.machine.specs.Names.{order_named};
 ghost use Rattle.machine.specs.Watches.{watch_of};
 
-use crate::watching::copies::{CopyReader, CopyReading, OrderOf, Sees};
-use cores::Core;
 use crate::shares::Naming;
+use crate::watching::copies::{CopyReader, CopyReading, OrderOf, Sees};
 use crate::watching::shown::Shown;
+use cores::Core;
 use seen_order::Seen;
 use std::marker::Model;
 

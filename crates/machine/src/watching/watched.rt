@@ -8,13 +8,13 @@ ghost use Rattle.machine.specs.Machines.{unwatched};
 ghost use Rattle.machine.specs.Names.{order_named};
 ghost use Rattle.machine.specs.Watches.{watch_of};
 
-use crate::watching::copies::OrderOf;
-use cores::Core;
 use crate::faults::WatchFault;
-use crate::watching::pair::Pair;
 use crate::shares::Naming;
+use crate::watching::copies::OrderOf;
+use crate::watching::pair::Pair;
 use crate::watching::watch::{Receipt, Watch};
 use cheri_model::{Event, NoMemory, Op};
+use cores::Core;
 use seen_order::{Blank, Keeper};
 use std::alloc::Global;
 use std::marker::Model;
