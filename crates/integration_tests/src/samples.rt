@@ -108,7 +108,8 @@ pub(crate) fn watch_of<J: Naming>(machine: &mut Machine<J>) -> Option<Watch<J>> 
 
 /// Whether two cores show the same image, trace, harts and memory.
 pub(crate) fn shows_the_same(one: &Core, other: &Core) -> bool {
-    let (one, other) = (one.view(), other.view());
+    let one = one.view();
+    let other = other.view();
     let granules = one.granule_count();
     if one.image != other.image || one.entries != other.entries || one.harts != other.harts {
         return false;
