@@ -2,7 +2,7 @@
 //! asked for until it comes.
 
 use cheri_model::{Entry, Event, Op};
-use machine::{Machine, Naming, Watch, WatchFault};
+use machine::{Core, Machine, Naming, Watch, WatchFault};
 use std::alloc::Global;
 use std::process::Abort;
 use std::thread;
