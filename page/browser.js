@@ -146,7 +146,19 @@ async function withBrowser(work) {
     const ended = new Promise((resolve) => browser.once("exit", resolve));
     browser.kill();
     await ended;
-    fs.rmSync(profile, { recursive: true, force: true, maxRetries: 20, retryDelay: 100 });
+    await remove(profile);
+  }
+}
+
+/** Removes the profile; the browser's helpers may still write to it for a moment. */
+async function remove(profile) {
+  for (let tries = 0; tries < 50; tries += 1) {
+    try {
+      fs.rmSync(profile, { recursive: true, force: true });
+      return;
+    } catch {
+      await new Promise((resolve) => setTimeout(resolve, 100));
+    }
   }
 }
 

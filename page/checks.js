@@ -92,8 +92,8 @@ async function checkScreens(tab, name, open, pictures) {
       const words = `${name} at ${width} pixels, ${isDark ? "dark" : "light"}`;
       await tab.screen(width, height, isDark);
       await open();
-      const wide = await tab.ask(() => document.scrollingElement.scrollWidth - innerWidth);
-      check(`${words}: doesn't scroll sideways`, wide <= 0, wide);
+      const wide = await tab.ask(() => document.scrollingElement.scrollWidth);
+      check(`${words}: doesn't scroll sideways`, wide <= width, wide);
       const faint = await tab.ask(faintTexts);
       check(`${words}: contrast of text is at least 4.5`, faint.length === 0, faint.slice(0, 3));
       if (pictures) {

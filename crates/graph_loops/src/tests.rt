@@ -5,7 +5,7 @@ ghost use Rattle.graph_search.specs.Graphs.{LeadsTo};
 ghost use Rattle.graph_loops.specs.Routes.{number_of, target_of};
 
 use crate::scans::{Loops, judge_loops};
-use graph_search::{Graph, explore};
+use graph_search::{Graph, NoProgress, explore};
 use std::alloc::AllocError;
 use std::test::Fail;
 
@@ -17,7 +17,7 @@ struct Routes {
 
 impl Graph for Routes {
     ghost use Rattle.std.specs.Prelude.{ℕ};
-    ghost use Rattle.graph_loops.specs.Routes.{number_of, routed, number_of_one, routed_beyond};
+    ghost use Rattle.graph_loops.specs.Routes.{number_of, routed, routed_beyond};
 
     ghost State = { ℕ };
 
@@ -37,6 +37,7 @@ impl Graph for Routes {
         2
     }
 
+    #[tactic(auto, using(crate::specs::Routes::number_of_one))]
     fn step(&mut self, node: &[u32], label: u32, to: &mut [u32]) -> Result<bool, AllocError> {
         let &[number] = node else { unreachable!() };
         let at = number as usize * 2 + label as usize;
@@ -45,8 +46,6 @@ impl Graph for Routes {
         }
         Ok(put_target(self.targets[at], to))
     }
-
-    ghost one_node = { λ g. number_of_one };
 
     ghost none_beyond = { λ g. routed_beyond g.targets.items };
 }
@@ -69,7 +68,7 @@ fn judged(rt: &HostRuntime, targets: &[u32], numbers: &[u32]) -> Result<Loops, F
     let mut graph = Routes {
         targets: Vec::from_slice(rt.alloc(), targets)?,
     };
-    let found = explore(rt.alloc(), &mut graph, &[0], 100)?;
+    let found = explore(rt.alloc(), &mut graph, &[0], 100, &mut NoProgress)?;
     Ok(judge_loops(rt.alloc(), &mut graph, &found, numbers, 2)?)
 }
 

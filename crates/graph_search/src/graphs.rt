@@ -58,12 +58,10 @@ pub trait Graph {
         ensures same_width { width self.new ≡ width self.old }
         ensures kept { (n : List ℕ) (s : State) → meaning self.old n ≡ Some s →
             meaning self.new n ≡ Some s }
+        ensures one_node { (m n : List ℕ) (s : State) → meaning self.new m ≡ Some s →
+            meaning self.new n ≡ Some s → m ≡ n }
         ensures value { IfOk result (λ leads. (s : State) → meaning self.old node.now ≡ Some s →
             LeadsTo (meaning self.new) leads to.new (next self.old s label)) };
-
-    /// No two rows mean the same.
-    ghost one_node: { (g : Self) (m n : List ℕ) (s : State) → meaning g m ≡ Some s →
-        meaning g n ≡ Some s → m ≡ n };
 
     /// Every edge has a label.
     ghost none_beyond: { (g : Self) (s : State) (l : ℕ) → label_count g ≤ l → next g s l ≡ None };

@@ -4,6 +4,7 @@
 
 mod edges;
 mod graphs;
+mod progress;
 mod reached;
 mod search;
 #[cfg(test)]
@@ -12,5 +13,6 @@ mod trees;
 
 pub use edges::Edge;
 pub use graphs::Graph;
+pub use progress::{CountedProgress, NoProgress, Progress};
 pub use reached::Reached;
 pub use search::explore;

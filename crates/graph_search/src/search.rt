@@ -18,6 +18,7 @@ ghost use Rattle.graph_search.specs.Searches.{IsExplored, IsSearching, GoesOn};
 
 use crate::edges::Edge;
 use crate::graphs::Graph;
+use crate::progress::Progress;
 use crate::reached::Reached;
 use crate::trees::Tree;
 use std::alloc::{AllocError, Global};
@@ -25,11 +26,12 @@ use std::alloc::{AllocError, Global};
 /// Finds the states that can be reached from the state of `start`, breadth first, edges in the
 /// order of their labels: the first `limit` ones in the order of their witnesses, or all where
 /// there are no more. Fails only when out of memory, or of numbers for nodes.
-pub fn explore<G: Graph>(
+pub fn explore<G: Graph, P: Progress>(
     alloc: Global,
     graph: &mut G,
     start: &[u32],
     limit: u32,
+    progress: &mut P,
 ) -> Result<Reached, AllocError>
     requires some { 0 < limit }
     requires opened { IsSome (G.meaning graph.old start.now) }
@@ -45,16 +47,20 @@ pub fn explore<G: Graph>(
     let mut tree = Tree::new(alloc, start)?;
     let mut row = Vec::new(alloc);
     row.resize(start.len(), 0)?;
-    let complete = expand_all(graph, &mut tree, row.as_mut_slice(), limit)?;
+    let complete = expand_all(graph, &mut tree, row.as_mut_slice(), limit, progress)?;
     Ok(Reached::new(tree, complete))
 }
 
+/// How many nodes are expanded between two reports of progress.
+const REPORT_EVERY: u32 = 4096;
+
 /// Follows the edges of all nodes. False where the tree was full and an edge led to another state.
-fn expand_all<G: Graph>(
+fn expand_all<G: Graph, P: Progress>(
     graph: &mut G,
     tree: &mut Tree,
     row: &mut [u32],
     limit: u32,
+    progress: &mut P,
 ) -> Result<bool, AllocError>
     requires room { length row.old ≡ G.width graph.old }
     requires wide { tree.old.nodes.width ≡ G.width graph.old }
@@ -70,6 +76,9 @@ fn expand_all<G: Graph>(
 {
     let mut node = 0;
     while node < tree.len() {
+        if node % REPORT_EVERY == 0 {
+            progress.report(tree.len());
+        }
         if !expand(graph, tree, row, limit, node)? {
             return Ok(false);
         }

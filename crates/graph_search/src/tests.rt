@@ -5,6 +5,7 @@ ghost use Rattle.graph_search.specs.Graphs.{LeadsTo};
 ghost use Rattle.graph_search.specs.Doubling.{number_of, below};
 
 use crate::graphs::Graph;
+use crate::progress::{CountedProgress, NoProgress};
 use crate::reached::Reached;
 use crate::search::explore;
 use std::alloc::AllocError;
@@ -19,7 +20,7 @@ struct Numbers {
 impl Graph for Numbers {
     ghost use Rattle.std.specs.Prelude.{ℕ};
     ghost use Rattle.graph_search.specs.Doubling.{number_of, stepped};
-    ghost use Rattle.graph_search.specs.Doubling.{number_of_one, stepped_beyond};
+    ghost use Rattle.graph_search.specs.Doubling.{stepped_beyond};
 
     ghost State = { ℕ };
 
@@ -39,6 +40,7 @@ impl Graph for Numbers {
         2
     }
 
+    #[tactic(auto, using(crate::specs::Doubling::number_of_one))]
     fn step(&mut self, node: &[u32], label: u32, to: &mut [u32]) -> Result<bool, AllocError> {
         let &[number] = node else { unreachable!() };
         if label == 0 {
@@ -46,8 +48,6 @@ impl Graph for Numbers {
         }
         Ok(put_below(self.size, u64::from(number) + 1, to))
     }
-
-    ghost one_node = { λ g. number_of_one };
 
     ghost none_beyond = { λ g. stepped_beyond g.size };
 }
@@ -80,7 +80,7 @@ fn distance(number: u32) -> u32 {
 #[test]
 fn walks_are_shortest(rt: HostRuntime) -> Result<(), Fail> {
     let mut graph = Numbers { size: 300 };
-    let found = explore(rt.alloc(), &mut graph, &[1], 1000)?;
+    let found = explore(rt.alloc(), &mut graph, &[1], 1000, &mut NoProgress)?;
     assert!(rt; found.is_complete());
     assert_eq!(rt; found.len(), 299);
     let mut before = 0;
@@ -98,7 +98,7 @@ fn walks_are_shortest(rt: HostRuntime) -> Result<(), Fail> {
 #[test]
 fn witnesses_are_least(rt: HostRuntime) -> Result<(), Fail> {
     let mut graph = Numbers { size: 11 };
-    let found = explore(rt.alloc(), &mut graph, &[1], 100)?;
+    let found = explore(rt.alloc(), &mut graph, &[1], 100, &mut NoProgress)?;
     let mut node = 0u32;
     for number in [1, 2, 4, 3, 8, 5, 6, 9, 10, 7] {
         assert_eq!(rt; number_at(&found, node), Some(number));
@@ -117,10 +117,25 @@ fn witnesses_are_least(rt: HostRuntime) -> Result<(), Fail> {
 fn limits_are_kept(rt: HostRuntime) -> Result<(), Fail> {
     for limit in 1..12u32 {
         let mut graph = Numbers { size: 11 };
-        let found = explore(rt.alloc(), &mut graph, &[1], limit)?;
+        let found = explore(rt.alloc(), &mut graph, &[1], limit, &mut NoProgress)?;
         assert_eq!(rt; found.len(), limit.min(10), "{limit}");
         assert_eq!(rt; found.is_complete(), limit >= 10, "{limit}");
         assert!(rt; found.node(found.len()).is_none(), "{limit}");
     }
+    Ok(())
+}
+
+/// Progress is reported once for every 4,096 nodes.
+#[test]
+fn progress_is_reported(rt: HostRuntime) -> Result<(), Fail> {
+    let mut graph = Numbers { size: 10_000 };
+    let mut progress = CountedProgress {
+        reports: 0,
+        found: 0,
+    };
+    let found = explore(rt.alloc(), &mut graph, &[1], 20_000, &mut progress)?;
+    assert_eq!(rt; found.len(), 9_999);
+    assert_eq!(rt; progress.reports, 3);
+    assert!(rt; progress.found > 8192 && progress.found <= 9_999);
     Ok(())
 }

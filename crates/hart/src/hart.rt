@@ -10,6 +10,7 @@ ghost use Rattle.cap_model.specs.results.Readings.{number_of};
 ghost use Rattle.cap_model.specs.results.Addresses.{address_of, in_bounds, is_open};
 ghost use Rattle.cap_model.specs.results.Swept.{is_in_sweep, swept};
 ghost use Rattle.cheri_model.specs.runs.Sweeps.{swept_hart, cleared_in_hart};
+ghost use Rattle.hart.specs.Hart.{IsHart};
 
 use crate::next_pcc::next_pcc;
 use cap_ops::Cap;
@@ -106,6 +107,7 @@ impl Hart {
         ensures value { result ≡ self.now.pcc }
         ensures lawful { IsLawfulValue result }
         ensures hart { EachOfHart IsLawfulValue self.now }
+        ensures formed { IsHart self.now.regs self.now.pcc }
     {
         self.pcc
     }

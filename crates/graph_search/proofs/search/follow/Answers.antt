@@ -34,7 +34,7 @@ returns-then-len-limit-clause-after g c =
     (g.G.Graph.meaning c.args.graph.now) (g.G.Graph.meaning c.step.new.self) c.args.limit
     c.args.tree.now.nodes.rows c.args.tree.now.edges.items c.args.edge c.requires.before
     c.step.ensures.same_graph c.step.ensures.kept c.requires.there c.node.result.now c.step.new.to c.node.ensures
-    c.in_ok-step.field-0 c.in_ok-step.ensures.value leading room (g.met.G.Graph.one_node c.step.new.self)
+    c.in_ok-step.field-0 c.in_ok-step.ensures.value leading room c.step.ensures.one_node
     c.add.new.self.nodes.rows c.add.new.self.edges.items c.in_ok-add.ensures.added
 
 pub returns-clause-after : goal.returns-clause-after
@@ -45,5 +45,5 @@ returns-clause-after g c =
     (g.G.Graph.meaning c.args.graph.now) (g.G.Graph.meaning c.step.new.self) c.args.limit
     c.args.tree.now.nodes.rows c.args.tree.now.edges.items c.args.edge c.requires.before
     c.step.ensures.same_graph c.step.ensures.kept c.requires.there c.node.result.now c.step.new.to c.node.ensures
-    c.in_ok-step.field-0 c.in_ok-step.ensures.value leading full (g.met.G.Graph.one_node c.step.new.self)
+    c.in_ok-step.field-0 c.in_ok-step.ensures.value leading full c.step.ensures.one_node
     c.find.result c.find.ensures.found c.find.ensures.absent)

@@ -1,2 +1,0 @@
--- Lemmas of runs that are followed.
-pub mod Followed

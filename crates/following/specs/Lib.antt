@@ -1,3 +1,0 @@
--- A run that is followed.
-pub mod Following
-pub mod Faults

@@ -1,0 +1,6 @@
+pub mod NumberedLemmas
+pub mod ValueLemmas
+pub mod StoreLemmas
+pub mod ViewLemmas
+pub mod HartLemmas
+pub mod SeenLemmas

@@ -1,0 +1,4 @@
+pub mod Numbered
+pub mod Values
+pub mod Codes
+pub mod Stores
