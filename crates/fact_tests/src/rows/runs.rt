@@ -1,0 +1,70 @@
+//! What is read, found, left and set, and where it is from.
+
+use super::{ALL, Given, K, facts_of, image_of, made, operands, value};
+use cheri_model::{Instr, Trap};
+use facts::{Extent, NamedValue, TrapWhy, Trapped, UpToTwo};
+use following::Follower;
+use origins::{Place, Spot};
+use std::test::Fail;
+
+#[test]
+fn swaps_exchange_origins(rt: HostRuntime) -> Result<(), Fail> {
+    let (cd, c1, c2) = operands();
+    let swap = Instr::AmoSwapC { cd, c2, c1 };
+    let through = Given::Open(0x8000_0000, 64, 0x8000_0000, ALL);
+    let stored = Given::Open(0x8000_0020, 16, 0x8000_0020, ALL);
+    let facts = facts_of(&rt, rt.alloc(), swap, through, stored)?;
+    let register = |number| Some(Place::RegisterOf { hart: 0, number });
+    let read = NamedValue {
+        name: Spot::Register(5),
+        value: made(&rt, 0x8000_0000, 64, 0x8000_0000, ALL),
+        origin: register(5),
+    };
+    let stored_cap = made(&rt, 0x8000_0020, 16, 0x8000_0020, ALL);
+    let found = made(&rt, 0x8000_0000, 64, 0x8000_0010, ALL);
+    let first = NamedValue {
+        name: Spot::Register(6),
+        value: stored_cap,
+        origin: register(6),
+    };
+    assert_eq!(rt; facts.reads, UpToTwo::Two(first, read));
+    assert_eq!(rt; facts.at, Some(Extent { address: 0x8000_0000, bytes: 16 }));
+    let granule = Some(Place::GranuleOf(0));
+    assert_eq!(rt; facts.finds, Some(NamedValue {
+        name: Spot::Granule(0),
+        value: found,
+        origin: granule,
+    }));
+    assert_eq!(rt; facts.leaves, Some(NamedValue {
+        name: Spot::Granule(0),
+        value: stored_cap,
+        origin: register(6),
+    }));
+    assert_eq!(rt; facts.sets, UpToTwo::One(NamedValue {
+        name: Spot::Register(7),
+        value: found,
+        origin: granule,
+    }));
+    assert_eq!(rt; facts.clears, None);
+    Ok(())
+}
+
+#[test]
+fn a_program_runs_past_its_end(rt: HostRuntime) -> Result<(), Fail> {
+    let (cd, c1, _) = operands();
+    let instr = Instr::CMove { cd, c1 };
+    let image = image_of(rt.alloc(), instr, value(&rt, K), value(&rt, K), value(&rt, K))?;
+    let mut follower = Follower::boot(rt.alloc(), image, 9)?;
+    let done = follower.step(0)?;
+    assert_eq!(rt; done.traps, None);
+    let past = follower.step(0)?;
+    let address = 0x1000_0004;
+    assert_eq!(rt; past.traps, Some(Trapped {
+        trap: Trap { cause: Trap::FETCH, reg: Trap::PCC },
+        why: TrapWhy::NoInstruction { address },
+    }));
+    assert_eq!(rt; past.fetched, None);
+    assert_eq!(rt; past.reads, UpToTwo::Zero);
+    assert!(rt; follower.step(0).is_err());
+    Ok(())
+}
