@@ -9,6 +9,7 @@ use origins::Spot;
 use std::test::Fail;
 
 const S: Spot = Spot::Register(5);
+
 const A: Spot = Spot::Register(6);
 
 /// A key for the object types from 0 to 15, at type 5.
@@ -90,7 +91,13 @@ fn bounds_and_addresses(rt: HostRuntime) -> Result<(), Fail> {
     ];
     for (instr, first, second, why) in rows {
         let facts = facts_of(&rt, rt.alloc(), instr, first, second)?;
-        assert_eq!(rt; facts.clears, Some(Cleared { name: Spot::Register(7), why }));
+        assert_eq!(rt;
+            facts.clears,
+            Some(Cleared {
+                name: Spot::Register(7),
+                why
+            })
+        );
     }
     Ok(())
 }
@@ -177,7 +184,13 @@ fn seals(rt: HostRuntime) -> Result<(), Fail> {
     ];
     for (instr, first, second, why) in rows {
         let facts = facts_of(&rt, rt.alloc(), instr, first, second)?;
-        assert_eq!(rt; facts.clears, Some(Cleared { name: Spot::Register(7), why }));
+        assert_eq!(rt;
+            facts.clears,
+            Some(Cleared {
+                name: Spot::Register(7),
+                why
+            })
+        );
     }
     Ok(())
 }
@@ -239,7 +252,13 @@ fn rebuilt(rt: HostRuntime) -> Result<(), Fail> {
     ];
     for (first, second, why) in rows {
         let facts = facts_of(&rt, rt.alloc(), build, first, second)?;
-        assert_eq!(rt; facts.clears, Some(Cleared { name: Spot::Register(7), why }));
+        assert_eq!(rt;
+            facts.clears,
+            Some(Cleared {
+                name: Spot::Register(7),
+                why
+            })
+        );
     }
     Ok(())
 }

@@ -28,23 +28,38 @@ fn swaps_exchange_origins(rt: HostRuntime) -> Result<(), Fail> {
         origin: register(6),
     };
     assert_eq!(rt; facts.reads, UpToTwo::Two(first, read));
-    assert_eq!(rt; facts.at, Some(Extent { address: 0x8000_0000, bytes: 16 }));
+    assert_eq!(rt;
+        facts.at,
+        Some(Extent {
+            address: 0x8000_0000,
+            bytes: 16
+        })
+    );
     let granule = Some(Place::GranuleOf(0));
-    assert_eq!(rt; facts.finds, Some(NamedValue {
-        name: Spot::Granule(0),
-        value: found,
-        origin: granule,
-    }));
-    assert_eq!(rt; facts.leaves, Some(NamedValue {
-        name: Spot::Granule(0),
-        value: stored_cap,
-        origin: register(6),
-    }));
-    assert_eq!(rt; facts.sets, UpToTwo::One(NamedValue {
-        name: Spot::Register(7),
-        value: found,
-        origin: granule,
-    }));
+    assert_eq!(rt;
+        facts.finds,
+        Some(NamedValue {
+            name: Spot::Granule(0),
+            value: found,
+            origin: granule,
+        })
+    );
+    assert_eq!(rt;
+        facts.leaves,
+        Some(NamedValue {
+            name: Spot::Granule(0),
+            value: stored_cap,
+            origin: register(6),
+        })
+    );
+    assert_eq!(rt;
+        facts.sets,
+        UpToTwo::One(NamedValue {
+            name: Spot::Register(7),
+            value: found,
+            origin: granule,
+        })
+    );
     assert_eq!(rt; facts.clears, None);
     Ok(())
 }
@@ -53,16 +68,28 @@ fn swaps_exchange_origins(rt: HostRuntime) -> Result<(), Fail> {
 fn a_program_runs_past_its_end(rt: HostRuntime) -> Result<(), Fail> {
     let (cd, c1, _) = operands();
     let instr = Instr::CMove { cd, c1 };
-    let image = image_of(rt.alloc(), instr, value(&rt, K), value(&rt, K), value(&rt, K))?;
+    let image = image_of(
+        rt.alloc(),
+        instr,
+        value(&rt, K),
+        value(&rt, K),
+        value(&rt, K),
+    )?;
     let mut follower = Follower::boot(rt.alloc(), image, 9)?;
     let done = follower.step(0)?;
     assert_eq!(rt; done.traps, None);
     let past = follower.step(0)?;
     let address = 0x1000_0004;
-    assert_eq!(rt; past.traps, Some(Trapped {
-        trap: Trap { cause: Trap::FETCH, reg: Trap::PCC },
-        why: TrapWhy::NoInstruction { address },
-    }));
+    assert_eq!(rt;
+        past.traps,
+        Some(Trapped {
+            trap: Trap {
+                cause: Trap::FETCH,
+                reg: Trap::PCC
+            },
+            why: TrapWhy::NoInstruction { address },
+        })
+    );
     assert_eq!(rt; past.fetched, None);
     assert_eq!(rt; past.reads, UpToTwo::Zero);
     assert!(rt; follower.step(0).is_err());

@@ -8,6 +8,7 @@ use origins::Spot;
 use std::test::Fail;
 
 const R: Spot = Spot::Register(5);
+
 const A: Spot = Spot::Register(6);
 
 fn trap(cause: u8, reg: u8, why: TrapWhy) -> Trapped {
@@ -56,8 +57,18 @@ fn accesses(rt: HostRuntime) -> Result<(), Fail> {
     let local = TrapWhy::LacksStoreLocal { name: R, stored: A };
     let far = Given::Open(0x9000_0000, 64, 0x9000_0000, ALL);
     let rows = [
-        (load, Given::Int(0), K, trap(1, 5, TrapWhy::Untagged { name: R })),
-        (load, sealed, K, trap(2, 5, TrapWhy::Sealed { name: R, otype })),
+        (
+            load,
+            Given::Int(0),
+            K,
+            trap(1, 5, TrapWhy::Untagged { name: R }),
+        ),
+        (
+            load,
+            sealed,
+            K,
+            trap(2, 5, TrapWhy::Sealed { name: R, otype }),
+        ),
         (load, memory(0x8), K, trap(4, 5, lacks(LOAD))),
         (store, memory(0x4), K, trap(5, 5, lacks(STORE))),
         (store_cap, memory(0xc), K, trap(6, 5, stored)),
@@ -88,10 +99,20 @@ fn jumps(rt: HostRuntime) -> Result<(), Fail> {
     };
     let rows = [
         (jump, memory(0), K, trap(3, 5, lacks(EXECUTE))),
-        (invoke, K, data, trap(2, 5, TrapWhy::NotInvocable { name: R })),
+        (
+            invoke,
+            K,
+            data,
+            trap(2, 5, TrapWhy::NotInvocable { name: R }),
+        ),
         (invoke, code, other, trap(12, 5, differ)),
         (invoke, no_invoke, data, trap(13, 5, lacks(CINVOKE))),
-        (invoke, code, code, trap(3, 6, TrapWhy::HasExecute { name: A })),
+        (
+            invoke,
+            code,
+            code,
+            trap(3, 6, TrapWhy::HasExecute { name: A }),
+        ),
     ];
     for (instr, first, second, trapped) in rows {
         let facts = facts_of(&rt, rt.alloc(), instr, first, second)?;
