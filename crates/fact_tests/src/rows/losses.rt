@@ -249,6 +249,16 @@ fn rebuilt(rt: HostRuntime) -> Result<(), Fail> {
                 source: S,
             },
         ),
+        (
+            root,
+            // Exponent 52, B 0x1800, T 0x800: the base and the top are both 2^63.
+            Given::Word(0x0200_1800, 0),
+            Why::OutsideRegion {
+                address: 0,
+                power: 14,
+                start: 0x7fff_ffff_ffff_f800,
+            },
+        ),
     ];
     for (first, second, why) in rows {
         let facts = facts_of(&rt, rt.alloc(), build, first, second)?;

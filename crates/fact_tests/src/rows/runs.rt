@@ -95,3 +95,27 @@ fn a_program_runs_past_its_end(rt: HostRuntime) -> Result<(), Fail> {
     assert!(rt; follower.step(0).is_err());
     Ok(())
 }
+
+#[test]
+fn sweeps_name_places_in_order(rt: HostRuntime) -> Result<(), Fail> {
+    let (cd, c1, _) = operands();
+    let above = Given::Open(0x8000_0010, 16, 0x8000_0010, ALL);
+    let instr = Instr::CMove { cd, c1 };
+    let image = image_of(
+        rt.alloc(),
+        instr,
+        value(&rt, K),
+        value(&rt, above),
+        value(&rt, K),
+    )?;
+    let mut follower = Follower::boot(rt.alloc(), image, 9)?;
+    follower.step(0)?;
+    let swept = follower.sweep(rt.alloc(), 0x8000_0000, 0x8000_0010)?;
+    let register = |number| Place::RegisterOf { hart: 0, number };
+    assert!(rt; swept.as_slice() == [register(5), register(7), Place::GranuleOf(0)].as_slice());
+    let again = follower.sweep(rt.alloc(), 0x8000_0000, 0x8000_0010)?;
+    assert_eq!(rt; again.len(), 0);
+    let rest = follower.sweep(rt.alloc(), 0, 1 << 64)?;
+    assert!(rt; rest.as_slice() == [Place::PccOf(0), register(6)].as_slice());
+    Ok(())
+}
