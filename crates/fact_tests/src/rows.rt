@@ -4,7 +4,7 @@
 use bitflags::Flags;
 use cap_ops::Cap;
 use cheri_model::{HartImage, Image, Instr, Perms, Reg, Value};
-use facts::StepFacts;
+use facts::{Cleared, StepFacts, Trapped};
 use following::Follower;
 use std::alloc::Global;
 use std::process::Abort;
@@ -91,6 +91,30 @@ fn facts_of(
     let image = image_of(alloc, instr, value(rt, first), value(rt, second), granule)?;
     let mut follower = Follower::boot(alloc, image, 1)?;
     Ok(follower.step(0)?)
+}
+
+/// What such a step clears.
+fn cleared_by(
+    rt: &impl Abort,
+    alloc: Global,
+    instr: Instr,
+    first: Given,
+    second: Given,
+) -> Result<Option<Cleared>, Fail> {
+    let facts = facts_of(rt, alloc, instr, first, second)?;
+    Ok(facts.clears)
+}
+
+/// The trap of such a step, and why.
+fn trapped_by(
+    rt: &impl Abort,
+    alloc: Global,
+    instr: Instr,
+    first: Given,
+    second: Given,
+) -> Result<Option<Trapped>, Fail> {
+    let facts = facts_of(rt, alloc, instr, first, second)?;
+    Ok(facts.traps)
 }
 
 /// The operands of the rows: the result and the two sources.

@@ -1,6 +1,6 @@
 //! Each reason for a lost tag, with its numbers.
 
-use super::{ALL, Given, K, facts_of, operands};
+use super::{ALL, Given, K, cleared_by, operands};
 use bitflags::Flags;
 use cheri_model::permission::{EXECUTE, LOAD_CAP, SEAL, UNSEAL};
 use cheri_model::{Instr, OType, Perms};
@@ -15,17 +15,43 @@ const A: Spot = Spot::Register(6);
 /// A key for the object types from 0 to 15, at type 5.
 const KEY: Given = Given::Open(0, 16, 5, ALL);
 
+/// What K is, sealed with type 5.
+const SEALED: Given = Given::Sealed(0x8000_0000, 64, 0x8000_0010, ALL, 5);
+
+/// The key, sealed with type 9.
+const SEALED_KEY: Given = Given::Sealed(0, 16, 5, ALL, 9);
+
+/// The key without a permission.
+const NO_KEY: Given = Given::Open(0, 16, 5, 0);
+
+/// The key at the first type that it does not hold.
+const PAST: Given = Given::Open(0, 16, 16, ALL);
+
+/// All authority, at address 0.
+const ROOT: Given = Given::Open(0, 1 << 64, 0, ALL);
+
+const OUTSIDE: Why = Why::TypeOutside {
+    otype: 16,
+    base: 0,
+    top: 16,
+    authority: A,
+};
+
+const LACKS: Why = Why::Lacks {
+    name: S,
+    permission: LOAD_CAP,
+};
+
 #[test]
 fn bounds_and_addresses(rt: HostRuntime) -> Result<(), Fail> {
     let (cd, c1, c2) = operands();
-    let sealed = Given::Sealed(0x8000_0000, 64, 0x8000_0010, ALL, 5);
     let root = Given::Open(0, 1 << 64, 1, ALL);
     let rows = [
         (Instr::CClearTag { cd, c1 }, K, K, Why::AskedFor),
         (Instr::CSetHigh { cd, c1, c2 }, K, K, Why::UpperReplaced),
         (
             Instr::CSetAddr { cd, c1, c2 },
-            sealed,
+            SEALED,
             Given::Int(0),
             Why::Sealed {
                 name: S,
@@ -90,9 +116,9 @@ fn bounds_and_addresses(rt: HostRuntime) -> Result<(), Fail> {
         ),
     ];
     for (instr, first, second, why) in rows {
-        let facts = facts_of(&rt, rt.alloc(), instr, first, second)?;
+        let clears = cleared_by(&rt, rt.alloc(), instr, first, second)?;
         assert_eq!(rt;
-            facts.clears,
+            clears,
             Some(Cleared {
                 name: Spot::Register(7),
                 why
@@ -105,75 +131,71 @@ fn bounds_and_addresses(rt: HostRuntime) -> Result<(), Fail> {
 #[test]
 fn seals(rt: HostRuntime) -> Result<(), Fail> {
     let (cd, c1, c2) = operands();
-    let seal = Instr::CSeal { cd, c1, c2 };
-    let unseal = Instr::CUnseal { cd, c1, c2 };
-    let sealed = Given::Sealed(0x8000_0000, 64, 0x8000_0010, ALL, 5);
-    let sealed_key = Given::Sealed(0, 16, 5, ALL, 9);
-    let type_nine = OType::new(9);
-    let past = Given::Open(0, 16, 16, ALL);
-    let outside = Why::TypeOutside {
-        otype: 16,
-        base: 0,
-        top: 16,
-        authority: A,
-    };
     let rows = [
-        (seal, K, Given::Int(5), Why::Untagged { name: A }),
+        (Given::Int(5), Why::Untagged { name: A }),
         (
-            seal,
-            K,
-            sealed_key,
+            SEALED_KEY,
             Why::Sealed {
                 name: A,
-                otype: type_nine,
+                otype: OType::new(9),
             },
         ),
         (
-            seal,
-            K,
-            Given::Open(0, 16, 5, 0),
+            NO_KEY,
             Why::Lacks {
                 name: A,
                 permission: SEAL,
             },
         ),
-        (seal, K, past, outside),
+        (PAST, OUTSIDE),
         (
-            seal,
-            K,
             Given::Open(0, 1 << 64, 0x3_fffc, ALL),
             Why::TypeAbove { otype: 0x3_fffc },
         ),
-        (unseal, K, KEY, Why::NotSealed { name: S }),
+    ];
+    for (second, why) in rows {
+        let clears = cleared_by(&rt, rt.alloc(), Instr::CSeal { cd, c1, c2 }, K, second)?;
+        assert_eq!(rt;
+            clears,
+            Some(Cleared {
+                name: Spot::Register(7),
+                why
+            })
+        );
+    }
+    Ok(())
+}
+
+#[test]
+fn unseals(rt: HostRuntime) -> Result<(), Fail> {
+    let (cd, c1, c2) = operands();
+    let rows = [
+        (K, KEY, Why::NotSealed { name: S }),
         (
-            unseal,
             Given::Sentry(0x8000_0000, 64, 0x8000_0010, ALL),
             KEY,
             Why::Sentry { name: S },
         ),
-        (unseal, sealed, Given::Int(5), Why::Untagged { name: A }),
+        (SEALED, Given::Int(5), Why::Untagged { name: A }),
         (
-            unseal,
-            sealed,
-            sealed_key,
+            SEALED,
+            SEALED_KEY,
             Why::Sealed {
                 name: A,
-                otype: type_nine,
+                otype: OType::new(9),
             },
         ),
         (
-            unseal,
-            sealed,
-            Given::Open(0, 16, 5, 0),
+            SEALED,
+            NO_KEY,
             Why::Lacks {
                 name: A,
                 permission: UNSEAL,
             },
         ),
-        (unseal, sealed, past, outside),
+        (SEALED, PAST, OUTSIDE),
         (
-            unseal,
-            sealed,
+            SEALED,
             Given::Open(0, 16, 6, ALL),
             Why::TypeDiffers {
                 otype: 6,
@@ -182,10 +204,16 @@ fn seals(rt: HostRuntime) -> Result<(), Fail> {
             },
         ),
     ];
-    for (instr, first, second, why) in rows {
-        let facts = facts_of(&rt, rt.alloc(), instr, first, second)?;
+    for (first, second, why) in rows {
+        let clears = cleared_by(
+            &rt,
+            rt.alloc(),
+            Instr::CUnseal { cd, c1, c2 },
+            first,
+            second,
+        )?;
         assert_eq!(rt;
-            facts.clears,
+            clears,
             Some(Cleared {
                 name: Spot::Register(7),
                 why
@@ -198,12 +226,10 @@ fn seals(rt: HostRuntime) -> Result<(), Fail> {
 #[test]
 fn rebuilt(rt: HostRuntime) -> Result<(), Fail> {
     let (cd, c1, c2) = operands();
-    let build = Instr::CBuildCap { cd, c1, c2 };
-    let root = Given::Open(0, 1 << 64, 0, ALL);
     let rows = [
         (Given::Int(5), K, Why::Untagged { name: S }),
         (
-            Given::Sealed(0x8000_0000, 64, 0x8000_0010, ALL, 5),
+            SEALED,
             K,
             Why::Sealed {
                 name: S,
@@ -233,7 +259,7 @@ fn rebuilt(rt: HostRuntime) -> Result<(), Fail> {
             },
         ),
         (
-            root,
+            ROOT,
             Given::Word(0xf06f_217a_693e_6d5d, 0x9ea4_f0bb_ba5b_99cd),
             Why::BaseAboveTop {
                 base: 0xd580_0000_0000_0000,
@@ -250,7 +276,7 @@ fn rebuilt(rt: HostRuntime) -> Result<(), Fail> {
             },
         ),
         (
-            root,
+            ROOT,
             // Exponent 52, B 0x1800, T 0x800: the base and the top are both 2^63.
             Given::Word(0x0200_1800, 0),
             Why::OutsideRegion {
@@ -261,9 +287,15 @@ fn rebuilt(rt: HostRuntime) -> Result<(), Fail> {
         ),
     ];
     for (first, second, why) in rows {
-        let facts = facts_of(&rt, rt.alloc(), build, first, second)?;
+        let clears = cleared_by(
+            &rt,
+            rt.alloc(),
+            Instr::CBuildCap { cd, c1, c2 },
+            first,
+            second,
+        )?;
         assert_eq!(rt;
-            facts.clears,
+            clears,
             Some(Cleared {
                 name: Spot::Register(7),
                 why
@@ -273,29 +305,37 @@ fn rebuilt(rt: HostRuntime) -> Result<(), Fail> {
     Ok(())
 }
 
+/// The bytes at the start of RAM, with these permissions.
+fn through(perms: u32) -> Given {
+    Given::Open(0x8000_0000, 64, 0x8000_0000, perms)
+}
+
 #[test]
 fn memory(rt: HostRuntime) -> Result<(), Fail> {
     let (cd, c1, c2) = operands();
-    let loads = Given::Open(0x8000_0000, 64, 0x8000_0000, 0x4);
-    let swaps = Given::Open(0x8000_0000, 64, 0x8000_0000, 0xc);
-    let lacks = Why::Lacks {
-        name: S,
-        permission: LOAD_CAP,
-    };
-    let result = Spot::Register(7);
     let rows = [
-        (Instr::Lc { cd, c1, imm: 0 }, loads, result, lacks),
-        (Instr::AmoSwapC { cd, c2, c1 }, swaps, result, lacks),
+        (
+            Instr::Lc { cd, c1, imm: 0 },
+            through(0x4),
+            Spot::Register(7),
+            LACKS,
+        ),
+        (
+            Instr::AmoSwapC { cd, c2, c1 },
+            through(0xc),
+            Spot::Register(7),
+            LACKS,
+        ),
         (
             Instr::Sb { c2, c1, imm: 15 },
-            swaps,
+            through(0xc),
             Spot::Granule(0),
             Why::DataStored,
         ),
     ];
     for (instr, first, name, why) in rows {
-        let facts = facts_of(&rt, rt.alloc(), instr, first, Given::Int(7))?;
-        assert_eq!(rt; facts.clears, Some(Cleared { name, why }));
+        let clears = cleared_by(&rt, rt.alloc(), instr, first, Given::Int(7))?;
+        assert_eq!(rt; clears, Some(Cleared { name, why }));
     }
     Ok(())
 }

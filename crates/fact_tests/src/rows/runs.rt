@@ -1,11 +1,18 @@
 //! What is read, found, left and set, and where it is from.
 
 use super::{ALL, Given, K, facts_of, image_of, made, operands, value};
-use cheri_model::{Instr, Trap};
-use facts::{Extent, NamedValue, TrapWhy, Trapped, UpToTwo};
+use cheri_model::{Instr, Op, Trap};
+use cores::StepFault;
+use facts::{Extent, NamedValue, StepFacts, TrapWhy, Trapped, UpToTwo};
 use following::Follower;
 use origins::{Place, Spot};
 use std::test::Fail;
+
+/// The trap of the next step.
+fn next_trap(follower: &mut Follower) -> Result<Option<Trapped>, Fail> {
+    let facts = follower.step(0)?;
+    Ok(facts.traps)
+}
 
 #[test]
 fn swaps_exchange_origins(rt: HostRuntime) -> Result<(), Fail> {
@@ -13,7 +20,14 @@ fn swaps_exchange_origins(rt: HostRuntime) -> Result<(), Fail> {
     let swap = Instr::AmoSwapC { cd, c2, c1 };
     let through = Given::Open(0x8000_0000, 64, 0x8000_0000, ALL);
     let stored = Given::Open(0x8000_0020, 16, 0x8000_0020, ALL);
-    let facts = facts_of(&rt, rt.alloc(), swap, through, stored)?;
+    let StepFacts {
+        reads,
+        at,
+        finds,
+        leaves,
+        sets,
+        ..
+    } = facts_of(&rt, rt.alloc(), swap, through, stored)?;
     let register = |number| Some(Place::RegisterOf { hart: 0, number });
     let read = NamedValue {
         name: Spot::Register(5),
@@ -27,9 +41,9 @@ fn swaps_exchange_origins(rt: HostRuntime) -> Result<(), Fail> {
         value: stored_cap,
         origin: register(6),
     };
-    assert_eq!(rt; facts.reads, UpToTwo::Two(first, read));
+    assert_eq!(rt; reads, UpToTwo::Two(first, read));
     assert_eq!(rt;
-        facts.at,
+        at,
         Some(Extent {
             address: 0x8000_0000,
             bytes: 16
@@ -37,7 +51,7 @@ fn swaps_exchange_origins(rt: HostRuntime) -> Result<(), Fail> {
     );
     let granule = Some(Place::GranuleOf(0));
     assert_eq!(rt;
-        facts.finds,
+        finds,
         Some(NamedValue {
             name: Spot::Granule(0),
             value: found,
@@ -45,7 +59,7 @@ fn swaps_exchange_origins(rt: HostRuntime) -> Result<(), Fail> {
         })
     );
     assert_eq!(rt;
-        facts.leaves,
+        leaves,
         Some(NamedValue {
             name: Spot::Granule(0),
             value: stored_cap,
@@ -53,14 +67,13 @@ fn swaps_exchange_origins(rt: HostRuntime) -> Result<(), Fail> {
         })
     );
     assert_eq!(rt;
-        facts.sets,
+        sets,
         UpToTwo::One(NamedValue {
             name: Spot::Register(7),
             value: found,
             origin: granule,
         })
     );
-    assert_eq!(rt; facts.clears, None);
     Ok(())
 }
 
@@ -76,23 +89,24 @@ fn a_program_runs_past_its_end(rt: HostRuntime) -> Result<(), Fail> {
         value(&rt, K),
     )?;
     let mut follower = Follower::boot(rt.alloc(), image, 9)?;
-    let done = follower.step(0)?;
-    assert_eq!(rt; done.traps, None);
-    let past = follower.step(0)?;
+    assert_eq!(rt; next_trap(&mut follower)?, None);
+    let StepFacts {
+        fetched,
+        reads,
+        traps,
+        ..
+    } = follower.step(0)?;
     let address = 0x1000_0004;
-    assert_eq!(rt;
-        past.traps,
-        Some(Trapped {
-            trap: Trap {
-                cause: Trap::FETCH,
-                reg: Trap::PCC
-            },
-            why: TrapWhy::NoInstruction { address },
-        })
-    );
-    assert_eq!(rt; past.fetched, None);
-    assert_eq!(rt; past.reads, UpToTwo::Zero);
-    assert!(rt; follower.step(0).is_err());
+    let trap = Trap {
+        cause: Trap::FETCH,
+        reg: Trap::PCC,
+    };
+    let why = TrapWhy::NoInstruction { address };
+    assert_eq!(rt; traps, Some(Trapped { trap, why }));
+    assert_eq!(rt; fetched, None);
+    assert_eq!(rt; reads, UpToTwo::Zero);
+    let refusal = follower.refusal(Op::Step(0));
+    assert_eq!(rt; refusal, Some(StepFault::HartStopped));
     Ok(())
 }
 
@@ -109,7 +123,7 @@ fn sweeps_name_places_in_order(rt: HostRuntime) -> Result<(), Fail> {
         value(&rt, K),
     )?;
     let mut follower = Follower::boot(rt.alloc(), image, 9)?;
-    follower.step(0)?;
+    next_trap(&mut follower)?;
     let swept = follower.sweep(rt.alloc(), 0x8000_0000, 0x8000_0010)?;
     let register = |number| Place::RegisterOf { hart: 0, number };
     assert!(rt; swept.as_slice() == [register(5), register(7), Place::GranuleOf(0)].as_slice());
