@@ -3,7 +3,7 @@
 
 use bitflags::Flags;
 use cap_ops::Cap;
-use cheri_model::{HartImage, Image, Instr, Perms, Reg, Value};
+use cheri_model::{CODE_BASE, HartImage, Image, Instr, Perms, Reg, Value};
 use facts::{Cleared, StepFacts, Trapped};
 use following::Follower;
 use std::alloc::Global;
@@ -52,16 +52,17 @@ fn made(rt: &impl Abort, base: u64, len: u128, addr: u64, bits: u32) -> Cap {
     Cap::make(base, len, addr, Perms::from_bits_retain(bits)).expect(rt, "it can be made")
 }
 
-/// The image of a program of one instruction, with 64 bytes of RAM, in whose first granule is this
-/// value.
+/// The image of a program of one instruction, with PCC at this address and 64 bytes of RAM, in
+/// whose first granule is this value.
 fn image_of(
     alloc: Global,
+    pc: u64,
     instr: Instr,
     first: Cap,
     second: Cap,
     granule: Cap,
 ) -> Result<Image, Fail> {
-    let pcc = Cap::root(Perms::EXECUTE).set_addr(0x1000_0000);
+    let pcc = Cap::root(Perms::EXECUTE).set_addr(pc);
     let mut regs = [Value::raw(0); 31];
     regs[4] = first.value();
     regs[5] = second.value();
@@ -80,6 +81,28 @@ fn image_of(
 }
 
 /// The facts of one step of such a program.
+fn facts_at(
+    rt: &impl Abort,
+    alloc: Global,
+    pc: u64,
+    instr: Instr,
+    first: Given,
+    second: Given,
+) -> Result<StepFacts, Fail> {
+    let granule = value(rt, K);
+    let image = image_of(
+        alloc,
+        pc,
+        instr,
+        value(rt, first),
+        value(rt, second),
+        granule,
+    )?;
+    let mut follower = Follower::boot(alloc, image, 1)?;
+    Ok(follower.step(0)?)
+}
+
+/// The same from the program's start.
 fn facts_of(
     rt: &impl Abort,
     alloc: Global,
@@ -87,10 +110,7 @@ fn facts_of(
     first: Given,
     second: Given,
 ) -> Result<StepFacts, Fail> {
-    let granule = value(rt, K);
-    let image = image_of(alloc, instr, value(rt, first), value(rt, second), granule)?;
-    let mut follower = Follower::boot(alloc, image, 1)?;
-    Ok(follower.step(0)?)
+    facts_at(rt, alloc, CODE_BASE, instr, first, second)
 }
 
 /// What such a step clears.
