@@ -12,7 +12,8 @@ use Rattle.cap_model.specs.values.CapValue.{CapValue, bits_of, tag_of, parts_of}
 use Rattle.cheri_model.specs.runs.Image.{ImageParts}
 use Rattle.cheri_model.specs.runs.ImageForm.{is_listed}
 use Rattle.cheri_model.specs.instructions.Form.{form_of}
-use Rattle.texts.specs.Instructions.{◌+++◌, form_text}
+use Rattle.notation.specs.Instructions.{◌+++◌, form_text}
+use Rattle.notation.specs.Permissions.{joined_text}
 
 -- the texts of items, one after another
 unfoldable pub each : {X : Type 0} → (X → List ℕ) → List X → List ℕ
@@ -22,14 +23,6 @@ each text (item ∷ items) = text item +++ each text items
 -- a number in hexadecimal without leading zeros
 abbrev pub hex_number : ℕ → List ℕ
 hex_number n = codes "0x" +++ digits 16 false n
-
--- the names of a table whose bits are all in a set, with `+` before each but the first
-unfoldable pub joined_text : Bool → ℕ → List (List ℕ × ℕ) → List ℕ
-joined_text begun perms [] = []
-joined_text begun perms (row ∷ rows) =
-    if bit_and perms row.1 == row.1 then
-    (if begun then codes "+" else []) +++ row.0 +++ joined_text true perms rows
-    else joined_text begun perms rows
 
 -- `all`, `none`, or the names in bit order
 unfoldable pub perms_text : ℕ → List ℕ

@@ -1,3 +1,2 @@
-pub mod Instructions
 pub mod Canon
 pub mod Listable

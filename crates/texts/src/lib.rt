@@ -1,7 +1,6 @@
 //! Listings written back: the canonical listing of an image, and that it means the image again.
 #![tactic(auto)]
 
-mod instructions;
 pub mod laws;
 mod writer;
 

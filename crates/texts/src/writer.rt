@@ -19,12 +19,10 @@ ghost use Rattle.std.specs.Prelude.{
   false,
 };
 ghost use Rattle.hex.specs.Hex.{encode_lower};
-ghost use Rattle.cap_model.specs.words.PermissionNames.{permission_table};
 ghost use Rattle.cap_model.specs.values.CapValue.{parts_of};
 ghost use Rattle.cheri_model.specs.runs.ImageForm.{is_listed};
 ghost use Rattle.texts.specs.Listable.{ReadsBack};
 ghost use Rattle.texts.specs.Canon.{
-  joined_text,
   perms_text,
   type_text,
   cap_text,
@@ -38,51 +36,13 @@ ghost use Rattle.texts.specs.Canon.{
   canon,
 };
 
-use crate::instructions::InstructionText;
-use bitflags::{Flag, Flags};
+use bitflags::Flags;
 use cap_ops::Cap;
 use cheri_model::{
     HartImage, Image, Instr, NoMemory, OType, Perms, SENTRY_TYPE, UNSEALED_TYPE, Value,
 };
+use notation::{InstructionText, write_permission_names};
 use std::alloc::Global;
-
-/// What is written before a name, after others or as the first.
-fn separator(begun: bool) -> &'static str
-    ensures { result.now ≡ (if begun then codes "+" else []) }
-{
-    if begun { "+" } else { "" }
-}
-
-/// Appends a permission's name, if the set has it, and gives whether a name was written so far.
-fn write_name(
-    out: &mut String,
-    begun: bool,
-    perms: Perms,
-    flag: &Flag<Perms>,
-) -> Result<bool, NoMemory>
-    ensures { IfOk result (λ after. (rest : List (List ℕ × ℕ)) →
-        string_bytes out.new ++ joined_text after perms.0 rest
-        ≡ string_bytes out.old
-        ++ joined_text begun perms.0 ((flag.now.name.now, flag.now.value.0) ∷ rest)) }
-{
-    if !perms.contains(flag.value) {
-        return Ok(begun);
-    }
-    write!(out, "{}{}", separator(begun), flag.name)?;
-    Ok(true)
-}
-
-/// Appends the names of permissions, in bit order.
-fn write_names(out: &mut String, perms: Perms) -> Result<(), NoMemory>
-    ensures { OnOk result (string_bytes out.new
-        ≡ string_bytes out.old ++ joined_text false perms.0 permission_table) }
-{
-    let mut begun = false;
-    for flag in Perms::flags() {
-        begun = write_name(out, begun, perms, flag)?;
-    }
-    Ok(())
-}
 
 /// Appends a permission set.
 fn write_perms(out: &mut String, perms: Perms) -> Result<(), NoMemory>
@@ -93,7 +53,7 @@ fn write_perms(out: &mut String, perms: Perms) -> Result<(), NoMemory>
     } else if perms.bits() == 0 {
         out.push_str("none")
     } else {
-        write_names(out, perms)
+        write_permission_names(out, perms)
     }
 }
 

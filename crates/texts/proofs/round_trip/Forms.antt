@@ -21,7 +21,7 @@ use Rattle.grammar.specs.Tokens.{token_at}
 use Rattle.grammar.specs.Labels.{PlaceParts}
 use Rattle.grammar.specs.Forms.{counted, three_form, two_form, immediate_form, shift_form, word_shift_form, set_bounds_form, upper_form, load_form, store_form, swap_form, branch_form, jump_form, invoke_form, alone_form, form_from}
 use Rattle.cheri_model.specs.instructions.Names.{name_of}
-use Rattle.texts.specs.Instructions.{form_text}
+use Rattle.notation.specs.Instructions.{form_text}
 use Rattle.texts.proofs.round_trip.Lines.{IsLine, last_word, then_space, then_comma}
 use Rattle.texts.proofs.round_trip.Numbers.{decimal_word}
 use Rattle.texts.proofs.round_trip.Operands.{reg_text, register_reads, register_word, signed_reads, signed_in_range, signed_word, plain_reads, up_to_reads, memory_text, memory_reads, memory_word, target_text, target_reads, target_in_range, target_word}

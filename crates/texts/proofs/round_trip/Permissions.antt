@@ -15,7 +15,8 @@ use Rattle.cap_model.specs.values.Capability.{IsPermissionSet}
 use Rattle.cap_model.proofs.Results.PermissionSets.{set_drops_nothing}
 use Rattle.grammar.specs.Tokens.{is_blank, is_filled}
 use Rattle.grammar.specs.Permissions.{permission_named, set_of, with_named, joined_names, permissions_of}
-use Rattle.texts.specs.Canon.{joined_text, perms_text}
+use Rattle.notation.specs.Permissions.{joined_text}
+use Rattle.texts.specs.Canon.{perms_text}
 use Rattle.grammar.proofs.PermissionTexts.{first, second}
 use Rattle.texts.proofs.round_trip.Words.{is_open, is_word_byte, IsWord, negated, all_joined, filled_cons}
 use Rattle.texts.proofs.round_trip.Lines.{all_fail}

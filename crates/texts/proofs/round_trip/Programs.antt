@@ -19,7 +19,7 @@ use Rattle.grammar.specs.Tokens.{is_blank, token_at}
 use Rattle.cheri_model.specs.instructions.Names.{is_instruction}
 use Rattle.grammar.specs.Labels.{count_of}
 use Rattle.listings.specs.Draft.{DraftParts, no_registers, hart_from}
-use Rattle.texts.specs.Instructions.{form_text}
+use Rattle.notation.specs.Instructions.{form_text}
 use Rattle.texts.specs.Canon.{each, cap_text, register_lines, hart_lines, program_line}
 use Rattle.texts.specs.Listable.{IsWritable, IsWritablePcc, IsWritableHart, IsReadable}
 use Rattle.texts.proofs.round_trip.Words.{is_open, is_word_byte, IsWord}

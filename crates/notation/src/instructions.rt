@@ -1,7 +1,7 @@
 //! The canonical text of an instruction.
 
 ghost use Rattle.std.specs.Prelude.{◌≡◌, Some};
-ghost use Rattle.texts.specs.Instructions.{form_text};
+ghost use Rattle.notation.specs.Instructions.{form_text};
 
 use cheri_model::form::Form;
 use cheri_model::names::{Mnemonic, name_of};

@@ -1,8 +1,8 @@
 -- The names so far, followed by those of the other permissions, are those of all.
 use Rattle.std.proofs.Common.{◌≡◌, ◌++◌, false, map, drop, string_bytes}
 use Rattle.cap_model.specs.words.PermissionNames.{permission_table}
-use Rattle.texts.specs.Canon.{joined_text}
-use Rattle.texts.proofs.writer.write_names.Given as goal
+use Rattle.notation.specs.Permissions.{joined_text}
+use Rattle.notation.proofs.permissions.write_permission_names.Given as goal
 
 abbrev pub invariant-loop-flag : goal.invariant-loop-flag
 invariant-loop-flag l =

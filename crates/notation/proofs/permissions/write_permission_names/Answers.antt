@@ -1,6 +1,6 @@
 use Rattle.cap_model.specs.words.PermissionNames.{permission_table}
-use Rattle.texts.proofs.WriterLemmas.{name_step, name_end}
-use Rattle.texts.proofs.writer.write_names.Goals as goal
+use Rattle.notation.proofs.NameLemmas.{name_step, name_end}
+use Rattle.notation.proofs.permissions.write_permission_names.Goals as goal
 
 pub loop-flag-preserved : goal.loop-flag-preserved
 loop-flag-preserved c =

@@ -1,6 +1,6 @@
 use Rattle.std.proofs.Common.{◌∙◌, sym, string_bytes}
-use Rattle.texts.proofs.WriterLemmas.{name_skipped, name_written}
-use Rattle.texts.proofs.writer.write_name.Goals as goal
+use Rattle.notation.proofs.NameLemmas.{name_skipped, name_written}
+use Rattle.notation.proofs.permissions.write_name.Goals as goal
 
 pub returns-then-not-contains : goal.returns-then-not-contains
 returns-then-not-contains c = λ rest.
