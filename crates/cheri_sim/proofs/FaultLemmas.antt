@@ -10,7 +10,7 @@ use Rattle.orders.specs.declared.fault.OrderFault.{OrderFault}
 use Rattle.orders.specs.declared.fault.OrderFaultKind.{OrderFaultKind}
 use Rattle.orders.specs.declared.fault.OrderFaultKind.TheVariants as order_kinds
 use Rattle.sinks.specs.Sinks.{TakesBeginning}
-use Rattle.machine.specs.Runs.{Stop}
+use Rattle.cores.specs.Runs.{Stop}
 use Rattle.cheri_sim.specs.declared.faults.Fault.{Fault}
 use Rattle.cheri_sim.specs.declared.faults.Fault.TheVariants as faults
 use Rattle.cheri_sim.specs.Endings.{Answer, Fails, HasWhole}

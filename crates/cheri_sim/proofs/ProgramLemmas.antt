@@ -9,8 +9,8 @@ use Rattle.cheri_model.specs.runs.Image.{ImageParts}
 use Rattle.cap_model.specs.declared.encoding.TheConstants.{ADDRESS_SPACE}
 use Rattle.report_lines.specs.Texts.{line}
 use Rattle.sinks.specs.Sinks.{TakesBeginning}
-use Rattle.machine.specs.Runs.{Stop}
-use Rattle.machine.specs.declared.faults.StepFault.{StepFault}
+use Rattle.cores.specs.Runs.{Stop}
+use Rattle.cores.specs.declared.faults.StepFault.{StepFault}
 use Rattle.command_line.specs.Requests.{Asked, Check, Run, Race, Bounds, Decode}
 use Rattle.command_line.specs.declared.requests.ReportForm.{ReportForm}
 use Rattle.command_line.specs.declared.faults.CommandFault.{CommandFault}

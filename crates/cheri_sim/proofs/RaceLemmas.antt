@@ -10,7 +10,7 @@ use Rattle.cheri_model.specs.runs.Replay.{IsReplay}
 use Rattle.report_lines.specs.Texts.{line}
 use Rattle.reports.specs.Report.{report}
 use Rattle.sinks.specs.Sinks.{TakesBeginning}
-use Rattle.machine.specs.Cores.{CoreParts}
+use Rattle.cores.specs.Cores.{CoreParts}
 use Rattle.harts.specs.declared.faults.RunFault.{RunFault}
 use Rattle.harts.specs.declared.faults.RunFault.TheVariants as race
 use Rattle.harts.specs.declared.workers.HartReport.{HartReport}

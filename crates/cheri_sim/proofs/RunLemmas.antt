@@ -10,12 +10,12 @@ use Rattle.sinks.specs.declared.fault.WriteFault.{WriteFault}
 use Rattle.sinks.specs.declared.fault.WriteFault.TheVariants as written
 use Rattle.listings.specs.declared.fault.ListingFault.{ListingFault}
 use Rattle.listings.specs.Faults.{no_memory}
-use Rattle.machine.specs.declared.simulation.SimFault.{SimFault}
-use Rattle.machine.specs.declared.simulation.SimFault.TheVariants as sim
+use Rattle.simulation.specs.declared.faults.SimFault.{SimFault}
+use Rattle.simulation.specs.declared.faults.SimFault.TheVariants as sim
 use Rattle.cheri_model.specs.runs.Authority.{IsConfined}
-use Rattle.machine.specs.Cores.{IsCore}
-use Rattle.machine.specs.Runs.{IsConfinedRun, Run, Stop}
-use Rattle.machine.specs.Simulation.{IsRefusedRun, IsRunAnd, is_reported, report_of}
+use Rattle.cores.specs.Cores.{IsCore}
+use Rattle.cores.specs.Runs.{IsConfinedRun, Run, Stop}
+use Rattle.simulation.specs.Simulation.{IsRefusedRun, IsRunAnd, is_reported, report_of}
 use Rattle.command_line.specs.declared.requests.ReportForm.{ReportForm}
 use Rattle.command_line.specs.declared.requests.ReportForm.TheVariants as forms
 use Rattle.cheri_sim.specs.declared.faults.Fault.{Fault}

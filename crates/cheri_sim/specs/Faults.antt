@@ -14,9 +14,9 @@ use Rattle.grammar.specs.Faults.{listing_fault_text}
 use Rattle.orders.specs.Orders.{order_fault_text}
 use Rattle.sinks.specs.declared.fault.WriteFault.{WriteFault}
 use Rattle.sinks.specs.declared.fault.WriteFault.TheVariants as written
-use Rattle.machine.specs.Faults.{step_fault_text}
-use Rattle.machine.specs.declared.simulation.SimFault.{SimFault}
-use Rattle.machine.specs.declared.simulation.SimFault.TheVariants as sim
+use Rattle.cores.specs.Faults.{step_fault_text}
+use Rattle.simulation.specs.declared.faults.SimFault.{SimFault}
+use Rattle.simulation.specs.declared.faults.SimFault.TheVariants as sim
 use Rattle.harts.specs.declared.faults.RunFault.{RunFault}
 use Rattle.harts.specs.declared.faults.RunFault.TheVariants as race
 

@@ -7,7 +7,7 @@ use Rattle.listings.specs.Meaning.{listing_meaning}
 use Rattle.report_lines.specs.Texts.{line}
 use Rattle.reports.specs.Report.{report}
 use Rattle.sinks.specs.Sinks.{TakesBeginning}
-use Rattle.machine.specs.Cores.{CoreParts}
+use Rattle.cores.specs.Cores.{CoreParts}
 use Rattle.harts.specs.declared.workers.HartReport.{HartReport}
 use Rattle.harts.specs.Reports.{AreReports}
 use Rattle.cheri_sim.specs.declared.faults.Fault.TheVariants.{CannotStart, ImageDiffers, Listing}

@@ -3,10 +3,10 @@ use Rattle.std.specs.Prelude.{◌≡◌, ℕ, List, Result, Ok, Err, IfOk}
 use Rattle.serde_json.specs.Written.{compact_text}
 use Rattle.reports.specs.Json.{json_report}
 use Rattle.report_lines.specs.Texts.{line}
-use Rattle.machine.specs.declared.cores.TheConstants.{GREATEST_TRACE_LIMIT}
-use Rattle.machine.specs.declared.simulation.SimFault.{SimFault}
-use Rattle.machine.specs.Runs.{IsConfinedRun, Run}
-use Rattle.machine.specs.Simulation.{report_of, run_of_texts}
+use Rattle.cores.specs.declared.cores.TheConstants.{GREATEST_TRACE_LIMIT}
+use Rattle.simulation.specs.declared.faults.SimFault.{SimFault}
+use Rattle.cores.specs.Runs.{IsConfinedRun, Run}
+use Rattle.simulation.specs.Simulation.{report_of, run_of_texts}
 use Rattle.command_line.specs.declared.requests.ReportForm.{ReportForm}
 use Rattle.command_line.specs.declared.requests.ReportForm.TheVariants as forms
 use Rattle.cheri_sim.specs.Endings.{Answer}

@@ -3,7 +3,7 @@
 ghost use Rattle.std.specs.Prelude.{◌≡◌, ◌≤◌, ◌↔◌, length, OnOk, OnErr, IfOk, IfErr, IfSome, Err, None};
 ghost use Rattle.std.specs.Prelude.{false, true};
 ghost use Rattle.cheri_model.specs.runs.Replay.{IsReplay};
-ghost use Rattle.machine.specs.Cores.{is_limit};
+ghost use Rattle.cores.specs.Cores.{is_limit};
 ghost use Rattle.harts.specs.Reports.{AreReports};
 ghost use Rattle.report_lines.specs.Texts.{line};
 ghost use Rattle.sinks.specs.Sinks.{TakesBeginning};

@@ -7,7 +7,7 @@ ghost use Rattle.serde_json.specs.Written.{compact_text};
 ghost use Rattle.reports.specs.Json.{json_report};
 ghost use Rattle.report_lines.specs.Texts.{line};
 ghost use Rattle.sinks.specs.Sinks.{TakesBeginning};
-ghost use Rattle.machine.specs.Simulation.{IsRefusedRun, IsRunAnd, is_reported, report_of};
+ghost use Rattle.simulation.specs.Simulation.{IsRefusedRun, IsRunAnd, is_reported, report_of};
 ghost use Rattle.cheri_sim.specs.Endings.{Fails, HasPrefix, HasWhole};
 ghost use Rattle.cheri_sim.specs.Runs.{IsRunAnswer, longest_run};
 

@@ -8,9 +8,9 @@ use Rattle.cheri_model.specs.declared.operation.Event.TheVariants as event
 use Rattle.cheri_model.specs.runs.Replay.{operation_of}
 use Rattle.cheri_model.specs.runs.Sweeps.{is_range}
 use Rattle.cheri_model.specs.runs.Machine.{event_of}
-use Rattle.machine.specs.declared.faults.StepFault.{StepFault}
-use Rattle.machine.specs.declared.faults.StepFault.TheVariants.{NoSuchHart, TraceFull, HartStopped, NoMemory, BadRange}
-use Rattle.machine.specs.Cores.{CoreParts, answered, refused, unless_refused}
+use Rattle.cores.specs.declared.faults.StepFault.{StepFault}
+use Rattle.cores.specs.declared.faults.StepFault.TheVariants.{NoSuchHart, TraceFull, HartStopped, NoMemory, BadRange}
+use Rattle.cores.specs.Cores.{CoreParts, answered, refused, unless_refused}
 
 abbrev Answer : Type 0
 Answer = Result Event StepFault

@@ -2,8 +2,11 @@
 
 ghost use Rattle.std.specs.Prelude.{◌≡◌};
 
-use machine::{BootFault, OpenFault};
+use cores::BootFault;
+use machine::OpenFault;
 use std::alloc::AllocError;
+use std::error::Error;
+use std::fmt;
 
 /// Why a race has no result, tried in this order.
 #[derive(Clone, Copy, Debug, PartialEq, Eq)]
@@ -33,6 +36,24 @@ impl RunFault {
         }
     }
 }
+
+impl fmt::Display for RunFault {
+    ghost use Rattle.std.specs.Prelude.{Some};
+    ghost use Rattle.harts.specs.Faults.{run_fault_text};
+
+    ghost output = { λ fault. Some (run_fault_text fault) };
+
+    fn fmt<W: fmt::Write>(&self, f: &mut fmt::Formatter<W>) -> fmt::Result {
+        match *self {
+            RunFault::Boot(fault) => write!(f, "{fault}"),
+            RunFault::Spawn => f.write_str("cannot start a worker"),
+            RunFault::NoMemory => f.write_str("memory"),
+            RunFault::ImageDiffers => f.write_str("image differs"),
+        }
+    }
+}
+
+impl Error for RunFault {}
 
 impl From<BootFault> for RunFault {
     ghost use Rattle.harts.specs.declared.faults.RunFault.TheVariants.{Boot};

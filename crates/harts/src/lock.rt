@@ -4,7 +4,7 @@ ghost use Rattle.std.specs.Prelude.{◌≡◌, ◌≢◌, ◌↔◌, IfOk, Err, 
 ghost use Rattle.std.specs.Sync.Mutex.{mutex_guard_value};
 ghost use Rattle.cheri_model.specs.runs.Replay.{operation_of};
 ghost use Rattle.cheri_model.specs.runs.Sweeps.{is_range};
-ghost use Rattle.machine.specs.Cores.{IsCore};
+ghost use Rattle.cores.specs.Cores.{IsCore};
 
 use cheri_model::{Event, Op};
 use machine::{Machine, Naming, StepFault, Watch, WatchFault};
@@ -33,7 +33,7 @@ impl<J: Naming> Model for Shared<J> {
 impl<J: Naming> Shared<J> {
     /// Puts a machine under a lock.
     pub fn new(machine: Machine<J>) -> Shared<J>
-        ensures { result ≡ machine.image }
+        ensures { result ≡ machine.core.image }
     {
         Shared {
             machine: Mutex::new(machine),
@@ -44,8 +44,8 @@ impl<J: Naming> Shared<J> {
     /// than it takes to send a thread to sleep and to wake it, so a thread asks a number of times
     /// before it sleeps.
     pub fn lock<'a, R: Wait>(&'a self, rt: &R) -> MutexGuard<'a, Machine<J>>
-        ensures image { (mutex_guard_value result).image ≡ self.now }
-        ensures core { IsCore (mutex_guard_value result) }
+        ensures image { (mutex_guard_value result).core.image ≡ self.now }
+        ensures core { IsCore (mutex_guard_value result).core }
     {
         let guard = match self.try_often() {
             Some(guard) => guard,
@@ -88,8 +88,8 @@ impl<J: Naming> Shared<J> {
 
     /// The machine, once no thread shares it.
     pub fn into_machine(self) -> Machine<J>
-        ensures image { result.image ≡ self }
-        ensures core { IsCore result }
+        ensures image { result.core.image ≡ self }
+        ensures core { IsCore result.core }
     {
         let machine = self.machine.into_inner();
         // As above: that this is a core.

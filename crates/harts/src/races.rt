@@ -3,7 +3,7 @@
 ghost use Rattle.std.specs.Prelude.{◌≡◌, ◌≢◌, ◌↔◌, [], length, map, All, false, IfOk, Ok, Err};
 ghost use Rattle.std.specs.Prelude.{MatchResult, vec_len};
 ghost use Rattle.cheri_model.specs.runs.Replay.{IsReplay};
-ghost use Rattle.machine.specs.Cores.{is_limit};
+ghost use Rattle.cores.specs.Cores.{is_limit};
 ghost use Rattle.harts.specs.Reports.{AreReports, KeepsTurns};
 
 use crate::faults::RunFault;

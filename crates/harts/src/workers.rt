@@ -1,7 +1,7 @@
 //! The loop of one hart: its turns, each one hold of the machine's lock.
 
 ghost use Rattle.std.specs.Prelude.{◌≡◌, ◌≢◌, ◌+◌, ◌≤◌, ◌<◌, ℕ, OnOk, OnErr, Err};
-ghost use Rattle.machine.specs.declared.faults.StepFault.{StepFault};
+ghost use Rattle.cores.specs.declared.faults.StepFault.{StepFault};
 ghost use Rattle.harts.specs.Reports.{IsReason, goes_on};
 
 use crate::gates::{Gate, Turn};
@@ -78,8 +78,8 @@ fn goes_on(outcome: Outcome) -> bool
     }
 }
 
-/// Why a loop ends at a step that is refused after so many steps. A hart that is stopped after steps
-/// of its own was stopped by the last of them: nobody else has its share.
+/// Why a loop ends at a step that is refused after so many steps. A hart that is stopped after
+/// steps of its own was stopped by the last of them: nobody else has its share.
 fn why_refused(steps: u32, fault: StepFault) -> Why
     requires there { fault ≢ StepFault.NoSuchHart }
     requires steps { fault ≢ StepFault.BadRange }

@@ -4,7 +4,7 @@
 ghost use Rattle.std.specs.Prelude.{◌≡◌};
 
 use crate::memory::assert_may_refuse;
-use crate::samples::{entry_at, operation_of, steps_of};
+use crate::samples::{entry_at, operation_of, shows_the_same, steps_of};
 use cheri_model::{Event, Image, Outcome, Reg, Status, Trap};
 use gates::{EndsAt, Meeting, Tally};
 use harts::{Gate, HartReport, RunFault, Shared, Why, hart_loop, run_harts};
@@ -125,14 +125,8 @@ fn assert_replayed(rt: &impl Abort, alloc: Global, core: &Core, listing: &[u8], 
     let ran = run_order(alloc, image, order.as_slice(), limit);
     let (alone, refused) = ran.expect(rt, "it boots");
     assert!(rt; refused.is_none());
-    assert!(rt; alone.view().entries == core.view().entries);
-    assert!(rt; alone.view().harts == core.view().harts);
     assert!(rt; alone.view().ram.bytes() == core.view().ram.bytes());
-    let granules = core.view().granule_count();
-    assert_eq!(rt; alone.view().granule_count(), granules);
-    for number in 0..granules {
-        assert!(rt; alone.view().granule(number) == core.view().granule(number));
-    }
+    assert!(rt; shows_the_same(&alone, core));
 }
 
 /// Checks that the trace has, of each of two harts, a swap and then a halt, and that the first of

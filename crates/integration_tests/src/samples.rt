@@ -2,7 +2,7 @@
 //! asked for until it comes.
 
 use cheri_model::{Entry, Event, Op};
-use machine::{Machine, Naming, Watch, WatchFault};
+use machine::{Core, Machine, Naming, Watch, WatchFault};
 use std::alloc::Global;
 use std::process::Abort;
 use std::thread;
@@ -104,4 +104,23 @@ pub(crate) fn watch_of<J: Naming>(machine: &mut Machine<J>) -> Option<Watch<J>> 
         }
     }
     None
+}
+
+/// Whether two cores show the same image, trace, harts and memory.
+pub(crate) fn shows_the_same(one: &Core, other: &Core) -> bool {
+    let one = one.view();
+    let other = other.view();
+    let granules = one.granule_count();
+    if one.image != other.image || one.entries != other.entries || one.harts != other.harts {
+        return false;
+    }
+    if other.granule_count() != granules {
+        return false;
+    }
+    for number in 0..granules {
+        if one.granule(number) != other.granule(number) {
+            return false;
+        }
+    }
+    true
 }

@@ -14,16 +14,21 @@ use Rattle.cheri_model.specs.runs.Sweeps.{is_range}
 use Rattle.cheri_model.specs.runs.Machine.{MachineState, opening_state, entry_of, event_of, state_after_one, is_running, hart_at}
 use Rattle.cheri_model.specs.runs.Replay.{IsReplay, IsBeginning, events_of, operations_of, replayed_events}
 use Rattle.cheri_model.proofs.Runs.Replays.{events_beginning}
-use Rattle.history.specs.declared.seen.Token.{Token}
-use Rattle.history.specs.Orders.{OrderName, order}
-use Rattle.machine.specs.declared.faults.StepFault.{StepFault}
-use Rattle.machine.specs.declared.faults.StepFault.TheVariants.{NoSuchHart, TraceFull, HartStopped, NoMemory, BadRange}
-use Rattle.machine.specs.Cores.{CoreParts, applied, answered, answered_step, unless_refused, refused, core_after, unless_kept}
+use Rattle.seen_order.specs.declared.seen.Token.{Token}
+use Rattle.seen_order.specs.Orders.{OrderName, order}
+use Rattle.cores.specs.declared.faults.StepFault.{StepFault}
+use Rattle.cores.specs.declared.faults.StepFault.TheVariants.{NoSuchHart, TraceFull, HartStopped, NoMemory, BadRange}
+use Rattle.cores.specs.Cores.{CoreParts, applied, answered, answered_step, unless_refused, refused, core_after, unless_kept}
 use Rattle.machine.specs.Copies.{shown_after, IsShown}
-use Rattle.machine.specs.declared.shown.Shown.{Shown}
-use Rattle.machine.specs.declared.shown.Ticket.{Ticket}
-use Rattle.machine.specs.declared.shown.Ticket.TheVariants.{Take, Tell}
-use Rattle.machine.proofs.CoreLemmas.{operations_after}
+use Rattle.machine.specs.Machines.{MachineParts}
+use Rattle.machine.specs.declared.watching.shown.Shown.{Shown}
+use Rattle.machine.specs.declared.watching.shown.Ticket.{Ticket}
+use Rattle.machine.specs.declared.watching.shown.Ticket.TheVariants.{Take, Tell}
+use Rattle.cores.proofs.CoreLemmas.{operations_after}
+
+-- machines that are one have one core
+pub core_is : {before after : MachineParts} → before ≡ after → before.core ≡ after.core
+core_is same = ap (λ (m : MachineParts). m.core) same
 
 -- a core's trace is that of its order
 pub trace_of_core : (core : CoreParts) (image : ImageParts) → IsReplay core.image core.trace core.state → core.image ≡ image →

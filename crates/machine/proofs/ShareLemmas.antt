@@ -11,7 +11,7 @@ use Rattle.cheri_model.specs.declared.operation.Event.TheVariants as event
 use Rattle.cheri_model.specs.declared.trace.Entry.{Entry}
 use Rattle.cheri_model.specs.runs.Replay.{is_step_of, step_count}
 use Rattle.cheri_model.specs.runs.Machine.{entry_of, event_of}
-use Rattle.machine.specs.Cores.{CoreParts, core_after}
+use Rattle.cores.specs.Cores.{CoreParts, core_after}
 use Rattle.machine.specs.Shares.{ShareParts, share_at, shares_of, IsCounted}
 
 -- while shares are drawn: the harts before this one have theirs, and the others' ledgers are whole and empty

@@ -2,18 +2,19 @@
 use Rattle.std.specs.Prelude.{◌≡◌}
 use Rattle.cheri_model.specs.runs.Image.{ImageParts}
 use Rattle.cheri_model.specs.runs.Replay.{operations_of}
-use Rattle.history.specs.Orders.{OrderName, order}
-use Rattle.machine.specs.Cores.{applied}
-use Rattle.machine.specs.declared.shown.Shown.{Shown}
-use Rattle.machine.specs.declared.shown.Ticket.{Ticket}
-use Rattle.machine.specs.declared.shown.Ticket.TheVariants.{Take, Tell}
+use Rattle.seen_order.specs.Orders.{OrderName, order}
+use Rattle.cores.specs.Cores.{applied}
+use Rattle.machine.specs.declared.watching.shown.Shown.{Shown}
+use Rattle.machine.specs.declared.watching.shown.Ticket.{Ticket}
+use Rattle.machine.specs.declared.watching.shown.Ticket.TheVariants.{Take, Tell}
 
 -- a copy after a ticket: an operation is applied; or it is told what was seen of the order
 unfoldable pub shown_after : Shown → Ticket → Shown
 shown_after shown (Take op) = record { core = applied shown.core op; token = shown.token }
 shown_after shown (Tell token) = record { core = shown.core; token = token }
 
--- What watchers are shown is a core of this image, and the order that was seen is that of its trace.
+-- What watchers are shown is a core of this image, and the order that was seen is that of its
+-- trace.
 pub record IsShown (image : ImageParts) (name : OrderName) (shown : Shown) : Type 0 where
   pub image_is : shown.core.image ≡ image
   pub book_is : shown.token.seen.book ≡ name.book

@@ -1,9 +1,6 @@
 pub mod Faults
-pub mod Cores
-pub mod Runs
 pub mod Shares
 pub mod Names
+pub mod Machines
 pub mod Copies
-pub mod Stages
 pub mod Watches
-pub mod Simulation

@@ -1,6 +1,6 @@
 -- Which order of operations is a machine's.
 use Rattle.std.specs.Prelude.{ℕ, List, slice_index}
-use Rattle.history.specs.Orders.{OrderName}
+use Rattle.seen_order.specs.Orders.{OrderName}
 
 -- A machine's names are those of eight ledgers, and then the four of its order.
 abbrev pub order_named : List ℕ → OrderName

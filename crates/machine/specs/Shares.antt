@@ -22,7 +22,8 @@ share_at trace hart = record { hart = hart; amount = step_count trace hart }
 unfoldable pub shares_of : List Event → ℕ → List ShareParts
 shares_of trace harts = map (share_at trace) (range_with_len 0 harts)
 
--- The books of a machine have counted each hart's steps of the trace. There is room for eight harts.
+-- The books of a machine have counted each hart's steps of the trace. There is room for eight
+-- harts.
 pub record IsCounted (books : List ℕ) (trace : List Event) (harts : ℕ) : Type 0 where
   pub lanes : length books ≡ 8
   pub counts : (hart : ℕ) → hart < harts → slice_index books hart ≡ step_count trace hart

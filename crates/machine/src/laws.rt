@@ -1,23 +1,10 @@
-//! What every run of an order is; and the numbers that code and definitions share, each by its
-//! numeral. Definitions take those from the code, so that a wrong one would be wrong on both sides;
-//! these laws hold them to what the documents say.
+//! The number that code and definitions share, by its numeral. Definitions take it from the code,
+//! so that a wrong one would be wrong on both sides; this law holds it to what the documents say.
 
 ghost use Rattle.std.specs.Prelude.{◌≡◌};
-ghost use Rattle.machine.specs.declared.cores.TheConstants.{GREATEST_TRACE_LIMIT};
-ghost use Rattle.machine.specs.declared.pairs.TheConstants.{PLACES};
-ghost use Rattle.machine.specs.Runs.{RunsTakeAll, RunsAreReplays};
-ghost use Rattle.orders.specs.declared.reader.TheConstants.{ORDER_LIMIT};
+ghost use Rattle.machine.specs.declared.watching.pair.TheConstants.{PLACES};
 
-/// The greatest limit of a trace, the most operations of an order, and the places for watches.
+/// The places for watches.
 pub fn limits()
-    ensures trace { GREATEST_TRACE_LIMIT ≡ 100000 }
-    ensures order { ORDER_LIMIT ≡ 100000 }
     ensures places { PLACES ≡ 8 }
-{}
-
-/// Every run of an order, which definitions give as a function, takes the order as far as it can be
-/// taken; and what it leaves is the replay of what it took.
-pub fn runs()
-    ensures taken { RunsTakeAll }
-    ensures replays { RunsAreReplays }
 {}

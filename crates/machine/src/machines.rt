@@ -2,30 +2,32 @@
 //! each hart.
 
 ghost use Rattle.std.specs.Prelude.{◌≡◌, ◌≢◌, ◌+◌, ◌<◌, ◌≤◌, ◌++◌, ◌∷◌, [], List, length, All};
-ghost use Rattle.std.specs.Prelude.{slice_index, slice_set, replicate, IfOk, OnOk, OnErr, Err, None};
-ghost use Rattle.std.specs.Prelude.{false};
+ghost use Rattle.std.specs.Prelude.{slice_index, slice_set, replicate, IfOk, OnOk, OnErr, Err};
+ghost use Rattle.std.specs.Prelude.{None, true, false};
 ghost use Rattle.cheri_model.specs.runs.Authority.{EachOfState};
 ghost use Rattle.cheri_model.specs.runs.Machine.{swept_state, cleared};
 ghost use Rattle.cheri_model.specs.runs.Replay.{is_step_of, step_count};
 ghost use Rattle.cap_model.specs.results.Swept.{is_in_sweep};
-ghost use Rattle.machine.specs.Cores.{answered, answered_step, applied, refused};
+ghost use Rattle.cores.specs.Cores.{answered, answered_step, applied, refused};
+ghost use Rattle.machine.specs.Machines.{unwatched};
 ghost use Rattle.machine.specs.Shares.{share_at, shares_of, IsCounted};
 ghost use Rattle.machine.specs.Watches.{watch_of};
 ghost use Rattle.cheri_model.specs.declared.operation.Event.{Event};
 ghost use Rattle.cheri_model.specs.declared.trace.Entry.{Entry};
 
-use crate::cores::Core;
-use crate::faults::{OpenFault, StepFault, WatchFault};
+use crate::faults::{OpenFault, WatchFault};
 use crate::shares::{Blanks, Books, Naming, Share, Tokens};
-use crate::watched::Watched;
-use crate::watches::{Receipt, Watch};
+use crate::watching::watch::{Receipt, Watch};
+use crate::watching::watched::Watched;
 use cheri_model::{Entry, Event, Image, NoMemory, Op};
+use cores::{Core, StepFault};
 use std::alloc::Global;
 use std::marker::Model;
 use std::sync::Wait;
 
 /// A core that threads may share under a lock, each stepping the hart of its share. At every moment
-/// its books have counted the steps of each hart in the trace. Contracts see its core.
+/// its books have counted the steps of each hart in the trace. Contracts see its core, and whether
+/// watchers have two copies of it.
 ///
 /// Close a machine that was watched. Where it is dropped, its two copies of the core are never
 /// freed: a watcher may still look at one, and a drop waits for nobody.
@@ -36,9 +38,9 @@ pub struct Machine<J: Naming> {
 }
 
 impl<J: Naming> Model for Machine<J> {
-    ghost use Rattle.machine.specs.Cores.{CoreParts};
+    ghost use Rattle.machine.specs.Machines.{MachineParts};
 
-    ghost Value = { CoreParts };
+    ghost Value = { MachineParts };
 
     ghost use Rattle.std.specs.Prelude.{◌≡◌, length};
     ghost use Rattle.machine.specs.Shares.{IsCounted};
@@ -46,7 +48,8 @@ impl<J: Naming> Model for Machine<J> {
     ghost view = { λ m. m.watched };
 
     ghost invariant = { λ m.
-        IsCounted m.books m.watched.trace (length J.image.harts) × (m.watched.image ≡ J.image) };
+        IsCounted m.books m.watched.core.trace (length J.image.harts)
+        × (m.watched.core.image ≡ J.image) };
 }
 
 impl<J: Naming> Machine<J> {
@@ -59,7 +62,7 @@ impl<J: Naming> Machine<J> {
     ) -> Result<(Machine<J>, Vec<Share<J>>), OpenFault>
         requires names { blanks ≡ J.names }
         requires image { core.image ≡ J.image }
-        ensures machine { IfOk result (λ opened. opened.0 ≡ core) }
+        ensures machine { IfOk result (λ opened. opened.0 ≡ unwatched core) }
         ensures shares { IfOk result (λ opened.
             opened.1.items ≡ shares_of core.trace (length J.image.harts)) }
     {
@@ -77,15 +80,17 @@ impl<J: Naming> Machine<J> {
     /// shown before.
     pub fn step<R: Wait>(&mut self, rt: &R, share: &mut Share<J>) -> Result<Entry, StepFault>
         ensures answered { result ≢ Err StepFault.NoMemory
-            → result ≡ answered_step self.old share.old.hart }
+            → result ≡ answered_step self.old.core share.old.hart }
         ensures memory { result ≡ Err StepFault.NoMemory
-            → refused self.old (Op.Step share.old.hart) ≡ None }
+            → refused self.old.core (Op.Step share.old.hart) ≡ None }
         ensures there { result ≢ Err StepFault.NoSuchHart }
         ensures of_a_step { result ≢ Err StepFault.BadRange }
-        ensures applied { OnOk result (self.new ≡ applied self.old (Op.Step share.old.hart)) }
+        ensures applied { OnOk result
+            (self.new.core ≡ applied self.old.core (Op.Step share.old.hart)) }
         ensures counted { OnOk result (share.new
             ≡ record { hart = share.old.hart; amount = share.old.amount + 1 }) }
-        ensures kept { OnErr result ((self.new ≡ self.old) × (share.new ≡ share.old)) }
+        ensures kept { OnErr result ((self.new.core ≡ self.old.core) × (share.new ≡ share.old)) }
+        ensures copied { self.new.is_copied ≡ self.old.is_copied }
     {
         let hart = share.hart();
         match self.watched.core().refusal(Op::Step(hart)) {
@@ -105,16 +110,18 @@ impl<J: Naming> Machine<J> {
     /// counts it. Waits for a watcher that still looks at what was shown before.
     pub fn sweep<R: Wait>(&mut self, rt: &R, lo: u64, hi: u128) -> Result<Event, StepFault>
         ensures answered { result ≢ Err StepFault.NoMemory
-            → result ≡ answered self.old (Op.Sweep lo hi) }
+            → result ≡ answered self.old.core (Op.Sweep lo hi) }
         ensures memory { result ≡ Err StepFault.NoMemory
-            → refused self.old (Op.Sweep lo hi) ≡ None }
+            → refused self.old.core (Op.Sweep lo hi) ≡ None }
         ensures event { IfOk result (λ event.
-            event ≡ Event.Sweep (cleared lo hi self.old.state) lo hi) }
-        ensures swept { OnOk result (self.new.state ≡ swept_state lo hi self.old.state) }
+            event ≡ Event.Sweep (cleared lo hi self.old.core.state) lo hi) }
+        ensures swept { OnOk result
+            (self.new.core.state ≡ swept_state lo hi self.old.core.state) }
         ensures none_left { OnOk result
-            (EachOfState (λ v. is_in_sweep lo hi v ≡ false) self.new.state) }
-        ensures applied { OnOk result (self.new ≡ applied self.old (Op.Sweep lo hi)) }
-        ensures kept { OnErr result (self.new ≡ self.old) }
+            (EachOfState (λ v. is_in_sweep lo hi v ≡ false) self.new.core.state) }
+        ensures applied { OnOk result (self.new.core ≡ applied self.old.core (Op.Sweep lo hi)) }
+        ensures kept { OnErr result (self.new.core ≡ self.old.core) }
+        ensures copied { self.new.is_copied ≡ self.old.is_copied }
     {
         match self.watched.core().refusal(Op::Sweep { lo, hi }) {
             Some(fault) => return Err(fault),
@@ -126,20 +133,26 @@ impl<J: Naming> Machine<J> {
         Ok(newest(self.watched.core()))
     }
 
-    /// A watch of the machine, which has seen its trace of now. Fails with `NoMemory` only where
-    /// the first watch finds none for its copies of the core, and then nothing changes; and with
-    /// `NoPlace` where no place is free: there are places for eight watches at once, and some may
+    /// A watch of the machine, which has seen its trace of now. The first one makes two copies of
+    /// the core; the core stays as it is. Fails with `NoMemory` only where there are no copies yet
+    /// and no memory for them; then nothing changes. Fails with `NoPlace` where there are copies,
+    /// and none of their places is free: there are places for eight watches at once, and some may
     /// not be free yet while watches come and go.
     pub fn watch(&mut self) -> Result<Watch<J>, WatchFault>
-        ensures watch { IfOk result (λ watch. watch ≡ watch_of self.old.image self.old.trace) }
-        ensures same { self.new ≡ self.old }
+        ensures watch { IfOk result (λ watch.
+            watch ≡ watch_of self.old.core.image self.old.core.trace) }
+        ensures same { self.new.core ≡ self.old.core }
+        ensures copied { OnOk result (self.new.is_copied ≡ true) }
+        ensures place { result ≡ Err WatchFault.NoPlace → self.new.is_copied ≡ true }
+        ensures memory { result ≡ Err WatchFault.NoMemory
+            → (self.old.is_copied ≡ false) × (self.new.is_copied ≡ false) }
     {
         self.watched.watch()
     }
 
     /// A receipt for the machine's trace of now, which a watch may learn.
     pub fn receipt(&mut self) -> Receipt<J>
-        ensures receipt { result ≡ self.old.trace }
+        ensures receipt { result ≡ self.old.core.trace }
         ensures same { self.new ≡ self.old }
     {
         self.watched.receipt()
@@ -147,8 +160,8 @@ impl<J: Naming> Machine<J> {
 
     /// The machine's core.
     pub fn core(&self) -> &Core
-        ensures core { result.now ≡ self.now }
-        ensures image { self.now.image ≡ J.image }
+        ensures core { result.now ≡ self.now.core }
+        ensures image { self.now.core.image ≡ J.image }
     {
         self.watched.core()
     }
@@ -156,10 +169,10 @@ impl<J: Naming> Machine<J> {
     /// The machine's core. Each share has counted the steps of its hart in the core's trace.
     /// Waits for watchers that still look.
     pub fn close<R: Wait>(self, rt: &R, shares: Vec<Share<J>>) -> Core
-        ensures core { result ≡ self }
-        ensures image { self.image ≡ J.image }
+        ensures core { result ≡ self.core }
+        ensures image { self.core.image ≡ J.image }
         ensures counts { All
-            (λ share. share.amount ≡ step_count self.trace share.hart) shares.items }
+            (λ share. share.amount ≡ step_count self.core.trace share.hart) shares.items }
     {
         self.audited(shares).close(rt)
     }
@@ -168,7 +181,7 @@ impl<J: Naming> Machine<J> {
     fn audited(self, shares: Vec<Share<J>>) -> Watched<J>
         ensures core { result ≡ self }
         ensures counts { All
-            (λ share. share.amount ≡ step_count self.trace share.hart) shares.items }
+            (λ share. share.amount ≡ step_count self.core.trace share.hart) shares.items }
     {
         let Machine { watched, mut books } = self;
         let mut shares = shares;

@@ -47,7 +47,7 @@ pub struct Blanks {
     hart5: Blank,
     hart6: Blank,
     hart7: Blank,
-    order: history::Blank,
+    order: seen_order::Blank,
 }
 
 impl Model for Blanks {
@@ -86,12 +86,12 @@ impl Blanks {
             hart5: Blank::new(1),
             hart6: Blank::new(1),
             hart7: Blank::new(1),
-            order: history::Blank::new(),
+            order: seen_order::Blank::new(),
         }
     }
 
     /// The books and the tokens of these ledgers, nothing counted, and the order.
-    pub fn open<J: Naming>(self) -> (Books<J>, Tokens<J>, history::Blank)
+    pub fn open<J: Naming>(self) -> (Books<J>, Tokens<J>, seen_order::Blank)
         requires { self ≡ J.names }
         ensures books { result.0 ≡ replicate 8 0 }
         ensures parts { result.1.parts ≡ replicate 8 1 }

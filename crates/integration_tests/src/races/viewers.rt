@@ -2,6 +2,7 @@
 //! a look.
 
 use super::gates::Flag;
+use crate::samples::shows_the_same;
 use cheri_model::Event;
 use harts::{Gate, Turn, Viewer};
 use machine::{Look, Naming, Watch};
@@ -180,8 +181,8 @@ impl Gate for Kept {
 /// what it shows before and after.
 #[derive(Drop)]
 pub(super) struct Keeper<'a> {
+    alloc: Global,
     gate: &'a Kept,
-    seen: Vec<Event>,
     pub(super) was_called: bool,
     pub(super) was_kept: bool,
     pub(super) has_changed: bool,
@@ -190,8 +191,8 @@ pub(super) struct Keeper<'a> {
 impl<'a> Keeper<'a> {
     pub(super) fn new(alloc: Global, gate: &'a Kept) -> Keeper<'a> {
         Keeper {
+            alloc,
             gate,
-            seen: Vec::new(alloc),
             was_called: false,
             was_kept: false,
             has_changed: false,
@@ -206,14 +207,16 @@ impl Viewer for Keeper<'_> {
             Ok(look) => look,
             Err(watch) => return watch,
         };
-        let entries = look.core().view().entries;
-        let is_copied = self.seen.extend_from_slice(entries).is_ok();
+        let before = look.core().copy(self.alloc);
         self.gate.look_kept.set();
-        self.was_kept = is_copied && self.gate.stepped.comes();
+        self.was_kept = self.gate.stepped.comes();
         for _ in 0..YIELDS {
             thread::yield_now();
         }
-        self.has_changed = look.core().view().entries != self.seen.as_slice();
+        self.has_changed = match before {
+            Ok(before) => !shows_the_same(&before, look.core()),
+            Err(_) => true,
+        };
         look.end()
     }
 }

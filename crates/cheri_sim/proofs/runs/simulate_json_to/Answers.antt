@@ -1,8 +1,8 @@
 -- The line is of the run that the texts mean, and a refusal is theirs.
 use Rattle.std.proofs.lemmas.Result.{err_from_is_err_and}
-use Rattle.machine.specs.declared.cores.TheConstants.{GREATEST_TRACE_LIMIT}
-use Rattle.machine.specs.Runs.{Run}
-use Rattle.machine.proofs.SimulationLemmas.{run_is, of_run, unbooted, listing_refused, order_refused}
+use Rattle.cores.specs.declared.cores.TheConstants.{GREATEST_TRACE_LIMIT}
+use Rattle.cores.specs.Runs.{Run}
+use Rattle.simulation.proofs.SimulationLemmas.{run_is, of_run, unbooted, listing_refused, order_refused}
 use Rattle.cheri_sim.proofs.RunLemmas.{json_whole, json_begun}
 use Rattle.cheri_sim.proofs.runs.simulate_json_to.Goals as goal
 

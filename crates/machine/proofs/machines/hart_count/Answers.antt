@@ -1,6 +1,6 @@
 -- An image has at most eight harts.
 use Rattle.std.proofs.Common.{◌≤◌, length, arith}
-use Rattle.machine.proofs.CoreLemmas.{image_hart_limit}
+use Rattle.cores.proofs.CoreLemmas.{image_hart_limit}
 use Rattle.machine.proofs.machines.hart_count.Goals as goal
 
 pub overflow_cast-result : goal.overflow_cast-result

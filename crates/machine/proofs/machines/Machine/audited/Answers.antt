@@ -8,7 +8,7 @@ use Rattle.machine.proofs.machines.Machine.audited.Goals as goal
 
 pub loop-place-preserved : goal.loop-place-preserved
 loop-place-preserved g c =
-    let trace = c.self.inside.watched.trace in
+    let trace = c.self.inside.watched.core.trace in
     let old = c.index_mut.result.now in
     let place = c.loop-place.place in
     let items = c.loop-place.shares.items in

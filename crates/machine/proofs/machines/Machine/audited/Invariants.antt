@@ -10,5 +10,5 @@ invariant-loop-place g l = record {
   books : l.books ≡ l.initial.books;
   shares : l.shares.items ≡ l.initial.shares.items;
   counts : (k : ℕ) (d : ShareParts) → k < l.place →
-      (slice_index_or l.shares.items k d).amount ≡ step_count l.watched.trace (slice_index_or l.shares.items k d).hart;
+      (slice_index_or l.shares.items k d).amount ≡ step_count l.watched.core.trace (slice_index_or l.shares.items k d).hart;
 }

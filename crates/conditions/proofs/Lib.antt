@@ -1,0 +1,6 @@
+pub mod Open
+pub mod Names
+pub mod HoldingLemmas
+pub mod PlaceLemmas
+pub mod ReadingLemmas
+pub mod StartLemmas

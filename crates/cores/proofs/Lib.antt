@@ -1,0 +1,3 @@
+pub mod CoreLemmas
+pub mod RunLemmas
+pub mod SweepLemmas

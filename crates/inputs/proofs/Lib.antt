@@ -1,0 +1,2 @@
+-- Files that were refused, as faults of a program.
+pub mod InputLemmas

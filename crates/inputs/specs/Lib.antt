@@ -1,0 +1,4 @@
+-- Files as they are read, and what is said where they are refused.
+pub mod Files
+pub mod Faults
+pub mod Reading

@@ -1,6 +1,0 @@
-use Rattle.std.proofs.Common.{arith}
-use Rattle.std.proofs.lemmas.Grind.{common_steps}
-use Rattle.machine.proofs.opening.opening_harts.Goals as goal
-
-pub loop-image-preserved : goal.loop-image-preserved
-loop-image-preserved c = grind (arith, common_steps)

@@ -1,0 +1,3 @@
+-- How commands end.
+pub mod EndingLemmas
+pub mod LineLemmas

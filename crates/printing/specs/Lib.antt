@@ -1,0 +1,2 @@
+-- What a program prints of its answer.
+pub mod Endings

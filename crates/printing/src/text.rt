@@ -1,0 +1,41 @@
+//! A text that is written whole.
+
+ghost use Rattle.std.specs.Prelude.{OnOk};
+ghost use Rattle.std.specs.Io.KnownBytes.{Appends, Keeps};
+ghost use Rattle.sinks.specs.Sinks.{TakesBeginning};
+
+use sinks::{SinkFailed, ToWrite, put_whole};
+use std::io::Write;
+
+/// Flushes a writer.
+pub fn flush<O: Write>(out: &mut O) -> Result<(), SinkFailed>
+    ensures kept { Keeps (O.contents out.old) (O.contents out.new) }
+{
+    match out.flush() {
+        Ok(()) => Ok(()),
+        Err(_) => Err(SinkFailed),
+    }
+}
+
+/// Writes all of a text. After a fault a beginning of it was written.
+pub fn write_text<O: Write>(out: &mut O, text: &str) -> Result<(), SinkFailed>
+    ensures whole { OnOk result (Appends (O.contents out.old) (O.contents out.new) text.now) }
+    ensures beginning { TakesBeginning (O.contents out.old) (O.contents out.new) text.now }
+{
+    let mut sink = ToWrite::new(out);
+    let written = put_whole(&mut sink, text.as_bytes());
+    let writer = sink.into_writer();
+    // A last look at the writer tells the caller what it holds now.
+    let _ = &*writer;
+    written
+}
+
+/// Writes all of a text, and flushes. After a fault a beginning of it was written.
+#[tactic(auto, using(crate::proofs::EndingLemmas::begins_whole))]
+pub fn print<O: Write>(out: &mut O, text: &str) -> Result<(), SinkFailed>
+    ensures printed { OnOk result (Appends (O.contents out.old) (O.contents out.new) text.now) }
+    ensures beginning { TakesBeginning (O.contents out.old) (O.contents out.new) text.now }
+{
+    write_text(out, text)?;
+    flush(out)
+}

@@ -1,0 +1,86 @@
+-- What two texts mean as a run, and why a run of them is refused.
+use Rattle.std.proofs.Common.{◌≡◌, Bool, true, false, ℕ, List, refl, sym, ap, subst, ◌∙◌, inl, inr}
+use Rattle.std.specs.Prelude.{◌↔◌, ◌⊎◌, if◌then◌else◌, Result, Ok, Err, IsOk}
+use Rattle.listings.specs.declared.fault.ListingFault.{ListingFault}
+use Rattle.listings.specs.Faults.{Gives, no_memory}
+use Rattle.listings.specs.Meaning.{listing_meaning}
+use Rattle.orders.specs.declared.fault.OrderFault.{OrderFault}
+use Rattle.orders.specs.Orders.{order_of}
+use Rattle.cheri_model.specs.declared.operation.Op.{Op}
+use Rattle.cheri_model.specs.runs.Authority.{IsConfined}
+use Rattle.cheri_model.specs.runs.Image.{ImageParts}
+use Rattle.cores.specs.declared.faults.BootFault.{BootFault}
+use Rattle.cores.specs.declared.faults.BootFault.TheVariants as boot
+use Rattle.simulation.specs.declared.faults.SimFault.{SimFault}
+use Rattle.simulation.specs.declared.faults.SimFault.TheVariants as sim
+use Rattle.cores.specs.Cores.{IsCore, is_limit}
+use Rattle.cores.specs.Runs.{Run, run_of}
+use Rattle.simulation.specs.Simulation.{IsRunAnd, IsUnbooted, run_meant, run_of_texts}
+
+-- a limit is good or not
+by_limit : {A : Type 0} (limit : ℕ) → (is_limit limit ≡ true → A) → (is_limit limit ≡ false → A) → A
+by_limit {A} limit good bad = by (is_limit limit) refl
+  where
+    by : (b : Bool) → is_limit limit ≡ b → A
+    by true is = good is
+    by false is = bad is
+
+-- with a good limit it is good that nothing was refused for it
+limit_good : {X : Type 0} (limit : ℕ) (x : X) →
+    (◌≡◌ {A = Result X BootFault} (Ok x) (Err boot.Limit)) ↔ (is_limit limit ≡ false) → is_limit limit ≡ true
+limit_good {X} limit x clause = by_limit limit (λ good. good) (λ bad. no bad (clause.1 bad))
+  where
+    no : is_limit limit ≡ false → ◌≡◌ {A = Result X BootFault} (Ok x) (Err boot.Limit) → is_limit limit ≡ true
+    no bad is = absurd cc
+
+module _ (listing order : List ℕ) (limit : ℕ) (image : ImageParts) (operations : List Op)
+    (listing_is : listing_meaning listing ≡ Ok image) (order_is : Ok operations ≡ order_of order) where
+  texts_mean : run_of_texts listing order limit ≡ run_meant (Ok image) (Ok operations) limit
+  texts_mean = ap (λ i. run_meant i (order_of order) limit) listing_is ∙ ap (λ o. run_meant (Ok image) o limit) (sym order_is)
+
+  -- the run of good texts within a good limit
+  pub run_is : (run : Run) → (◌≡◌ {A = Result Run BootFault} (Ok run) (Err boot.Limit)) ↔ (is_limit limit ≡ false) →
+      run ≡ run_of image operations limit → run_of_texts listing order limit ≡ Ok run
+  unfolding run_meant
+  run_is run clause same =
+      texts_mean
+      ∙ (ap (λ (b : Bool). if b then Ok (run_of image operations limit) else Err (sim.Boot boot.Limit)) (limit_good limit run clause)
+      ∙ ap (λ (r : Run). Ok r) (sym same))
+
+  -- and one that was not booted
+  pub unbooted : (fault : BootFault) →
+      (◌≡◌ {A = Result Run BootFault} (Err fault) (Err boot.Limit)) ↔ (is_limit limit ≡ false) →
+      IsUnbooted fault (run_of_texts listing order limit)
+  unfolding run_meant
+  unbooted boot.Limit clause =
+      texts_mean ∙ ap (λ (b : Bool). if b then Ok (run_of image operations limit) else Err (sim.Boot boot.Limit)) (clause.0 refl)
+  unbooted boot.NoMemory clause =
+      by_limit limit
+      (λ good. subst (λ (r : Result Run SimFault). IsOk r) (sym (texts_mean
+      ∙ ap (λ (b : Bool). if b then Ok (run_of image operations limit) else Err (sim.Boot boot.Limit)) good)) refl)
+      (λ bad. no (clause.1 bad))
+    where
+      no : ◌≡◌ {A = Result Run BootFault} (Err boot.NoMemory) (Err boot.Limit) → IsUnbooted boot.NoMemory (run_of_texts listing order limit)
+      no is = absurd cc
+
+-- what holds of a run holds of what means it
+pub of_run : (meaning : Result Run SimFault) (run : Run) (IsSo : Run → Type 0) → meaning ≡ Ok run → IsCore run.0 →
+    IsConfined run.0.image run.0.state → IsSo run → IsRunAnd meaning IsSo
+of_run meaning run IsSo is core confined so =
+    subst (λ (r : Result Run SimFault). IsRunAnd r IsSo) (sym is) (record { core = core; confined = confined }, so)
+
+-- a listing that was refused
+pub listing_refused : (listing order : List ℕ) (limit : ℕ) (fault : ListingFault) →
+    Gives {X = ImageParts} (Err fault) (listing_meaning listing) →
+    (fault ≡ no_memory) ⊎ (run_of_texts listing order limit ≡ Err (sim.Listing fault))
+unfolding run_meant
+listing_refused listing order limit fault (inl none) = inl none
+listing_refused listing order limit fault (inr is) = inr (ap (λ i. run_meant i (order_of order) limit) is)
+
+-- an order that was refused
+pub order_refused : (listing order : List ℕ) (limit : ℕ) (image : ImageParts) (fault : OrderFault) →
+    listing_meaning listing ≡ Ok image → Err fault ≡ order_of order →
+    run_of_texts listing order limit ≡ Err (sim.Order fault)
+unfolding run_meant
+order_refused listing order limit image fault listing_is order_is =
+    ap (λ i. run_meant i (order_of order) limit) listing_is ∙ ap (λ o. run_meant (Ok image) o limit) (sym order_is)
