@@ -1,6 +1,6 @@
 -- The events of a run and their facts, one by one, and a core that takes a run's operations once more.
 use Rattle.std.proofs.Common.{◌≡◌, ℕ, zero, suc, ◌+◌, ◌<◌, ◌≤◌, Bool, true, false, not, ◌&&◌, List, [], ◌∷◌, ◌++◌, length, take, get_or, map, refl, ap, sym, subst, ◌∙◌, arith, length-take}
-use Rattle.std.specs.Prelude.{nat_lt, if◌then◌else◌, Option, Some, None, Result, Ok, Err}
+use Rattle.std.specs.Prelude.{nat_lt, if◌then◌else◌, Option, Some, None, Result, Ok, Err, OnOk}
 use Rattle.std.proofs.lemmas.Bool.{and_parts, lt-ltb}
 use Rattle.std.proofs.lemmas.Bool.Decides.{nat_tests}
 use Rattle.std.proofs.lemmas.List.{length-map, take-map, map_more, get_or-map}
@@ -168,13 +168,40 @@ explained_length image trace replay =
     omega (arith, length-zip (replayed_events image (operations_of trace)) (replayed_facts image (operations_of trace)),
     ap length replay.events, facts_length image trace)
 
+-- what is so of the event that is taken next, where a loop has the events as it reads them
+pub record Turn (image : ImageParts) (trace : List Event) (limit k : ℕ) (e event : Event) (core : CoreParts) : Type 0 where
+  pub goes : refused core (operation_of event) ≡ None
+  pub inside : k < length (explained_events image (operations_of trace))
+  pub explained : (d : EventFacts)
+      → ◌≡◌ {A = Explained} (event, next_facts core (operation_of event)) (get_or (explained_events image (operations_of trace)) k (e, d))
+  pub next : (after : CoreParts) → after ≡ core_after core (operation_of event) → IsAt image limit (operations_of trace) (k + 1) after
+
+pub turn : (image : ImageParts) (trace entries : List Event) (limit k : ℕ) (e event : Event) (state : MachineState) (core : CoreParts)
+    → entries ≡ trace → k < length entries → event ≡ get_or entries k e → IsReplay image trace state → length trace ≤ limit
+    → IsAt image limit (operations_of trace) k core → Turn image trace limit k e event core
+turn image trace entries limit k e event state core same room is replay fits at =
+    let room_in : k < length trace = rw same at room in
+    let is_in : event ≡ get_or trace k e = is ∙ ap (λ (es : List Event). get_or es k e) same in
+    let whole = replayed image trace state replay in
+    record {
+      goes = goes_on image trace limit k e event room_in is_in whole fits core at;
+      inside = omega (arith, explained_length image trace whole);
+      explained = explained_at image trace limit k e event room_in is_in whole fits core at;
+      next = at_next image trace limit k e event room_in is_in whole fits core at;
+    }
+
 -- ---- what an operation that is not refused answers and leaves
 
-pub step_answered : (core : CoreParts) (hart : ℕ) (facts : StepFacts) → Ok facts ≡ answered_facts core hart
+-- what follows where a call was done
+pub on_ok : {T E : Type 0} (result : Result T E) (P Q : Type 0) → (P → Q) → OnOk result P → OnOk result Q
+on_ok (Ok x) P Q use_it so = use_it so
+on_ok (Err e) P Q use_it so = tt
+
+pub step_answered : (core : CoreParts) (hart : ℕ) (facts : StepFacts) → ◌≡◌ {A = Result StepFacts StepFault} (Ok facts) (answered_facts core hart)
     → refused core (operation.Step hart) ≡ None → step facts ≡ next_facts core (operation.Step hart)
 unfolding facts_of
 step_answered core hart facts is none =
-    let made : Ok {E = StepFault} facts ≡ Ok (next_step_facts core hart) =
+    let made : ◌≡◌ {A = Result StepFacts StepFault} (Ok facts) (Ok (next_step_facts core hart)) =
     is ∙ ap (λ r. unless_refused r (next_step_facts core hart)) none in
     let same : facts ≡ next_step_facts core hart = cc in
     ap step same

@@ -289,6 +289,25 @@ fn swept_json(alloc: Global, places: &[Place]) -> Result<Value, NoMemory>
     Ok(Value::Object(members))
 }
 
+/// Puts the places that a sweep cleared, if there are some.
+fn put_clears(
+    alloc: Global,
+    members: &mut Map<String, Value>,
+    places: &[Place],
+) -> Result<(), NoMemory>
+    ensures { OnOk result (members_view members.new.entries
+        ≡ put_clears places.now (members_view members.old.entries)) }
+{
+    match places {
+        [] => Ok(()),
+        [_, ..] => {
+            let swept = swept_json(alloc, places)?;
+            put(members, alloc, "clears", swept)?;
+            Ok(())
+        }
+    }
+}
+
 /// A sweep: the members of the report's entry, its number, and what it cleared.
 #[tactic(auto, unfolding(crate::specs::FactData::sweep_data))]
 pub(crate) fn sweep_json(
@@ -301,9 +320,6 @@ pub(crate) fn sweep_json(
 {
     let mut members = members_of(alloc, event_json(alloc, event)?);
     put(&mut members, alloc, "number", Value::from(number))?;
-    if !places.is_empty() {
-        let swept = swept_json(alloc, places)?;
-        put(&mut members, alloc, "clears", swept)?;
-    }
+    put_clears(alloc, &mut members, places)?;
     Ok(Value::Object(members))
 }

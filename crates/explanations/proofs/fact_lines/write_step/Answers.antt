@@ -14,5 +14,4 @@ returns c =
       c.in_ok-write_reads.ensures,
       c.in_ok-write_head.ensures,
     ) at c.in_ok-write_clears.ensures in
-    let grouped = simp append_assoc at e in
-    simp append_assoc grouped
+    simp append_assoc at e
