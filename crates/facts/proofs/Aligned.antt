@@ -1,7 +1,6 @@
 -- The bounds of a word that lie in those of a tagged capability are multiples of their alignment.
-use Rattle.std.proofs.Common.{◌≡◌, ℕ, ◌-◌, ◌/◌, ◌%◌, ◌^◌, ◌≤◌, ◌==◌, true, refl, arith}
+use Rattle.std.proofs.Common.{◌≡◌, ℕ, ◌/◌, ◌%◌, ◌^◌, ◌≤◌, ◌==◌, true, refl, arith}
 use Rattle.std.specs.Prelude.{◌&&◌}
-use Rattle.std.proofs.lemmas.Bool.Decides.{nat_tests}
 use Rattle.cap_model.specs.values.Capability.{capability_at}
 use Rattle.cap_model.specs.values.CapValue.{CapValue, valid, raw, IsLawfulValue, tag_of}
 use Rattle.cap_model.specs.results.Readings.{base_of, top_of}

@@ -1,10 +1,10 @@
 -- What an instruction clears that writes a value.
-use Rattle.std.proofs.Common.{◌≡◌, ℕ, refl, ap, ◌∙◌}
+use Rattle.std.proofs.Common.{◌≡◌, ℕ, ap, ◌∙◌}
 use Rattle.std.specs.Prelude.{Option}
 use Rattle.cap_model.specs.values.CapValue.{CapValue}
 use Rattle.cheri_model.specs.declared.instr.Instr.{Instr}
 use Rattle.cheri_model.specs.steps.Hart.{HartState}
-use Rattle.cheri_model.specs.steps.Actions.{Action, Put, action}
+use Rattle.cheri_model.specs.steps.Actions.{Put, action}
 use Rattle.facts.specs.declared.step_facts.NamedValue.{NamedValue}
 use Rattle.facts.specs.Operands.{Derivation, derivation_of}
 use Rattle.facts.specs.Losses.{lost_if, lost_by, clears_of}

@@ -1,6 +1,6 @@
 -- A cleared tag is said exactly where an instruction loses one.
-use Rattle.std.specs.Prelude.{◌≡◌, ◌==◌, Bool, true, false, not, ◌&&◌, ◌||◌, List, [], ◌∷◌, Option, Some, None, is_some, is_none, if◌then◌else◌}
-use Rattle.std.proofs.Common.{ℕ, refl, sym, ◌∙◌, ap, arith, cond}
+use Rattle.std.specs.Prelude.{◌≡◌, ◌==◌, Bool, true, false, not, ◌&&◌, ◌||◌, List, Option, Some, None, is_some, is_none, if◌then◌else◌}
+use Rattle.std.proofs.Common.{ℕ, refl, sym, ◌∙◌, ap}
 use Rattle.std.specs.Option.{option_map}
 use Rattle.cap_model.specs.declared.permission.TheConstants as permission
 use Rattle.cap_model.specs.values.CapValue.{CapValue, raw, valid, IsLawfulValue, tag_of}
@@ -8,24 +8,23 @@ use Rattle.cap_model.specs.results.Addresses.{has_permission, clear_tag}
 use Rattle.cap_model.specs.results.CapInstructions as cap
 use Rattle.cheri_model.specs.declared.instr.Instr.{Instr}
 use Rattle.cheri_model.specs.declared.instr.Instr.TheVariants as instr
-use Rattle.cheri_model.specs.instructions.Integers.{immediate, upper_immediate, sum}
-use Rattle.cheri_model.specs.steps.Hart.{HartState, register, word_of_integer}
+use Rattle.cheri_model.specs.instructions.Integers.{immediate, upper_immediate}
+use Rattle.cheri_model.specs.steps.Hart.{HartState, register}
 use Rattle.cheri_model.specs.steps.Memory.{load_capability}
 use Rattle.cheri_model.specs.steps.Actions.{action, at}
 use Rattle.cheri_model.specs.steps.HartStep.{permitted}
 use Rattle.cheri_model.specs.runs.Authority.{EachOfHart}
 use Rattle.origins.proofs.StepOrigins.{register_lawful}
 use Rattle.origins.specs.declared.place.Spot.{Spot}
-use Rattle.origins.specs.declared.place.Spot.TheVariants.{Pcc, Register, Granule}
+use Rattle.origins.specs.declared.place.Spot.TheVariants.{Pcc, Register}
 use Rattle.origins.specs.Places.{value_at_spot}
 use Rattle.origins.specs.Flows.{flows_at, into, granule_of}
 use Rattle.origins.specs.Origins.{Origins}
 use Rattle.facts.specs.declared.operands.Operands.{Operands}
 use Rattle.facts.specs.declared.why.Why.{Why}
 use Rattle.facts.specs.declared.step_facts.Cleared.{Cleared}
-use Rattle.facts.specs.declared.step_facts.NamedValue.{NamedValue}
 use Rattle.facts.specs.Operands.{operands, operands_by, derivation_of}
-use Rattle.facts.specs.Losses.{why_lost, lost, is_build, cleared, lost_by_load, lost_by_store, clears_of}
+use Rattle.facts.specs.Losses.{why_lost, lost, is_build, cleared, lost_by_load, clears_of}
 use Rattle.facts.specs.StepFacts.{named_at}
 use Rattle.facts.specs.ClearsLaw.{source_tag, loses_tag, found_by}
 use Rattle.facts.proofs.Reasons.{kept_without_why}

@@ -1,9 +1,8 @@
 -- Links and unsealed values keep their tags.
-use Rattle.std.proofs.Common.{◌≡◌, ℕ, ◌==◌, true, false, refl}
-use Rattle.std.specs.Prelude.{◌&&◌, Ok}
-use Rattle.cap_model.specs.values.Capability.{unsealed_type}
+use Rattle.std.proofs.Common.{◌≡◌, ℕ, true, false, refl}
+use Rattle.std.specs.Prelude.{Ok}
 use Rattle.cap_model.specs.values.CapValue.{CapValue, valid, raw, tag_of}
-use Rattle.cap_model.specs.results.Addresses.{with_address, has_permission}
+use Rattle.cap_model.specs.results.Addresses.{with_address}
 use Rattle.cap_model.specs.results.Seals.{seal_entry, unsealed}
 use Rattle.cheri_model.specs.steps.Checks.{first_failing, fetch_table}
 use Rattle.cheri_model.specs.steps.Hart.{next_pcc, link}

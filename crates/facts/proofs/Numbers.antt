@@ -1,5 +1,5 @@
 -- Numbers of the representable region, and of permissions.
-use Rattle.std.proofs.Common.{ℕ, ◌+◌, ◌*◌, ◌/◌, ◌^◌, ◌<◌, ◌≤◌, bit_and, arith}
+use Rattle.std.proofs.Common.{ℕ, ◌+◌, ◌*◌, ◌/◌, ◌^◌, ◌≤◌, bit_and, arith}
 use Rattle.std.proofs.Math.Nat.{one-le-pow, pow-le-pow_right, div-mul-le_self}
 use Rattle.std.proofs.lemmas.Nat.{and_le_l}
 

@@ -1,13 +1,13 @@
 -- Names for `unfolding(..)` that open what their own line names.
 use Rattle.std.specs.Prelude.{ℕ, List, Option}
 use Rattle.cap_model.specs.results.CapInstructions.{CapInstruction}
-use Rattle.cap_model.specs.results.Addresses.{address_of, set_address}
+use Rattle.cap_model.specs.results.Addresses.{set_address}
 use Rattle.cap_model.specs.results.Reasons.{reasons}
 use Rattle.cap_model.specs.values.CapValue.{CapValue}
 use Rattle.cheri_model.specs.declared.form.Form.{Form}
 use Rattle.cheri_model.specs.declared.form.ThreeOp.{ThreeOp}
 use Rattle.cheri_model.specs.declared.instr.Instr.{Instr}
-use Rattle.cheri_model.specs.instructions.Form.{form_of, instr_of, three_instr, two_instr}
+use Rattle.cheri_model.specs.instructions.Form.{instr_of, three_instr, two_instr}
 use Rattle.cheri_model.specs.instructions.Form.{immediate_instr, upper_instr, load_instr}
 use Rattle.cheri_model.specs.instructions.Form.{store_instr, branch_instr, shift_instr}
 use Rattle.cheri_model.specs.instructions.Form.{word_shift_instr}

@@ -1,15 +1,13 @@
 -- The access of a step that did not trap is aligned and lies in memory, before it and after it.
-use Rattle.std.proofs.Common.{◌≡◌, ℕ, ◌%◌, ◌*◌, ◌==◌, true, List, length, refl, sym, ap, arith, length-set}
-use Rattle.std.specs.Prelude.{nat_lt, nat_le, ◌&&◌, Bool, false, Result, Ok, Err, Option, Some, None}
+use Rattle.std.proofs.Common.{◌≡◌, ℕ, ◌%◌, ◌==◌, true, List, length, refl, length-set}
+use Rattle.std.specs.Prelude.{nat_lt, false, Result, Ok, Err, Option, Some, None}
 use Rattle.cap_model.specs.values.CapValue.{CapValue}
 use Rattle.cheri_model.specs.declared.access.Access.{Access}
 use Rattle.cheri_model.specs.declared.access.Access.TheVariants as access
-use Rattle.cheri_model.specs.declared.trace.Outcome.{Outcome}
-use Rattle.cheri_model.specs.declared.trace.Outcome.TheVariants as outcome
 use Rattle.cheri_model.specs.declared.trace.Trap.{Trap}
 use Rattle.cheri_model.specs.declared.width.Width.{Width}
 use Rattle.cheri_model.specs.declared.width.Width.TheVariants.{Byte, Half, Word, Double}
-use Rattle.cheri_model.specs.steps.Hart.{HartState, register}
+use Rattle.cheri_model.specs.steps.Hart.{HartState}
 use Rattle.cheri_model.specs.steps.Memory.{fits, is_in_ram, bytes_of, store_data, store_capability}
 use Rattle.cheri_model.specs.steps.Checks.{first_failing, size_of, access_table}
 use Rattle.cheri_model.specs.steps.Actions.{Action, Put, Load, Store, LoadCap, StoreCap, Swap, Branch, Jump, JumpThrough, Invoke, Halt}

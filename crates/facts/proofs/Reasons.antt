@@ -1,9 +1,9 @@
 -- The first line of a table that holds, with its numbers.
-use Rattle.std.specs.Prelude.{◌≡◌, Bool, true, false, not, ◌&&◌, List, [], ◌∷◌, Option, Some, None, is_some, is_none, Contains, find, if◌then◌else◌}
-use Rattle.std.proofs.Common.{ℕ, refl, sym, ◌∙◌, ap, arith, cond, suc}
+use Rattle.std.specs.Prelude.{◌≡◌, Bool, true, false, List, [], ◌∷◌, Option, Some, None, is_none}
+use Rattle.std.proofs.Common.{refl, sym, ◌∙◌, ap}
 use Rattle.std.specs.Option.{option_map}
 use Rattle.cap_model.specs.declared.reason.Reason.{Reason}
-use Rattle.cap_model.specs.values.CapValue.{CapValue, IsLawfulValue, tag_of}
+use Rattle.cap_model.specs.values.CapValue.{IsLawfulValue, tag_of}
 use Rattle.cap_model.specs.results.CapInstructions.{CapInstruction, capability_result}
 use Rattle.cap_model.specs.results.Reasons.{first_reason, no_reason, reasons}
 use Rattle.cap_model.proofs.Results.ReasonTables.{tag_kept, told_holds}

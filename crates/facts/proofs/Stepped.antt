@@ -1,29 +1,23 @@
 -- What a step does, by what its fetch gave.
-use Rattle.std.proofs.Common.{◌≡◌, ℕ, ◌+◌, ◌-◌, ◌*◌, ◌/◌, ◌^◌, ◌<◌, ◌%◌, ◌==◌, true, false, List, [], length, refl, sym, ◌∙◌, ap, subst, arith}
-use Rattle.std.specs.Prelude.{Option, Some, None, Result, Ok, Err, nat_lt, nat_le, ◌&&◌, option_and_then}
-use Rattle.std.proofs.lemmas.Bool.Decides.{nat_tests}
+use Rattle.std.proofs.Common.{◌≡◌, ℕ, List, [], length, refl, sym, ◌∙◌, ap, subst}
+use Rattle.std.specs.Prelude.{Some, None, Result, Ok, Err}
 use Rattle.cap_model.specs.values.CapValue.{CapValue}
 use Rattle.cap_model.specs.results.Addresses.{address_of}
 use Rattle.cheri_model.specs.declared.instr.Instr.{Instr}
 use Rattle.cheri_model.specs.declared.trace.Trap.{Trap}
-use Rattle.cheri_model.specs.declared.trace.Outcome.{Outcome}
 use Rattle.cheri_model.specs.declared.trace.Outcome.TheVariants as outcome
 use Rattle.cheri_model.specs.steps.Hart.{HartState}
 use Rattle.cheri_model.specs.steps.Checks.{first_failing, fetch_table}
 use Rattle.cheri_model.specs.steps.Actions.{Action, Put, Load, Store, LoadCap, StoreCap, Swap, Branch, Jump, JumpThrough, Invoke, Halt, action}
 use Rattle.cheri_model.specs.steps.HartStep.{Stepped, trapped, unless_trapped, execute, hart_step, instruction_at}
-use Rattle.origins.specs.declared.place.Place.{Place}
-use Rattle.origins.specs.declared.place.Spot.{Spot}
-use Rattle.origins.specs.declared.place.Flow.{Flow}
 use Rattle.origins.specs.Flows.{flows_at, accessed_address, flows, flows_if, step_flows}
 use Rattle.origins.specs.Origins.{Origins}
-use Rattle.facts.specs.declared.step_facts.Extent.{Extent}
 use Rattle.facts.specs.declared.step_facts.Fetched.{Fetched}
 use Rattle.facts.specs.declared.stepping.Seen.{Seen}
 use Rattle.facts.specs.Names.{access_of}
 use Rattle.facts.specs.declared.step_facts.StepFacts.{StepFacts}
 use Rattle.facts.specs.StepFacts.{fetched_by, fetched_of, fetch_facts, instruction_facts, facts_by}
-use Rattle.facts.specs.Stepping.{IsPlaced, IsSeen, IsSeenBefore, IsNotTrap, address_accessed}
+use Rattle.facts.specs.Stepping.{IsPlaced, IsSeenBefore, IsNotTrap, address_accessed}
 use Rattle.facts.proofs.Placed.{placed_done, length_executed, placed_same}
 
 -- what a fetch gave that passed

@@ -1,9 +1,8 @@
 -- The table of origins has what a hart names, and an access that is placed lies in memory.
-use Rattle.std.proofs.Common.{◌≡◌, ℕ, ◌+◌, ◌*◌, ◌-◌, ◌/◌, ◌^◌, ◌<◌, ◌≤◌, true, List, [], ◌∷◌, length, arith}
-use Rattle.std.specs.Prelude.{nat_le, nat_lt, ◌==◌, ◌%◌, ◌&&◌}
+use Rattle.std.proofs.Common.{◌≡◌, ℕ, ◌+◌, ◌^◌, ◌<◌, true, List, [], ◌∷◌, length, arith}
 use Rattle.std.proofs.lemmas.Bool.Decides.{nat_tests}
 use Rattle.cap_model.specs.values.CapValue.{CapValue}
-use Rattle.cheri_model.specs.steps.Memory.{ram_base, granule_number, fits, is_in_ram, IsMemory}
+use Rattle.cheri_model.specs.steps.Memory.{ram_base, granule_number, fits, IsMemory}
 use Rattle.origins.specs.declared.place.Spot.{Spot}
 use Rattle.origins.specs.declared.place.Spot.TheVariants.{Pcc, Register, Granule}
 use Rattle.origins.specs.Places.{place_of}

@@ -7,7 +7,7 @@ use Rattle.cap_model.specs.declared.permission.TheConstants as permission
 use Rattle.cap_model.specs.values.CapValue.{CapValue, tag_of}
 use Rattle.cap_model.specs.values.Capability.{unsealed_type, sentry_type}
 use Rattle.cap_model.specs.results.Addresses.{address_of, has_permission, in_bounds}
-use Rattle.cap_model.specs.results.Readings.{object_type_of, is_sealed}
+use Rattle.cap_model.specs.results.Readings.{is_sealed}
 use Rattle.cheri_model.specs.declared.access.Access.{Access}
 use Rattle.cheri_model.specs.declared.access.Access.TheVariants as access
 use Rattle.cheri_model.specs.declared.instr.Instr.{Instr}
@@ -17,19 +17,16 @@ use Rattle.cheri_model.specs.instructions.Form.{form_of}
 use Rattle.cheri_model.specs.steps.Memory.{is_in_ram}
 use Rattle.cheri_model.specs.steps.Actions.{Branch, action}
 use Rattle.cheri_model.specs.declared.trace.Trap.{Trap}
-use Rattle.cheri_model.specs.declared.trace.Outcome.{Outcome}
 use Rattle.cheri_model.specs.declared.trace.Outcome.TheVariants as outcome
-use Rattle.cheri_model.specs.steps.Hart.{HartState, null, register}
-use Rattle.cheri_model.specs.steps.Checks.{CheckLine, verdict_of, first_failing, fetch_table, access_table, target_table, jump_table, invoke_table, size_of, is_load, is_store, stores_capability, is_tagged, is_global, has_type}
+use Rattle.cheri_model.specs.steps.Hart.{HartState, register}
+use Rattle.cheri_model.specs.steps.Checks.{CheckLine, verdict_of, first_failing, fetch_table, access_table, target_table, jump_table, invoke_table, size_of, stores_capability, is_tagged, is_global}
 use Rattle.cheri_model.specs.steps.HartStep.{Stepped, trapped, unless_trapped, execute, hart_step, instruction_at}
-use Rattle.origins.specs.declared.place.Spot.TheVariants.{Pcc, Register}
+use Rattle.origins.specs.declared.place.Spot.TheVariants.{Register}
 use Rattle.origins.specs.Places.{value_at_spot}
 use Rattle.origins.specs.Flows.{IsSpot}
 use Rattle.facts.specs.declared.step_facts.UpToTwo.TheVariants.{One, Two}
-use Rattle.facts.specs.declared.step_facts.Extent.{Extent}
-use Rattle.facts.specs.declared.why.TrapWhy.{TrapWhy}
 use Rattle.facts.specs.Names.{EachIs, extent, reads_of}
-use Rattle.facts.specs.Traps.{name_of, named_by, checked_bytes, checked_by, stored_by, is_invoke, access_why, why_of_cause, trap_why}
+use Rattle.facts.specs.Traps.{checked_bytes, checked_by, stored_by, is_invoke, access_why, why_of_cause, trap_why}
 use Rattle.facts.specs.StepFacts.{fetched_by, fetched_of}
 use Rattle.facts.specs.TrapsLaw.{IsTrapSo, ReadsRegisters, step_trap_why}
 
@@ -75,14 +72,25 @@ module _ (count : ℕ) (hart : HartState) (memory : List CapValue) where
 
   pub fetch_so : (trap : Trap) → first_failing (fetch_table hart.pcc count) ≡ Err trap → Shows None trap
   unfolding fetch_table EachLine why_of_cause
-  fetch_so trap err = from_lines (Shows None) trap (fetch_table hart.pcc count)
-      (λ fails. not_true _ fails,
-      (λ fails. (fails, refl),
-      (λ fails. lacks_execute None 32 (not_true _ fails),
-      (λ fails. (not_true _ fails, refl, refl),
-      (λ fails. not_true _ fails,
-      (λ fails. not_true _ fails,
-      tt)))))) err
+  fetch_so trap err = from_lines (Shows None) trap (fetch_table hart.pcc count) (
+    λ fails. not_true _ fails,
+    (
+      λ fails. (fails, refl),
+      (
+        λ fails. lacks_execute None 32 (not_true _ fails),
+        (
+          λ fails. (not_true _ fails, refl, refl),
+          (
+            λ fails. not_true _ fails,
+            (
+              λ fails. not_true _ fails,
+              tt,
+            ),
+          ),
+        ),
+      ),
+    ),
+  ) err
 
   -- ---- an instruction
 
@@ -137,19 +145,38 @@ module _ (count : ℕ) (hart : HartState) (memory : List CapValue) where
       first_failing (access_table (register hart c1) c1 addr kind stored memory) ≡ Err trap → Shows (Some i) trap
   unfolding access_table EachLine why_of_cause access_why
   access_so i c1 addr kind stored trap below bytes plain is err =
-      from_lines (Shows (Some i)) trap (access_table (register hart c1) c1 addr kind stored memory)
-      (λ fails. of_register (Some i) 1 c1 below (not_true _ fails),
-      (λ fails. of_register (Some i) 2 c1 below (seal_so i c1 plain fails),
-      (λ fails. of_register (Some i) 4 c1 below (not_true _ (second_part _ _ fails)),
-      (λ fails. of_register (Some i) 5 c1 below (not_true _ (second_part _ _ fails)),
-      (λ fails. of_register (Some i) 6 c1 below (not_true _ (second_part _ _ fails), stored_tagged i _ stored is (first_part _ _ fails)),
-      (λ fails. of_register (Some i) 7 c1 below
-        (not_true _ (second_part _ _ fails), stored_tagged i _ stored is (first_part _ _ (first_part _ _ fails)),
-        stored_local i _ stored is (first_part _ _ (first_part _ _ (first_part _ _ fails))) (second_part _ _ (first_part _ _ fails))),
-      (λ fails. of_register (Some i) 8 c1 below (bytes_so i c1 addr (size_of kind) bytes (not_true _ fails)),
-      (λ fails. of_register (Some i) 9 c1 below (aligned_so i c1 addr (size_of kind) bytes (not_true _ fails)),
-      (λ fails. of_register (Some i) 10 c1 below (placed_so i c1 addr (size_of kind) bytes (not_true _ fails)),
-      tt))))))))) err
+      from_lines (Shows (Some i)) trap (access_table (register hart c1) c1 addr kind stored memory) (
+        λ fails. of_register (Some i) 1 c1 below (not_true _ fails),
+        (
+          λ fails. of_register (Some i) 2 c1 below (seal_so i c1 plain fails),
+          (
+            λ fails. of_register (Some i) 4 c1 below (not_true _ (second_part _ _ fails)),
+            (
+              λ fails. of_register (Some i) 5 c1 below (not_true _ (second_part _ _ fails)),
+              (
+                λ fails. of_register (Some i) 6 c1 below (not_true _ (second_part _ _ fails), stored_tagged i _ stored is (first_part _ _ fails)),
+                (
+                  λ fails. of_register (Some i) 7 c1 below (
+                    not_true _ (second_part _ _ fails),
+                    stored_tagged i _ stored is (first_part _ _ (first_part _ _ fails)),
+                    stored_local i _ stored is (first_part _ _ (first_part _ _ (first_part _ _ fails))) (second_part _ _ (first_part _ _ fails)),
+                  ),
+                  (
+                    λ fails. of_register (Some i) 8 c1 below (bytes_so i c1 addr (size_of kind) bytes (not_true _ fails)),
+                    (
+                      λ fails. of_register (Some i) 9 c1 below (aligned_so i c1 addr (size_of kind) bytes (not_true _ fails)),
+                      (
+                        λ fails. of_register (Some i) 10 c1 below (placed_so i c1 addr (size_of kind) bytes (not_true _ fails)),
+                        tt,
+                      ),
+                    ),
+                  ),
+                ),
+              ),
+            ),
+          ),
+        ),
+      ) err
 
   target_so : (i : Instr) (target : ℕ) (trap : Trap) → checked_bytes (Some i) hart ≡ extent target 4 →
       first_failing (target_table hart.pcc target) ≡ Err trap → Shows (Some i) trap
@@ -180,32 +207,62 @@ module _ (count : ℕ) (hart : HartState) (memory : List CapValue) where
       first_failing (jump_table (register hart c1) c1 is_entry target) ≡ Err trap → Shows (Some i) trap
   unfolding jump_table EachLine why_of_cause
   jump_so i c1 is_entry target trap below bytes plain err =
-      from_lines (Shows (Some i)) trap (jump_table (register hart c1) c1 is_entry target)
-      (λ fails. of_register (Some i) 1 c1 below (not_true _ fails),
-      (λ fails. of_register (Some i) 2 c1 below (seal_so i c1 plain (sealed_of _ is_entry fails)),
-      (λ fails. of_register (Some i) 3 c1 below (executes_so i c1 (not_true _ fails)),
-      (λ fails. of_register (Some i) 8 c1 below (bytes_so i c1 target 4 bytes (not_true _ fails)),
-      (λ fails. of_register (Some i) 9 c1 below (aligned_so i c1 target 4 bytes (not_true _ fails)),
-      tt))))) err
+      from_lines (Shows (Some i)) trap (jump_table (register hart c1) c1 is_entry target) (
+        λ fails. of_register (Some i) 1 c1 below (not_true _ fails),
+        (
+          λ fails. of_register (Some i) 2 c1 below (seal_so i c1 plain (sealed_of _ is_entry fails)),
+          (
+            λ fails. of_register (Some i) 3 c1 below (executes_so i c1 (not_true _ fails)),
+            (
+              λ fails. of_register (Some i) 8 c1 below (bytes_so i c1 target 4 bytes (not_true _ fails)),
+              (
+                λ fails. of_register (Some i) 9 c1 below (aligned_so i c1 target 4 bytes (not_true _ fails)),
+                tt,
+              ),
+            ),
+          ),
+        ),
+      ) err
 
   invoke_so : (c1 c2 target : ℕ) (trap : Trap) → c1 < 32 → c2 < 32 → checked_bytes (Some (instr.CInvoke c1 c2)) hart ≡ extent target 4 →
       first_failing (invoke_table (register hart c1) c1 (register hart c2) c2 target) ≡ Err trap → Shows (Some (instr.CInvoke c1 c2)) trap
   unfolding invoke_table EachLine why_of_cause access_why
   invoke_so c1 c2 target trap below below2 bytes err =
       let i = instr.CInvoke c1 c2 in
-      from_lines (Shows (Some i)) trap (invoke_table (register hart c1) c1 (register hart c2) c2 target)
-      (λ fails. of_register (Some i) 1 c1 below (not_true _ fails),
-      (λ fails. of_register (Some i) 1 c2 below2 (not_true _ fails),
-      (λ fails. of_register (Some i) 2 c1 below (not_true _ fails),
-      (λ fails. of_register (Some i) 2 c2 below2 (not_true _ fails),
-      (λ fails. of_register (Some i) 12 c1 below (not_true _ fails),
-      (λ fails. of_register (Some i) 13 c1 below (not_true _ fails),
-      (λ fails. of_register (Some i) 13 c2 below2 (not_true _ fails),
-      (λ fails. of_register (Some i) 3 c1 below (executes_so i c1 (not_true _ fails)),
-      (λ fails. of_register (Some i) 3 c2 below2 (data_so i c2 fails),
-      (λ fails. of_register (Some i) 8 c1 below (bytes_so i c1 target 4 bytes (not_true _ fails)),
-      (λ fails. of_register (Some i) 9 c1 below (aligned_so i c1 target 4 bytes (not_true _ fails)),
-      tt))))))))))) err
+      from_lines (Shows (Some i)) trap (invoke_table (register hart c1) c1 (register hart c2) c2 target) (
+        λ fails. of_register (Some i) 1 c1 below (not_true _ fails),
+        (
+          λ fails. of_register (Some i) 1 c2 below2 (not_true _ fails),
+          (
+            λ fails. of_register (Some i) 2 c1 below (not_true _ fails),
+            (
+              λ fails. of_register (Some i) 2 c2 below2 (not_true _ fails),
+              (
+                λ fails. of_register (Some i) 12 c1 below (not_true _ fails),
+                (
+                  λ fails. of_register (Some i) 13 c1 below (not_true _ fails),
+                  (
+                    λ fails. of_register (Some i) 13 c2 below2 (not_true _ fails),
+                    (
+                      λ fails. of_register (Some i) 3 c1 below (executes_so i c1 (not_true _ fails)),
+                      (
+                        λ fails. of_register (Some i) 3 c2 below2 (data_so i c2 fails),
+                        (
+                          λ fails. of_register (Some i) 8 c1 below (bytes_so i c1 target 4 bytes (not_true _ fails)),
+                          (
+                            λ fails. of_register (Some i) 9 c1 below (aligned_so i c1 target 4 bytes (not_true _ fails)),
+                            tt,
+                          ),
+                        ),
+                      ),
+                    ),
+                  ),
+                ),
+              ),
+            ),
+          ),
+        ),
+      ) err
 
   -- a step whose check did not pass traps so
   checked : (r : Result (Unit {0}) Trap) (after : Stepped) (trap : Trap) → after.outcome ≡ outcome.Done →

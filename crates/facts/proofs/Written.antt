@@ -1,6 +1,5 @@
 -- What an instruction writes is the result of its derivation, or has no tag.
-use Rattle.std.proofs.Common.{ℕ, refl}
-use Rattle.cap_model.specs.results.CapInstructions.{capability_result}
+use Rattle.std.proofs.Common.{refl}
 use Rattle.cheri_model.specs.declared.instr.Instr.{Instr}
 use Rattle.cheri_model.specs.declared.instr.Instr.TheVariants as instr
 use Rattle.cheri_model.specs.steps.Hart.{HartState}

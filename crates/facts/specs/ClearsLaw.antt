@@ -9,8 +9,8 @@ use Rattle.cheri_model.specs.declared.instr.Instr.{Instr}
 use Rattle.cheri_model.specs.declared.instr.Instr.TheVariants as instr
 use Rattle.cheri_model.specs.steps.Hart.{HartState, register}
 use Rattle.cheri_model.specs.steps.Memory.{load_capability}
-use Rattle.cheri_model.specs.steps.Actions.{Action, Put, Load, Store, LoadCap, StoreCap, Swap}
-use Rattle.cheri_model.specs.steps.Actions.{Branch, Jump, JumpThrough, Invoke, Halt, action}
+use Rattle.cheri_model.specs.steps.Actions.{Action, Put, Store, LoadCap, Swap}
+use Rattle.cheri_model.specs.steps.Actions.{action}
 use Rattle.cheri_model.specs.steps.HartStep.{permitted}
 use Rattle.origins.specs.declared.place.Spot.{Spot}
 use Rattle.origins.specs.declared.place.Spot.TheVariants.{Pcc, Register, Granule}

@@ -17,8 +17,8 @@ use Rattle.cap_model.specs.results.CapInstructions as cap
 use Rattle.cap_model.specs.results.Reasons.{reasons}
 use Rattle.cheri_model.specs.declared.instr.Instr.{Instr}
 use Rattle.cheri_model.specs.steps.Hart.{HartState, register}
-use Rattle.cheri_model.specs.steps.Actions.{Action, Put, Load, Store, LoadCap, StoreCap, Swap}
-use Rattle.cheri_model.specs.steps.Actions.{Branch, Jump, JumpThrough, Invoke, Halt, action}
+use Rattle.cheri_model.specs.steps.Actions.{Action, Put, Store, LoadCap, Swap}
+use Rattle.cheri_model.specs.steps.Actions.{action}
 use Rattle.origins.specs.declared.place.Spot.{Spot}
 use Rattle.origins.specs.declared.place.Spot.TheVariants.{Register}
 use Rattle.facts.specs.declared.operands.Operands.{Operands}

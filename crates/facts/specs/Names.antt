@@ -1,13 +1,10 @@
 -- Which places an instruction reads and sets, and which bytes it accesses.
 use Rattle.std.specs.Prelude.{ℕ, ◌==◌, Bool, true, false, if◌then◌else◌, List, [], ◌∷◌}
 use Rattle.std.specs.Prelude.{Option, Some, None, ⊤}
-use Rattle.cheri_model.specs.declared.instr.Instr.{Instr}
-use Rattle.cheri_model.specs.declared.instr.Instr.TheVariants as instr
 use Rattle.cheri_model.specs.declared.form.Form.{Form}
 use Rattle.cheri_model.specs.declared.form.Form.TheVariants as form
 use Rattle.cheri_model.specs.declared.form.LoadOp.{LoadOp}
 use Rattle.cheri_model.specs.declared.form.LoadOp.TheVariants.{CJalr}
-use Rattle.cheri_model.specs.declared.form.UpperOp.{UpperOp}
 use Rattle.cheri_model.specs.declared.form.UpperOp.TheVariants.{Lui, AuiPcc}
 use Rattle.cheri_model.specs.declared.memory.TheConstants.{GRANULE_BYTES}
 use Rattle.cheri_model.specs.steps.Memory.{bytes_of}

@@ -1,5 +1,5 @@
 -- The facts of one step.
-use Rattle.std.specs.Prelude.{ℕ, ◌-◌, ◌/◌, true, false, if◌then◌else◌, List, length, Option, Some}
+use Rattle.std.specs.Prelude.{ℕ, ◌-◌, ◌/◌, if◌then◌else◌, List, length, Option, Some}
 use Rattle.std.specs.Prelude.{None, Result, Ok, Err}
 use Rattle.std.specs.Option.{option_map}
 use Rattle.cap_model.specs.values.CapValue.{CapValue, tag_of}
@@ -21,13 +21,11 @@ use Rattle.origins.specs.declared.place.Spot.{Spot}
 use Rattle.origins.specs.Places.{value_at_spot, place_of}
 use Rattle.origins.specs.Flows.{granule_of, step_flows}
 use Rattle.origins.specs.Origins.{Origins, before_flows}
-use Rattle.facts.specs.declared.step_facts.UpToTwo.{UpToTwo}
 use Rattle.facts.specs.declared.step_facts.UpToTwo.TheVariants.{Zero}
 use Rattle.facts.specs.declared.step_facts.NamedValue.{NamedValue}
 use Rattle.facts.specs.declared.step_facts.Extent.{Extent}
 use Rattle.facts.specs.declared.step_facts.Fetched.{Fetched}
 use Rattle.facts.specs.declared.step_facts.Trapped.{Trapped}
-use Rattle.facts.specs.declared.step_facts.Cleared.{Cleared}
 use Rattle.facts.specs.declared.step_facts.StepFacts.{StepFacts}
 use Rattle.facts.specs.Names.{each_of, reads_of, access_of, is_store, sets_of}
 use Rattle.facts.specs.Losses.{clears_of}

@@ -1,5 +1,5 @@
 -- Parts that several tables of reasons share, each with the numbers that its lines speak of.
-use Rattle.std.specs.Prelude.{ℕ, ◌+◌, ◌/◌, ◌^◌, ◌==◌, nat_lt, Bool, not, if◌then◌else◌, bit_and, Option, Some}
+use Rattle.std.specs.Prelude.{ℕ, ◌+◌, ◌/◌, ◌^◌, ◌==◌, nat_lt, not, if◌then◌else◌, bit_and, Option, Some}
 use Rattle.std.specs.Prelude.{None}
 use Rattle.cap_model.specs.values.Capability.{sentry_type}
 use Rattle.cap_model.specs.values.CapValue.{bits_of, tag_of}

@@ -88,12 +88,11 @@ pub fn access_of(action: &Action) -> Option<Extent>
             address: addr,
             bytes: width.bytes(),
         }),
-        Action::LoadCap { addr, .. }
-        | Action::StoreCap { addr, .. }
-        | Action::Swap { addr, .. } => Some(Extent {
-            address: addr,
-            bytes: u64::from(GRANULE_BYTES),
-        }),
+        Action::LoadCap { addr, .. } | Action::StoreCap { addr, .. } | Action::Swap { addr, .. } =>
+            Some(Extent {
+                address: addr,
+                bytes: u64::from(GRANULE_BYTES),
+            }),
         Action::Put { .. }
         | Action::Branch { .. }
         | Action::Jump { .. }

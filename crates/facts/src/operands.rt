@@ -15,8 +15,8 @@ ghost use Rattle.facts.specs.Operands.{operands, operands_by, derivation_of, mod
 ghost use Rattle.cheri_model.specs.declared.instr.Instr.TheVariants.{CSetBoundsImm};
 
 use cap_ops::Cap;
-use cheri_model::form::{Form, ImmediateOp, ThreeOp, TwoOp, UpperOp};
 use cheri_model::Reg;
+use cheri_model::form::{Form, ImmediateOp, ThreeOp, TwoOp, UpperOp};
 use hart::Hart;
 use instructions::{immediate, upper_immediate};
 use origins::Spot;

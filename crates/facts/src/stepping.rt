@@ -144,13 +144,7 @@ pub struct Seen {
 }
 
 /// The first half of a step's facts, before it.
-fn seen_before(
-    fetched: &Fetched,
-    number: u8,
-    hart: &Hart,
-    ram: &Ram,
-    origins: &OriginTable,
-) -> Seen
+fn seen_before(fetched: &Fetched, number: u8, hart: &Hart, ram: &Ram, origins: &OriginTable) -> Seen
     requires { IsTableFor origins.now number (length ram.now) }
     ensures same { result.fetched ≡ fetched.now }
     ensures seen { (from : Origins) → Tells origins.now from →

@@ -89,12 +89,7 @@ fn hart_in(harts: &[Hart], number: usize) -> Hart
 }
 
 /// The same of all harts, of which there are at most 256.
-fn add_harts(
-    places: &mut Vec<Place>,
-    harts: &[Hart],
-    lo: u64,
-    hi: u128,
-) -> Result<(), NoMemory>
+fn add_harts(places: &mut Vec<Place>, harts: &[Hart], lo: u64, hi: u128) -> Result<(), NoMemory>
     requires { length harts.now ≤ 255 }
     ensures { OnOk result (places.new.items
         ≡ places.old.items ++ swept_in_harts lo hi harts.now (length harts.now)) }
@@ -107,12 +102,7 @@ fn add_harts(
 }
 
 /// The same of all granules.
-fn add_granules(
-    places: &mut Vec<Place>,
-    ram: &Ram,
-    lo: u64,
-    hi: u128,
-) -> Result<(), NoMemory>
+fn add_granules(places: &mut Vec<Place>, ram: &Ram, lo: u64, hi: u128) -> Result<(), NoMemory>
     ensures { OnOk result (places.new.items ≡ places.old.items
         ++ swept_among Place.GranuleOf (granule_at ram.now) lo hi (length ram.now)) }
 {

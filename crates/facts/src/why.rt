@@ -13,7 +13,10 @@ pub enum Why {
     /// The upper half is replaced.
     UpperReplaced,
     /// A register is sealed with this object type, and may not be.
-    Sealed { name: Spot, otype: OType },
+    Sealed {
+        name: Spot,
+        otype: OType,
+    },
     /// The new address is outside the representable region, which has 2^`power` bytes from `start`
     /// on, modulo 2^64.
     OutsideRegion {
@@ -22,15 +25,29 @@ pub enum Why {
         start: u64,
     },
     /// The requested or rebuilt base is below the source's.
-    BaseBelow { base: u64, limit: u64 },
+    BaseBelow {
+        base: u64,
+        limit: u64,
+    },
     /// The end of the requested range is above the source's top.
-    EndAbove { end: u128, limit: u128 },
+    EndAbove {
+        end: u128,
+        limit: u128,
+    },
     /// The requested range can't be encoded: it rounds to these bounds.
-    Rounds { base: u64, top: u128 },
+    Rounds {
+        base: u64,
+        top: u128,
+    },
     /// A register lacks the permission with this number.
-    Lacks { name: Spot, permission: u32 },
+    Lacks {
+        name: Spot,
+        permission: u32,
+    },
     /// A register is untagged.
-    Untagged { name: Spot },
+    Untagged {
+        name: Spot,
+    },
     /// The object type, which is the authority's address, is outside its bounds.
     TypeOutside {
         otype: u64,
@@ -39,11 +56,17 @@ pub enum Why {
         authority: Spot,
     },
     /// No capability can be sealed with the object type: it is above the last sealable one.
-    TypeAbove { otype: u64 },
+    TypeAbove {
+        otype: u64,
+    },
     /// The source, which is to be unsealed, is not sealed.
-    NotSealed { name: Spot },
+    NotSealed {
+        name: Spot,
+    },
     /// The source, which is to be unsealed, is a sentry.
-    Sentry { name: Spot },
+    Sentry {
+        name: Spot,
+    },
     /// The authority's address is another object type than the source's.
     TypeDiffers {
         otype: u64,
@@ -51,11 +74,19 @@ pub enum Why {
         sealed: OType,
     },
     /// The word that is rebuilt has a reserved bit.
-    ReservedBits { name: Spot },
+    ReservedBits {
+        name: Spot,
+    },
     /// The rebuilt top is above the source's.
-    TopAbove { top: u128, limit: u128 },
+    TopAbove {
+        top: u128,
+        limit: u128,
+    },
     /// The word that is rebuilt has its base above its top.
-    BaseAboveTop { base: u64, top: u128 },
+    BaseAboveTop {
+        base: u64,
+        top: u128,
+    },
     /// The word that is rebuilt has these permissions, which the source lacks.
     MorePermissions {
         name: Spot,
@@ -64,7 +95,9 @@ pub enum Why {
     },
     /// The bounds of the word that is rebuilt are no multiples of their length's alignment. No word
     /// has such bounds.
-    NotAligned { alignment: u64 },
+    NotAligned {
+        alignment: u64,
+    },
     /// Data was stored over a capability.
     DataStored,
 }
@@ -74,19 +107,37 @@ pub enum Why {
 #[derive(Clone, Copy, Debug, PartialEq, Eq)]
 pub enum TrapWhy {
     /// The register is untagged.
-    Untagged { name: Spot },
+    Untagged {
+        name: Spot,
+    },
     /// The register is sealed with this object type.
-    Sealed { name: Spot, otype: OType },
+    Sealed {
+        name: Spot,
+        otype: OType,
+    },
     /// The register is not sealed with a type that can be invoked.
-    NotInvocable { name: Spot },
+    NotInvocable {
+        name: Spot,
+    },
     /// The register lacks the permission with this number.
-    Lacks { name: Spot, permission: u32 },
+    Lacks {
+        name: Spot,
+        permission: u32,
+    },
     /// The register has Execute, which invoked data may not have.
-    HasExecute { name: Spot },
+    HasExecute {
+        name: Spot,
+    },
     /// The register lacks Store_Capability, and what is stored is tagged.
-    LacksStoreCap { name: Spot, stored: Spot },
+    LacksStoreCap {
+        name: Spot,
+        stored: Spot,
+    },
     /// The register lacks Store_Local_Capability, and what is stored is tagged and not Global.
-    LacksStoreLocal { name: Spot, stored: Spot },
+    LacksStoreLocal {
+        name: Spot,
+        stored: Spot,
+    },
     /// These bytes are not in the register's bounds.
     Outside {
         bytes: u64,
@@ -96,11 +147,22 @@ pub enum TrapWhy {
         name: Spot,
     },
     /// The address is no multiple of the count of bytes.
-    Misaligned { address: u64, bytes: u64 },
+    Misaligned {
+        address: u64,
+        bytes: u64,
+    },
     /// These bytes are not in RAM.
-    NotInRam { bytes: u64, address: u64 },
+    NotInRam {
+        bytes: u64,
+        address: u64,
+    },
     /// No instruction is at PCC's address.
-    NoInstruction { address: u64 },
+    NoInstruction {
+        address: u64,
+    },
     /// The object types of the invoked pair of code and data differ.
-    TypesDiffer { code: OType, data: OType },
+    TypesDiffer {
+        code: OType,
+        data: OType,
+    },
 }

@@ -5,8 +5,8 @@ ghost use Rattle.graph_search.specs.Graphs.{LeadsTo};
 ghost use Rattle.graph_search.specs.Doubling.{number_of, below};
 
 use crate::graphs::Graph;
-use crate::reached::Reached;
 use crate::progress::{CountedProgress, NoProgress};
+use crate::reached::Reached;
 use crate::search::explore;
 use std::alloc::AllocError;
 use std::test::Fail;

@@ -1,4 +1,6 @@
+pub mod Open
 pub mod HexDigits
 pub mod Items
 pub mod JsonLemmas
 pub mod JsonTexts
+pub mod JsonLists

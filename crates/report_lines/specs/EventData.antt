@@ -3,28 +3,33 @@ use Rattle.std.specs.Prelude.{ℕ, List, length, codes}
 use Rattle.serde_json.specs.Data.{Data, string, object, Members, no_members, member}
 use Rattle.cheri_model.specs.declared.operation.Event.{Event}
 use Rattle.cheri_model.specs.declared.operation.Event.TheVariants as event
+use Rattle.cheri_model.specs.declared.trace.Trap.{Trap}
 use Rattle.cheri_model.specs.declared.trace.Outcome.{Outcome}
 use Rattle.cheri_model.specs.declared.trace.Outcome.TheVariants as outcome
 use Rattle.cheri_model.specs.runs.Image.{ImageParts}
 use Rattle.report_lines.specs.ValueData.{count}
 use Rattle.report_lines.specs.ValueText.{hex_text}
 
--- a step: the hart, how it ended, and PCC's address before it
-abbrev pub step_members : Data → Data → Outcome → Members
-step_members hart pc outcome.Done =
+-- a step without a trap, by the word for how it ended: the hart, and PCC's address before it
+abbrev pub ended_members : Data → Data → List ℕ → Members
+ended_members hart pc word =
     member (codes "hart") hart
-    (member (codes "outcome") (string (codes "done"))
+    (member (codes "outcome") (string word)
     (member (codes "pc") pc no_members))
-step_members hart pc outcome.Halt =
-    member (codes "hart") hart
-    (member (codes "outcome") (string (codes "halt"))
-    (member (codes "pc") pc no_members))
-step_members hart pc (outcome.Trap trap) =
+
+-- a step that trapped: the same, and the trap's cause and register
+abbrev pub trapped_members : Data → Data → Trap → Members
+trapped_members hart pc trap =
     member (codes "cause") (count trap.cause)
     (member (codes "hart") hart
     (member (codes "outcome") (string (codes "trap"))
     (member (codes "pc") pc
     (member (codes "reg") (count trap.reg) no_members))))
+
+abbrev pub step_members : Data → Data → Outcome → Members
+step_members hart pc outcome.Done = ended_members hart pc (codes "done")
+step_members hart pc outcome.Halt = ended_members hart pc (codes "halt")
+step_members hart pc (outcome.Trap trap) = trapped_members hart pc trap
 
 -- a sweep, by the texts of its range's ends: how many tags it cleared
 abbrev pub sweep_members : List ℕ → List ℕ → ℕ → Members

@@ -5,3 +5,4 @@ pub mod EventText
 pub mod Lines
 pub mod ValueData
 pub mod EventData
+pub mod JsonText

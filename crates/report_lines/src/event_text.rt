@@ -1,5 +1,7 @@
 //! Outcomes, statuses and events as texts.
 
+#![tactic(auto, unfolding(crate::proofs::Open::event_texts))]
+
 ghost use Rattle.std.specs.Prelude.{◌≡◌, ◌++◌, OnOk, Some, string_bytes};
 ghost use Rattle.std.specs.Fmt.{DisplaysOnOk};
 ghost use Rattle.cheri_model.specs.declared.operation.Event.TheVariants as event;
@@ -57,7 +59,6 @@ impl fmt::Display for StatusText {
 }
 
 /// Appends how a step ended, after a space. Most steps are done.
-#[tactic(auto, unfolding(crate::specs::EventText::ending))]
 fn write_ending(out: &mut String, outcome: Outcome) -> Result<(), NoMemory>
     ensures { OnOk result (string_bytes out.new ≡ string_bytes out.old ++ ending outcome) }
 {
@@ -84,7 +85,6 @@ fn write_step(out: &mut String, number: usize, entry: &Entry) -> Result<(), NoMe
 }
 
 /// Appends a sweep after its number.
-#[tactic(auto, unfolding(crate::specs::EventText::event_text))]
 fn write_sweep(
     out: &mut String,
     number: usize,

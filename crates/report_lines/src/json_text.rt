@@ -1,7 +1,8 @@
 //! JSON as text, part by part, so that no long value is ever whole.
 
+#![tactic(auto, using(crate::proofs::JsonLemmas::floatless), unfolding(crate::proofs::Open::events))]
+
 ghost use Rattle.std.specs.Prelude.{◌≡◌, ◌++◌, OnOk, false, string_bytes};
-ghost use Rattle.cheri_model.specs.declared.operation.Event.TheVariants as event;
 ghost use Rattle.cheri_model.specs.declared.trace.Outcome.TheVariants as outcome;
 ghost use Rattle.serde_json.specs.Data.{object, string};
 ghost use Rattle.serde_json.specs.View.{view as data_of};
@@ -11,7 +12,7 @@ ghost use Rattle.report_lines.specs.ValueData.{count};
 ghost use Rattle.report_lines.specs.ValueText.{hex_text};
 
 use crate::digits::HexWord;
-use crate::event_data::{event_json, step_json};
+use crate::event_data::event_json;
 use cheri_model::{Entry, Event, NoMemory, Outcome};
 use itoa::Buffer;
 use serde_json::Value;
@@ -51,26 +52,19 @@ fn write_done(out: &mut String, hart: u8, pc: u64) -> Result<(), NoMemory>
     Ok(())
 }
 
-/// Appends a step.
-#[tactic(auto, using(crate::proofs::JsonLemmas::floatless), unfolding(crate::specs::EventData::event_members))]
-fn write_step_json(alloc: Global, out: &mut String, entry: &Entry) -> Result<(), NoMemory>
-    ensures { OnOk result (string_bytes out.new
-        ≡ string_bytes out.old ++ compact_text (event_data (event.Step entry.now))) }
-{
-    match entry.outcome {
-        Outcome::Done => write_done(out, entry.hart, entry.pc),
-        _ => write_json_value(alloc, out, step_json(alloc, entry)?),
-    }
-}
-
 /// Appends an event of a trace.
-#[tactic(auto, using(crate::proofs::JsonLemmas::floatless))]
 pub fn write_event_json(alloc: Global, out: &mut String, event: &Event) -> Result<(), NoMemory>
     ensures { OnOk result (string_bytes out.new
         ≡ string_bytes out.old ++ compact_text (event_data event.now)) }
 {
     match event {
-        Event::Step(entry) => write_step_json(alloc, out, entry),
-        Event::Sweep { .. } => write_json_value(alloc, out, event_json(alloc, event)?),
+        Event::Step(
+            Entry {
+                hart,
+                pc,
+                outcome: Outcome::Done,
+            },
+        ) => write_done(out, *hart, *pc),
+        _ => write_json_value(alloc, out, event_json(alloc, event)?),
     }
 }

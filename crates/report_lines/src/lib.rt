@@ -12,7 +12,7 @@ mod value_data;
 mod value_text;
 
 pub use digits::{Hex, HexWord, MOST_DIGITS};
-pub use event_data::{event_json, image_json};
+pub use event_data::{event_json, event_members, image_json};
 pub use event_text::{OutcomeText, StatusText, write_event};
 pub use json_text::{write_comma, write_event_json, write_json_value};
 pub use lines::{
@@ -20,5 +20,5 @@ pub use lines::{
     write_register_line, write_status_line,
 };
 pub use names::{CauseName, PlaceName, granule_address};
-pub use value_data::{put_granule, put_register, value_json};
-pub use value_text::{TypeText, ValueText, Word, is_listed};
+pub use value_data::{put_granule, put_register, value_json, value_members};
+pub use value_text::{TypeText, ValueText, Word, is_listed, write_value};

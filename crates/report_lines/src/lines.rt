@@ -1,5 +1,7 @@
 //! Lines that a report is made of. Each call appends one to a text.
 
+#![tactic(auto, unfolding(crate::proofs::Open::lines))]
+
 ghost use Rattle.std.specs.Prelude.{◌≡◌, ◌++◌, OnOk, string_bytes};
 ghost use Rattle.report_lines.specs.Lines.{count_line, event_line, granule_line, image_line};
 ghost use Rattle.report_lines.specs.Lines.{pcc_line, register_line, status_line};
@@ -11,7 +13,6 @@ use cap_ops::Cap;
 use cheri_model::{Event, Image, NoMemory, Status};
 
 /// Appends the line of an image: how many harts, bytes of RAM and instructions it has.
-#[tactic(auto, unfolding(crate::specs::Lines::image_line))]
 pub fn write_image_line(out: &mut String, image: &Image) -> Result<(), NoMemory>
     ensures { OnOk result (string_bytes out.new ≡ string_bytes out.old ++ image_line image.now) }
 {
@@ -21,7 +22,6 @@ pub fn write_image_line(out: &mut String, image: &Image) -> Result<(), NoMemory>
 }
 
 /// Appends the line that says how many events a trace has.
-#[tactic(auto, unfolding(crate::specs::Lines::count_line))]
 pub fn write_count_line(out: &mut String, count: usize) -> Result<(), NoMemory>
     ensures { OnOk result (string_bytes out.new ≡ string_bytes out.old ++ count_line count) }
 {
@@ -29,7 +29,6 @@ pub fn write_count_line(out: &mut String, count: usize) -> Result<(), NoMemory>
 }
 
 /// Appends the line of an event, by its number from 0 on.
-#[tactic(auto, unfolding(crate::specs::Lines::event_line))]
 pub fn write_event_line(out: &mut String, number: usize, event: &Event) -> Result<(), NoMemory>
     ensures { OnOk result (string_bytes out.new
         ≡ string_bytes out.old ++ event_line number event.now) }
@@ -39,7 +38,6 @@ pub fn write_event_line(out: &mut String, number: usize, event: &Event) -> Resul
 }
 
 /// Appends the line of a hart's number and status.
-#[tactic(auto, unfolding(crate::specs::Lines::status_line))]
 pub fn write_status_line(out: &mut String, number: usize, status: Status) -> Result<(), NoMemory>
     ensures { OnOk result (string_bytes out.new
         ≡ string_bytes out.old ++ status_line number status) }
@@ -48,7 +46,6 @@ pub fn write_status_line(out: &mut String, number: usize, status: Status) -> Res
 }
 
 /// Appends the line of a PCC.
-#[tactic(auto, unfolding(crate::specs::Lines::pcc_line))]
 pub fn write_pcc_line(out: &mut String, pcc: Cap) -> Result<(), NoMemory>
     ensures { OnOk result (string_bytes out.new ≡ string_bytes out.old ++ pcc_line pcc) }
 {
@@ -56,7 +53,6 @@ pub fn write_pcc_line(out: &mut String, pcc: Cap) -> Result<(), NoMemory>
 }
 
 /// Appends the line of a register, unless it is null.
-#[tactic(auto, unfolding(crate::specs::Lines::register_line))]
 pub fn write_register_line(out: &mut String, number: u8, held: Cap) -> Result<(), NoMemory>
     ensures { OnOk result (string_bytes out.new
         ≡ string_bytes out.old ++ register_line number held) }
@@ -68,7 +64,6 @@ pub fn write_register_line(out: &mut String, number: u8, held: Cap) -> Result<()
 }
 
 /// Appends the line of the granule with this number, unless it is an untagged 0.
-#[tactic(auto, unfolding(crate::specs::Lines::granule_line))]
 pub fn write_granule_line(out: &mut String, number: usize, value: Cap) -> Result<(), NoMemory>
     ensures { OnOk result (string_bytes out.new
         ≡ string_bytes out.old ++ granule_line number value) }

@@ -1,6 +1,6 @@
 //! Object types, words and values as texts.
 
-ghost use Rattle.std.specs.Prelude.{◌≡◌, Some};
+ghost use Rattle.std.specs.Prelude.{◌≡◌, ◌++◌, OnOk, Some, string_bytes};
 ghost use Rattle.std.specs.Fmt.{DisplaysOnOk};
 ghost use Rattle.cap_model.specs.values.CapValue.{parts_of};
 ghost use Rattle.cheri_model.specs.runs.ImageForm.{is_listed};
@@ -8,7 +8,8 @@ ghost use Rattle.report_lines.specs.ValueText.{parts_text, type_text, value_text
 
 use crate::digits::{Hex, HexWord};
 use cap_ops::Cap;
-use cheri_model::{OType, SENTRY_TYPE, UNSEALED_TYPE};
+use cheri_model::{NoMemory, OType, SENTRY_TYPE, UNSEALED_TYPE};
+use itoa::Buffer;
 use std::fmt;
 
 /// Whether a value is tagged or not all 0: the others have no line in a report.
@@ -79,4 +80,49 @@ impl fmt::Display for ValueText {
             write!(f, "0 {word}")
         }
     }
+}
+
+/// Appends a word. A formatter takes twice the time, and an explanation has several values an event.
+fn write_word(out: &mut String, bits: u128) -> Result<(), NoMemory>
+    ensures { OnOk result (string_bytes out.new ≡ string_bytes out.old ++ word_text bits) }
+{
+    let mut digits = Buffer::new();
+    let upper = HexWord((bits >> 64) as u64);
+    let lower = HexWord((bits & u128::from(u64::MAX)) as u64);
+    out.push_str(digits.format(upper))?;
+    out.push_str("_")?;
+    out.push_str(digits.format(lower))?;
+    Ok(())
+}
+
+/// Appends the bounds, permissions and object type of a value.
+fn write_parts(out: &mut String, value: Cap) -> Result<(), NoMemory>
+    ensures { OnOk result (string_bytes out.new
+        ≡ string_bytes out.old ++ parts_text (parts_of value)) }
+{
+    let mut digits = Buffer::new();
+    let (base, top) = value.bounds();
+    out.push_str(digits.format(HexWord(base)))?;
+    out.push_str(" ")?;
+    out.push_str(digits.format(Hex::of_top(top)))?;
+    out.push_str(" ")?;
+    out.push_str(digits.format(Hex::of_perms(value.perm())))?;
+    write!(out, " {}", TypeText(value.object_type()))?;
+    Ok(())
+}
+
+/// Appends a value, as `ValueText` shows it.
+pub fn write_value(out: &mut String, value: Cap) -> Result<(), NoMemory>
+    ensures { OnOk result (string_bytes out.new ≡ string_bytes out.old ++ value_text value) }
+{
+    if value.tag() {
+        out.push_str("1 ")?;
+        write_word(out, value.bits())?;
+        out.push_str(" ")?;
+        write_parts(out, value)?;
+    } else {
+        out.push_str("0 ")?;
+        write_word(out, value.bits())?;
+    }
+    Ok(())
 }

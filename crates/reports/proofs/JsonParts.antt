@@ -65,13 +65,14 @@ pub parts_end : (before now after : Option (List ℕ)) (out kept put shown last 
 parts_end before now after out kept put shown last whole is none so_far written last_put =
     rw is (takes_to_end before now after kept shown last (rw none at so_far) (rw written at last_put))
 
--- a part begins with what was appended before its items
+-- a part begins with what was appended before it
 same_part : (kept head out text part : List ℕ) → kept ≡ out ++ head → part ≡ head ++ text → kept ++ text ≡ out ++ part
 same_part kept head out text part is parts = rw (is, parts, append_assoc) refl
 
-pub part_taken : (before now : Option (List ℕ)) (left kept head out text part : List ℕ)
-    → kept ≡ out ++ head → part ≡ head ++ text → TakesAllBut before now left (kept ++ text) → TakesAllBut before now left (out ++ part)
-part_taken before now left kept head out text part is parts so_far = rw (same_part kept head out text part is parts) at so_far
+pub part_taken : {E : Type 0} (result : Result (Unit {0}) E) (before now : Option (List ℕ)) (left kept head out text part : List ℕ)
+    → kept ≡ out ++ head → part ≡ head ++ text → OnOk result (TakesAllBut before now left (kept ++ text))
+    → OnOk result (TakesAllBut before now left (out ++ part))
+part_taken result before now left kept head out text part is parts so_far = rw (same_part kept head out text part is parts) at so_far
 
 pub part_begun : (before now : Option (List ℕ)) (kept head out text part : List ℕ)
     → kept ≡ out ++ head → part ≡ head ++ text → TakesBeginning before now (kept ++ text) → TakesBeginning before now (out ++ part)

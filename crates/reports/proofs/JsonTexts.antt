@@ -1,51 +1,24 @@
 -- The text of the JSON report is that of its pieces.
-use Rattle.std.proofs.Common.{◌≡◌, Greater, ℕ, ◌+◌, ◌<◌, ◌≤◌, nat_lt, List, [], ◌∷◌, ◌++◌, length, map, codes, decimal, Bool, true, false, ◌||◌, if◌then◌else◌, refl, sym, ap, ◌∙◌, inl, inr, append_assoc, append-nil, arith}
-use Rattle.std.proofs.lemmas.Bool.{cases_Bool, lt-ltb}
+use Rattle.std.proofs.Common.{◌≡◌, Greater, ℕ, ◌+◌, ◌<◌, ◌≤◌, List, [], ◌∷◌, ◌++◌, length, codes, decimal, Bool, true, false, ◌||◌, if◌then◌else◌, refl, sym, ap, ◌∙◌, inl, inr, append_assoc, append-nil, arith}
+use Rattle.std.proofs.lemmas.Bool.{cases_Bool}
 use Rattle.std.specs.Cmp.Lexicographic.{slice_cmp}
 use Rattle.std.specs.Ordering.{nat_cmp}
 use Rattle.serde_json.proofs.OnLiterals.{serde_json_on_literals}
 use Rattle.serde_json.specs.Data.{Data, string, Members, no_members, member, put}
-use Rattle.serde_json.specs.View.{items_of}
-use Rattle.serde_json.specs.Written.{comma_if, compact_text, items_text, members_text}
+use Rattle.serde_json.specs.Written.{comma_if, compact_text, members_text}
 use Rattle.cheri_model.specs.declared.operation.Event.{Event}
 use Rattle.cap_model.specs.values.CapValue.{CapValue}
-use Rattle.cheri_model.specs.steps.Hart.{HartState}
 use Rattle.cheri_model.specs.runs.Image.{ImageParts}
 use Rattle.cheri_model.specs.runs.ImageForm.{is_listed}
 use Rattle.cheri_model.specs.runs.Machine.{MachineState}
-use Rattle.report_lines.specs.EventData.{event_data, image_data}
+use Rattle.report_lines.specs.EventData.{image_data}
 use Rattle.report_lines.specs.Names.{address_of_granule}
-use Rattle.report_lines.specs.Texts.{numbered}
 use Rattle.report_lines.specs.ValueData.{value_data}
 use Rattle.report_lines.specs.ValueText.{hex_text}
 use Rattle.report_lines.proofs.JsonTexts.{hex_order, plain_digits}
-use Rattle.reports.specs.Json.{hart_data, put_granules, json_report}
-use Rattle.reports.specs.JsonText.{event_item, hart_item, granule_member, granule_members, events_part, harts_part, memory_part, last_part, json_parts}
+use Rattle.reports.specs.Json.{events_data, harts_data, memory_data, put_granules, json_report}
+use Rattle.reports.specs.JsonText.{granule_member, granule_members, last_part, json_parts}
 use Rattle.reports.specs.Report.{version_of}
-
--- ---- items
-
-abbrev pub item_text : {X : Type 0} → (X → Data) → ℕ → X → List ℕ
-item_text data_of place x = comma_if (nat_lt 0 place) ++ compact_text (data_of x)
-
-pub items_are : {X : Type 0} (data_of : X → Data) (place : ℕ) (xs : List X)
-    → items_text (nat_lt 0 place) (items_of (map data_of xs)) ≡ numbered (item_text data_of) place xs ++ 93 ∷ []
-unfolding numbered
-items_are data_of place [] = refl
-items_are data_of place (x ∷ rest) =
-    let some : nat_lt 0 (place + 1) ≡ true = lt-ltb 0 (place + 1) (omega arith) in
-    let others = rw some at (items_are data_of (place + 1) rest) in
-    rw others (simp append_assoc)
-
-event_items : (place : ℕ) (events : List Event) → numbered (item_text event_data) place events ≡ numbered event_item place events
-unfolding numbered event_item
-event_items place [] = refl
-event_items place (x ∷ rest) = rw (event_items (place + 1) rest) refl
-
-hart_items : (number : ℕ) (harts : List HartState) → numbered (item_text hart_data) number harts ≡ numbered hart_item number harts
-unfolding numbered hart_item
-hart_items number [] = refl
-hart_items number (x ∷ rest) = rw (hart_items (number + 1) rest) refl
 
 -- ---- members in order
 
@@ -151,45 +124,24 @@ granules_are number (v ∷ rest) members before most = elim (cases_Bool (is_list
 
 -- ---- the whole
 
-events_are : (events : List Event) → items_text false (items_of (map event_data events)) ≡ numbered event_item 0 events ++ 93 ∷ []
-events_are events = items_are event_data 0 events ∙ ap (λ l. l ++ 93 ∷ []) (event_items 0 events)
+pub memory_text : (memory : List CapValue) → length memory ≤ 65536
+    → compact_text (memory_data memory) ≡ 123 ∷ (granule_members false 0 memory ++ 125 ∷ [])
+memory_text memory most = ap (λ (l : List ℕ). 123 ∷ l) (granules_are 0 memory no_members tt (omega arith))
 
-harts_are : (harts : List HartState) → items_text false (items_of (map hart_data harts)) ≡ numbered hart_item 0 harts ++ 93 ∷ []
-harts_are harts = items_are hart_data 0 harts ∙ ap (λ l. l ++ 93 ∷ []) (hart_items 0 harts)
-
-memory_are : (memory : List CapValue) → length memory ≤ 65536
-    → members_text false (put_granules 0 memory no_members) ≡ granule_members false 0 memory ++ 125 ∷ []
-memory_are memory most = granules_are 0 memory no_members tt (omega arith)
-
--- a report by the texts of its parts
-abbrev whole_of : List ℕ → List ℕ → List ℕ → List ℕ → List ℕ → List ℕ
-whole_of entries harts image mem version =
-    codes "{\"entries\":[" ++ (entries ++ (codes ",\"harts\":[" ++ (harts ++ (codes ",\"image\":" ++ (image
-    ++ (codes ",\"mem\":{" ++ (mem ++ (codes ",\"report\":" ++ (version ++ codes "}")))))))))
-
--- the same, regrouped by what is written after one another
-whole_regrouped : (a b c d e f x y entries harts image mem version : List ℕ)
-    → a ++ ((entries ++ x) ++ (b ++ ((harts ++ x) ++ (c ++ (image ++ (d ++ ((mem ++ y) ++ (e ++ (version ++ f)))))))))
-    ≡ ((a ++ entries) ++ (((x ++ b) ++ harts) ++ (((x ++ c) ++ (image ++ d)) ++ mem))) ++ ((y ++ e) ++ (version ++ f))
-whole_regrouped a b c d e f x y entries harts image mem version = simp append_assoc
-
-whole_text : (entries harts image mem version : List ℕ)
-    → whole_of (entries ++ 93 ∷ []) (harts ++ 93 ∷ []) image (mem ++ 125 ∷ []) version
-    ≡ ((codes "{\"entries\":[" ++ entries) ++ ((codes "],\"harts\":[" ++ harts)
-    ++ ((codes "],\"image\":" ++ image ++ codes ",\"mem\":{") ++ mem))) ++ (codes "},\"report\":" ++ (version ++ codes "}"))
-whole_text entries harts image mem version =
-    whole_regrouped (codes "{\"entries\":[") (codes ",\"harts\":[") (codes ",\"image\":") (codes ",\"mem\":{") (codes ",\"report\":")
-    (codes "}") (93 ∷ []) (125 ∷ []) entries harts image mem version
+-- a report's parts, regrouped by what is written after one another
+whole_regrouped : (a b c d e f entries harts image mem version : List ℕ)
+    → a ++ (entries ++ (b ++ (harts ++ (c ++ (image ++ (d ++ (mem ++ (e ++ (version ++ f)))))))))
+    ≡ ((a ++ entries) ++ ((b ++ harts) ++ ((c ++ (image ++ d)) ++ mem))) ++ (e ++ (version ++ f))
+whole_regrouped a b c d e f entries harts image mem version = simp append_assoc
 
 -- a report is what is shown and its end
-pub json_report_text : (image : ImageParts) (events : List Event) (state : MachineState) → length state.memory ≤ 65536
+pub json_report_text : (image : ImageParts) (events : List Event) (state : MachineState)
     → compact_text (json_report image events state) ≡ json_parts image events state ++ last_part events
-unfolding json_report json_parts events_part harts_part memory_part last_part serde_json_on_literals
-json_report_text image events state most =
-    (λ i. whole_of (events_are events i) (harts_are state.harts i) (compact_text (image_data image))
-    (memory_are state.memory most i) (decimal (version_of events)))
-    ∙ whole_text (numbered event_item 0 events) (numbered hart_item 0 state.harts) (compact_text (image_data image))
-    (granule_members false 0 state.memory) (decimal (version_of events))
+unfolding json_report json_parts last_part serde_json_on_literals
+json_report_text image events state =
+    whole_regrouped (codes "{\"entries\":") (codes ",\"harts\":") (codes ",\"image\":") (codes ",\"mem\":")
+    (codes ",\"report\":") (codes "}") (compact_text (events_data events)) (compact_text (harts_data state.harts))
+    (compact_text (image_data image)) (compact_text (memory_data state.memory)) (decimal (version_of events))
 
 -- ---- a granule
 

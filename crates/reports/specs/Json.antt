@@ -49,10 +49,21 @@ put_granules from [] members = members
 put_granules from (v ∷ rest) members =
     put_granules (from + 1) rest (put_listed (hex_text 16 (address_of_granule from)) v members)
 
+-- the events of a trace
+abbrev pub events_data : List Event → Data
+events_data events = array (items_of (map event_data events))
+
+abbrev pub harts_data : List HartState → Data
+harts_data harts = array (items_of (map hart_data harts))
+
+-- a memory: each granule that is tagged or not all 0, under its address
+abbrev pub memory_data : List CapValue → Data
+memory_data memory = object (put_granules 0 memory no_members)
+
 unfoldable pub json_report : ImageParts → List Event → MachineState → Data
 json_report image events state = object
-    (member (codes "entries") (array (items_of (map event_data events)))
-    (member (codes "harts") (array (items_of (map hart_data state.harts)))
+    (member (codes "entries") (events_data events)
+    (member (codes "harts") (harts_data state.harts)
     (member (codes "image") (image_data image)
-    (member (codes "mem") (object (put_granules 0 state.memory no_members))
+    (member (codes "mem") (memory_data state.memory)
     (member (codes "report") (count (version_of events)) no_members)))))

@@ -1,5 +1,5 @@
--- The text of the JSON report in pieces: what stands for each event, hart and granule.
-use Rattle.std.specs.Prelude.{ℕ, ◌+◌, nat_lt, Bool, false, ◌||◌, if◌then◌else◌}
+-- The text of the JSON report in pieces: the members of its object, and each granule by itself.
+use Rattle.std.specs.Prelude.{ℕ, ◌+◌, Bool, false, ◌||◌, if◌then◌else◌}
 use Rattle.std.specs.Prelude.{List, [], ◌∷◌, ◌++◌, codes, decimal}
 use Rattle.serde_json.specs.Data.{string}
 use Rattle.serde_json.specs.Written.{comma_if, compact_text}
@@ -9,20 +9,13 @@ use Rattle.cheri_model.specs.steps.Hart.{HartState}
 use Rattle.cheri_model.specs.runs.Image.{ImageParts}
 use Rattle.cheri_model.specs.runs.ImageForm.{is_listed}
 use Rattle.cheri_model.specs.runs.Machine.{MachineState}
-use Rattle.report_lines.specs.EventData.{event_data, image_data}
+use Rattle.report_lines.specs.EventData.{image_data}
 use Rattle.report_lines.specs.Names.{address_of_granule}
-use Rattle.report_lines.specs.Texts.{◌+++◌, numbered}
+use Rattle.report_lines.specs.Texts.{◌+++◌}
 use Rattle.report_lines.specs.ValueData.{value_data}
 use Rattle.report_lines.specs.ValueText.{hex_text}
-use Rattle.reports.specs.Json.{hart_data}
+use Rattle.reports.specs.Json.{events_data, harts_data, memory_data}
 use Rattle.reports.specs.Report.{version_of}
-
--- an event, after a comma where it isn't the first
-unfoldable pub event_item : ℕ → Event → List ℕ
-event_item number event = comma_if (nat_lt 0 number) ++ compact_text (event_data event)
-
-unfoldable pub hart_item : ℕ → HartState → List ℕ
-hart_item number hart = comma_if (nat_lt 0 number) ++ compact_text (hart_data hart)
 
 -- a granule under its address, after a comma where one stands before; an untagged 0 has no text
 unfoldable pub granule_member : Bool → ℕ → CapValue → List ℕ
@@ -38,23 +31,24 @@ granule_members later number [] = []
 granule_members later number (v ∷ rest) =
     granule_member later number v ++ granule_members (later || is_listed v) (number + 1) rest
 
--- the events
-unfoldable pub events_part : List Event → List ℕ
-events_part events = codes "{\"entries\":[" ++ numbered event_item 0 events
+-- the object's beginning, with the events
+abbrev pub events_part : List Event → List ℕ
+events_part events = codes "{\"entries\":" ++ compact_text (events_data events)
 
--- the harts
-unfoldable pub harts_part : List HartState → List ℕ
-harts_part harts = codes "],\"harts\":[" ++ numbered hart_item 0 harts
+abbrev pub harts_part : List HartState → List ℕ
+harts_part harts = codes ",\"harts\":" ++ compact_text (harts_data harts)
+
+-- what stands between the harts and the granules
+abbrev pub image_part : ImageParts → List ℕ
+image_part image = codes ",\"image\":" ++ compact_text (image_data image) ++ codes ",\"mem\":"
 
 -- the image, and the granules
-unfoldable pub memory_part : ImageParts → List CapValue → List ℕ
-memory_part image memory =
-    (codes "],\"image\":" ++ compact_text (image_data image) ++ codes ",\"mem\":{")
-    ++ granule_members false 0 memory
+abbrev pub memory_part : ImageParts → List CapValue → List ℕ
+memory_part image memory = image_part image ++ compact_text (memory_data memory)
 
 -- the end
 unfoldable pub last_part : List Event → List ℕ
-last_part events = codes "},\"report\":" ++ (decimal (version_of events) ++ codes "}")
+last_part events = codes ",\"report\":" ++ (decimal (version_of events) ++ codes "}")
 
 -- what is shown before the end
 unfoldable pub json_parts : ImageParts → List Event → MachineState → List ℕ

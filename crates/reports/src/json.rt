@@ -1,14 +1,15 @@
 //! The JSON report: what the report shows, for scripts.
 
-ghost use Rattle.std.specs.Prelude.{◌≡◌, IfOk, map, string_bytes};
+ghost use Rattle.std.specs.Prelude.{◌≡◌, IfOk, string_bytes};
 ghost use Rattle.hart.specs.View.{state_of};
-ghost use Rattle.report_lines.specs.EventData.{event_data};
-ghost use Rattle.reports.specs.Json.{hart_data, json_report, put_granules, put_registers};
-ghost use Rattle.serde_json.specs.Data.{array, object, no_members};
-ghost use Rattle.serde_json.specs.View.{items_of, view as data_of};
+ghost use Rattle.reports.specs.Json.{events_data, hart_data, harts_data, json_report};
+ghost use Rattle.reports.specs.Json.{memory_data, put_registers};
+ghost use Rattle.serde_json.specs.Data.{no_members, object};
+ghost use Rattle.serde_json.specs.View.{view as data_of};
 ghost use Rattle.serde_json.specs.Written.{compact_text};
 
 pub mod pieces;
+pub mod state;
 
 use crate::report::version_of;
 use cheri_model::{Event, NoMemory, Reg, Status, Trap};
@@ -20,7 +21,7 @@ use tagged_mem::Ram;
 
 /// The events of the trace.
 fn events_json(alloc: Global, events: &[Event]) -> Result<Value, NoMemory>
-    ensures { IfOk result (λ v. data_of v ≡ array (items_of (map event_data events.now))) }
+    ensures { IfOk result (λ v. data_of v ≡ events_data events.now) }
 {
     let mut values = Vec::new(alloc);
     for event in events {
@@ -56,9 +57,9 @@ fn hart_json(alloc: Global, hart: &Hart) -> Result<Value, NoMemory>
     }
 }
 
-/// The harts.
-fn harts_json(alloc: Global, harts: &[Hart]) -> Result<Value, NoMemory>
-    ensures { IfOk result (λ v. data_of v ≡ array (items_of (map hart_data harts.now))) }
+/// The harts of a state in JSON: a list.
+pub fn harts_json(alloc: Global, harts: &[Hart]) -> Result<Value, NoMemory>
+    ensures { IfOk result (λ v. data_of v ≡ harts_data harts.now) }
 {
     let mut values = Vec::new(alloc);
     for hart in harts {
@@ -67,9 +68,10 @@ fn harts_json(alloc: Global, harts: &[Hart]) -> Result<Value, NoMemory>
     Ok(Value::Array(values))
 }
 
-/// The granules that are tagged or not all 0.
-fn granules_json(alloc: Global, ram: &Ram) -> Result<Value, NoMemory>
-    ensures { IfOk result (λ v. data_of v ≡ object (put_granules 0 ram.now no_members)) }
+/// The granules of a state in JSON: an object of those that are tagged or not all 0, under their
+/// addresses.
+pub fn granules_json(alloc: Global, ram: &Ram) -> Result<Value, NoMemory>
+    ensures { IfOk result (λ v. data_of v ≡ memory_data ram.now) }
 {
     let mut members = Map::new(alloc);
     for number in 0..ram.granule_count() {

@@ -6,7 +6,8 @@ mod report;
 mod state;
 
 pub use json::pieces::write_json;
-pub use json::report_json;
+pub use json::state::{put_granules_json, put_harts_json};
+pub use json::{granules_json, harts_json, report_json};
 pub use report::write_report;
 pub use report_lines::{Hex, HexWord, MOST_DIGITS, TypeText};
 pub use sinks::{MemSink, Sink, SinkFailed, ToWrite, WriteFault as ReportFault, put_whole};

@@ -95,17 +95,17 @@ pub values_more : (table table' : Rows) (values : List CapValue) (v : CapValue) 
 values_more table table' values v n h lawful absent interned = elim interned.1 [
   | inl same ↦ absurd (absent n (ap (λ (t : Rows). slice_get t.rows n) (sym same) ∙ interned.0))
   | inr added ↦ (
-      record {
-        width = ap (λ (t : Rows). t.width) added.0 ∙ h.width;
-        rows = ap (λ (t : Rows). t.rows) added.0 ∙ (ap (λ (rs : List (List ℕ)). rs ++ row_of v ∷ []) h.rows
-            ∙ sym (map-append row_of values (v ∷ [])));
-        lawful = all_more IsLawfulValue values v h.lawful lawful;
-        distinct = distinct_more values v h.distinct (λ i is.
-            absent i (ap (λ (rs : List (List ℕ)). slice_get rs i) h.rows
-            ∙ (slice_get-map row_of values i ∙ ap (option_map row_of) is)));
-      },
-      added.1 ∙ (ap length h.rows ∙ length-map values row_of),
-    )
+    record {
+      width = ap (λ (t : Rows). t.width) added.0 ∙ h.width;
+      rows = ap (λ (t : Rows). t.rows) added.0 ∙ (ap (λ (rs : List (List ℕ)). rs ++ row_of v ∷ []) h.rows
+          ∙ sym (map-append row_of values (v ∷ [])));
+      lawful = all_more IsLawfulValue values v h.lawful lawful;
+      distinct = distinct_more values v h.distinct (λ i is.
+          absent i (ap (λ (rs : List (List ℕ)). slice_get rs i) h.rows
+          ∙ (slice_get-map row_of values i ∙ ap (option_map row_of) is)));
+    },
+    added.1 ∙ (ap length h.rows ∙ length-map values row_of),
+  )
 ]
 
 pub numbered_last : (values : List CapValue) (v : CapValue) (n : ℕ) → n ≡ length values →

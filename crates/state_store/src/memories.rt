@@ -8,11 +8,7 @@ use std::alloc::{AllocError, Global};
 use tagged_mem::Ram;
 
 /// The row of a memory. Fails only when out of memory, or of numbers.
-pub fn row_of_memory(
-    alloc: Global,
-    values: &mut Values,
-    ram: &Ram,
-) -> Result<Vec<u32>, AllocError>
+pub fn row_of_memory(alloc: Global, values: &mut Values, ram: &Ram) -> Result<Vec<u32>, AllocError>
     ensures row { IfOk result (λ row. each (slice_get values.new) row.items ≡ Some ram.now) }
     ensures kept { Extends values.old values.new }
 {

@@ -1,34 +1,29 @@
 //! The JSON report in pieces, so that no value of it is ever whole.
 
-ghost use Rattle.std.specs.Prelude.{◌≡◌, ◌+◌, ◌||◌, ◌++◌, codes, IfOk, OnOk, string_bytes};
+#![tactic(auto, using(crate::proofs::JsonLemmas::floatless), unfolding(crate::proofs::Open::json_parts))]
+
+ghost use Rattle.std.specs.Prelude.{◌≡◌, ◌+◌, ◌++◌, OnOk, string_bytes};
 ghost use Rattle.std.specs.Io.KnownBytes.{Appends};
-ghost use Rattle.cheri_model.specs.runs.ImageForm.{is_listed};
-ghost use Rattle.cheri_model.specs.steps.Memory.{IsMemory};
 ghost use Rattle.hart.specs.View.{state_of};
-ghost use Rattle.report_lines.specs.EventData.{image_data};
-ghost use Rattle.reports.specs.Json.{json_report};
-ghost use Rattle.reports.specs.JsonText.{event_item, events_part, granule_member};
-ghost use Rattle.reports.specs.JsonText.{hart_item, harts_part, json_parts};
+ghost use Rattle.report_lines.specs.EventData.{event_data};
+ghost use Rattle.report_lines.specs.JsonText.{item_text};
+ghost use Rattle.reports.specs.Json.{events_data, json_report};
+ghost use Rattle.reports.specs.JsonText.{events_part, harts_part, image_part, json_parts};
 ghost use Rattle.reports.specs.JsonText.{last_part, memory_part};
 ghost use Rattle.serde_json.specs.Written.{compact_text};
 ghost use Rattle.sinks.specs.Sinks.{TakesAllBut, TakesBeginning};
 ghost use Rattle.sinks.specs.WriteFaults.{failures_of};
 
-use super::hart_json;
+use super::state::{put_granules_json, put_harts_json};
 use crate::report::version_of;
-use cap_ops::Cap;
 use cheri_model::{Event, Image, NoMemory};
 use hart::{Hart, View};
 use itoa::Buffer;
-use report_lines::{
-    granule_address, image_json, is_listed, value_json, write_comma, write_event_json,
-    write_json_value,
-};
+use report_lines::{image_json, write_comma, write_event_json, write_json_value};
 use sinks::{PIECE, Sink, WriteFault, make_room, put_whole};
 use std::alloc::Global;
 
-/// Appends an event of the trace by its number.
-#[tactic(auto, unfolding(crate::specs::JsonText::event_item))]
+/// Appends an event of the trace, by its number.
 fn write_event(
     alloc: Global,
     out: &mut String,
@@ -36,50 +31,38 @@ fn write_event(
     event: &Event,
 ) -> Result<(), NoMemory>
     ensures { OnOk result (string_bytes out.new
-        ≡ string_bytes out.old ++ event_item number event.now) }
+        ≡ string_bytes out.old ++ item_text event_data number event.now) }
 {
     write_comma(out, number > 0)?;
     write_event_json(alloc, out, event)
 }
 
-/// Appends a hart.
-#[tactic(auto, using(crate::proofs::JsonLemmas::floatless), unfolding(crate::proofs::Open::item))]
-fn write_hart(alloc: Global, out: &mut String, number: usize, hart: &Hart) -> Result<(), NoMemory>
-    ensures { OnOk result (string_bytes out.new
-        ≡ string_bytes out.old ++ hart_item number hart.now) }
-{
-    write_comma(out, number > 0)?;
-    write_json_value(alloc, out, hart_json(alloc, hart)?)
-}
-
-/// Appends a granule under its address, unless it is an untagged 0. Answers whether one stands
-/// there now.
-#[tactic(auto, using(crate::proofs::JsonLemmas::floatless), unfolding(crate::proofs::Open::mem))]
-fn write_granule(
+/// Writes the events as a list.
+fn put_events<S: Sink>(
     alloc: Global,
     out: &mut String,
-    later: bool,
-    number: usize,
-    value: Cap,
-) -> Result<bool, NoMemory>
-    ensures written { IfOk result (λ now. string_bytes out.new
-        ≡ string_bytes out.old ++ granule_member later number value) }
-    ensures later { IfOk result (λ now. now ≡ (later || is_listed value)) }
+    sink: &mut S,
+    events: &[Event],
+) -> Result<(), WriteFault>
+    ensures whole { OnOk result (TakesAllBut (S.taken sink.old) (S.taken sink.new)
+        (string_bytes out.new)
+        (string_bytes out.old ++ compact_text (events_data events.now))) }
+    ensures beginning { TakesBeginning (S.taken sink.old) (S.taken sink.new)
+        (string_bytes out.old ++ compact_text (events_data events.now)) }
+    ensures failures { S.failures sink.new ≡ S.failures sink.old + failures_of result }
+    ensures place { S.place sink.new ≡ S.place sink.old }
 {
-    if !is_listed(value) {
-        return Ok(later);
+    out.push_str("[")?;
+    for (number, event) in events.iter().enumerate() {
+        write_event(alloc, out, number, event)?;
+        make_room(out, sink)?;
     }
-    write_comma(out, later)?;
-    let mut digits = Buffer::new();
-    out.push_str("\"")?;
-    out.push_str(digits.format(granule_address(number)))?;
-    out.push_str("\":")?;
-    write_json_value(alloc, out, value_json(alloc, value)?)?;
-    Ok(true)
+    out.push_str("]")?;
+    Ok(())
 }
 
-/// Writes the events.
-fn put_events<S: Sink>(
+/// Writes the object's beginning, with the events.
+fn put_events_part<S: Sink>(
     alloc: Global,
     out: &mut String,
     sink: &mut S,
@@ -92,16 +75,12 @@ fn put_events<S: Sink>(
     ensures failures { S.failures sink.new ≡ S.failures sink.old + failures_of result }
     ensures place { S.place sink.new ≡ S.place sink.old }
 {
-    out.push_str("{\"entries\":[")?;
-    for (number, event) in events.iter().enumerate() {
-        write_event(alloc, out, number, event)?;
-        make_room(out, sink)?;
-    }
-    Ok(())
+    out.push_str("{\"entries\":")?;
+    put_events(alloc, out, sink, events)
 }
 
-/// Writes the harts.
-fn put_harts<S: Sink>(
+/// Writes the member of the harts.
+fn put_harts_part<S: Sink>(
     alloc: Global,
     out: &mut String,
     sink: &mut S,
@@ -114,16 +93,21 @@ fn put_harts<S: Sink>(
     ensures failures { S.failures sink.new ≡ S.failures sink.old + failures_of result }
     ensures place { S.place sink.new ≡ S.place sink.old }
 {
-    out.push_str("],\"harts\":[")?;
-    for (number, hart) in harts.iter().enumerate() {
-        write_hart(alloc, out, number, hart)?;
-        make_room(out, sink)?;
-    }
-    Ok(())
+    out.push_str(",\"harts\":")?;
+    put_harts_json(alloc, out, sink, harts)
 }
 
-/// Writes the image and the granules.
-fn put_granules<S: Sink>(
+/// Appends what stands between the harts and the granules.
+fn write_image(alloc: Global, out: &mut String, image: &Image) -> Result<(), NoMemory>
+    ensures { OnOk result (string_bytes out.new ≡ string_bytes out.old ++ image_part image.now) }
+{
+    out.push_str(",\"image\":")?;
+    write_json_value(alloc, out, image_json(alloc, image)?)?;
+    out.push_str(",\"mem\":")
+}
+
+/// Writes the members of the image and of the granules.
+fn put_memory_part<S: Sink>(
     alloc: Global,
     out: &mut String,
     sink: &mut S,
@@ -138,23 +122,7 @@ fn put_granules<S: Sink>(
     ensures place { S.place sink.new ≡ S.place sink.old }
 {
     write_image(alloc, out, view.image)?;
-    let mut later = false;
-    for number in 0..view.granule_count() {
-        later = write_granule(alloc, out, later, number, view.granule(number))?;
-        make_room(out, sink)?;
-    }
-    Ok(())
-}
-
-/// Appends what stands between the harts and the granules.
-#[tactic(auto, using(crate::proofs::JsonLemmas::floatless))]
-fn write_image(alloc: Global, out: &mut String, image: &Image) -> Result<(), NoMemory>
-    ensures { OnOk result (string_bytes out.new ≡ string_bytes out.old
-        ++ (codes "],\"image\":" ++ compact_text (image_data image.now) ++ codes ",\"mem\":{")) }
-{
-    out.push_str("],\"image\":")?;
-    write_json_value(alloc, out, image_json(alloc, image)?)?;
-    out.push_str(",\"mem\":{")
+    put_granules_json(alloc, out, sink, view.ram)
 }
 
 /// Appends the end.
@@ -164,7 +132,7 @@ fn write_end(out: &mut String, events: &[Event]) -> Result<(), NoMemory>
 {
     let version = version_of(events);
     let mut number = Buffer::new();
-    out.push_str("},\"report\":")?;
+    out.push_str(",\"report\":")?;
     out.push_str(number.format(version))?;
     out.push_str("}")?;
     Ok(())
@@ -185,9 +153,9 @@ fn put_parts<S: Sink>(
     ensures failures { S.failures sink.new ≡ S.failures sink.old + failures_of result }
     ensures place { S.place sink.new ≡ S.place sink.old }
 {
-    put_events(alloc, out, sink, view.entries)?;
-    put_harts(alloc, out, sink, view.harts)?;
-    put_granules(alloc, out, sink, view)
+    put_events_part(alloc, out, sink, view.entries)?;
+    put_harts_part(alloc, out, sink, view.harts)?;
+    put_memory_part(alloc, out, sink, view)
 }
 
 /// Writes the JSON report of what a view shows, compact, with its keys in byte order, in pieces of
@@ -200,8 +168,6 @@ pub fn write_json<S: Sink>(alloc: Global, view: View<'_>, sink: &mut S) -> Resul
     ensures failures { S.failures sink.new ≡ S.failures sink.old + failures_of result }
     ensures place { S.place sink.new ≡ S.place sink.old }
 {
-    // The contract of `granule_count` bounds the memory, so that its addresses have 16 digits.
-    let _granules = view.ram.granule_count();
     let mut out = String::with_capacity(alloc, PIECE)?;
     put_parts(alloc, &mut out, sink, view)?;
     write_end(&mut out, view.entries)?;

@@ -1,8 +1,6 @@
 -- What is left of CBuildCap's table where no other line holds.
-use Rattle.std.proofs.Common.{Some, ◌≡◌, ◌≤◌, ◌^◌, true, false, sym, ◌∙◌, ap, arith}
+use Rattle.std.proofs.Common.{sym, ◌∙◌, ap, arith}
 use Rattle.cap_model.specs.values.CapValue.{tag_of}
-use Rattle.cap_model.specs.results.Readings.{top_of}
-use Rattle.cap_model.specs.results.Rebuilt.{build}
 use Rattle.facts.proofs.Built.{buildable, top_at_most, no_line, last_line}
 use Rattle.facts.proofs.losses.not_encodable.Goals as goal
 

@@ -1,8 +1,7 @@
 use Rattle.std.proofs.Common.{◌≡◌, ◌++◌}
-use Rattle.cheri_model.specs.steps.Hart.{register}
 use Rattle.cheri_model.specs.steps.Memory.{granule_at}
-use Rattle.origins.specs.declared.place.Place.TheVariants.{RegisterOf, GranuleOf}
-use Rattle.facts.specs.EventFacts.{swept_among, swept_in_harts}
+use Rattle.origins.specs.declared.place.Place.TheVariants.{GranuleOf}
+use Rattle.facts.specs.EventFacts.{swept_among}
 use Rattle.facts.proofs.sweeping.add_granules.Given as goal
 
 abbrev pub invariant-loop-k : goal.invariant-loop-k

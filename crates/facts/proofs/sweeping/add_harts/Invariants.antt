@@ -1,8 +1,5 @@
 use Rattle.std.proofs.Common.{◌≡◌, ◌++◌}
-use Rattle.cheri_model.specs.steps.Hart.{register}
-use Rattle.cheri_model.specs.steps.Memory.{granule_at}
-use Rattle.origins.specs.declared.place.Place.TheVariants.{RegisterOf, GranuleOf}
-use Rattle.facts.specs.EventFacts.{swept_among, swept_in_harts}
+use Rattle.facts.specs.EventFacts.{swept_in_harts}
 use Rattle.facts.proofs.sweeping.add_harts.Given as goal
 
 abbrev pub invariant-loop-i : goal.invariant-loop-i

@@ -4,23 +4,23 @@ use Rattle.sinks.proofs.SinkLemmas.{takes_on, stops_on, begins_on, takes_on_ok}
 use Rattle.reports.proofs.ReportParts.{three_parts}
 use Rattle.reports.proofs.json.pieces.put_parts.Goals as goal
 
-pub returns-in_err-put_events-clause-beginning : goal.returns-in_err-put_events-clause-beginning
+pub returns-in_err-put_events_part-clause-beginning : goal.returns-in_err-put_events_part-clause-beginning
 unfolding json_parts
-returns-in_err-put_events-clause-beginning g c =
-    rw (← append_assoc) (begins_on _ _ _ _ c.put_events.ensures.beginning)
+returns-in_err-put_events_part-clause-beginning g c =
+    rw (← append_assoc) (begins_on _ _ _ _ c.put_events_part.ensures.beginning)
 
-pub returns-in_err-put_harts-clause-beginning : goal.returns-in_err-put_harts-clause-beginning
+pub returns-in_err-put_harts_part-clause-beginning : goal.returns-in_err-put_harts_part-clause-beginning
 unfolding json_parts
-returns-in_err-put_harts-clause-beginning g c =
+returns-in_err-put_harts_part-clause-beginning g c =
     rw (← three_parts)
-    (begins_on _ _ _ _ (stops_on _ _ _ _ _ _ c.in_ok-put_events.ensures.whole c.put_harts.ensures.beginning))
+    (begins_on _ _ _ _ (stops_on _ _ _ _ _ _ c.in_ok-put_events_part.ensures.whole c.put_harts_part.ensures.beginning))
 
 pub returns-clause-beginning : goal.returns-clause-beginning
 unfolding json_parts
 returns-clause-beginning g c =
     rw (← three_parts)
-    (stops_on _ _ _ _ _ _ (takes_on _ _ _ _ _ _ _ c.in_ok-put_events.ensures.whole c.in_ok-put_harts.ensures.whole)
-    c.put_granules.ensures.beginning)
+    (stops_on _ _ _ _ _ _ (takes_on _ _ _ _ _ _ _ c.in_ok-put_events_part.ensures.whole c.in_ok-put_harts_part.ensures.whole)
+    c.put_memory_part.ensures.beginning)
 
 pub returns-clause-whole : goal.returns-clause-whole
 unfolding json_parts
@@ -28,4 +28,4 @@ returns-clause-whole g c =
     takes_on_ok _ _ _ _ _ _ _ _ _
     (three_parts (string_bytes c.args.out.now) (events_part c.args.view.entries.now)
     (harts_part c.args.view.harts.now) (memory_part c.args.view.image.now c.args.view.ram.now))
-    (takes_on _ _ _ _ _ _ _ c.in_ok-put_events.ensures.whole c.in_ok-put_harts.ensures.whole) c.put_granules.ensures.whole
+    (takes_on _ _ _ _ _ _ _ c.in_ok-put_events_part.ensures.whole c.in_ok-put_harts_part.ensures.whole) c.put_memory_part.ensures.whole

@@ -1,8 +1,0 @@
-pub mod TouchLemmas
-pub mod TableLemmas
-pub mod GraphLemmas
-pub mod StepLemmas
-pub mod KeptLemmas
-pub mod SizeLemmas
-pub mod LabelLemmas
-pub mod KeepLemmas

@@ -1,4 +1,0 @@
-pub mod Accesses
-pub mod Locals
-pub mod Graphs
-pub mod Kept
