@@ -1,0 +1,2 @@
+-- Lemmas of runs that are followed.
+pub mod Followed

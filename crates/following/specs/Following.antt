@@ -1,0 +1,42 @@
+-- A core that is followed: where the values of its state are from, and the facts of what it does
+-- next.
+use Rattle.std.specs.Prelude.{◌≡◌, ℕ, ◌+◌, ◌*◌, List, length, Result}
+use Rattle.cheri_model.specs.declared.operation.Op.TheVariants as operation
+use Rattle.cheri_model.specs.runs.Replay.{operations_of}
+use Rattle.cores.specs.declared.faults.StepFault.{StepFault}
+use Rattle.cores.specs.Cores.{CoreParts, IsCore, refused, unless_refused}
+use Rattle.origins.specs.declared.place.Place.{Place}
+use Rattle.origins.specs.Origins.{Origins, replayed_origins}
+use Rattle.origins.specs.Table.{Table, IsPlaceIn, TellsOrigins}
+use Rattle.facts.specs.declared.step_facts.StepFacts.{StepFacts}
+use Rattle.facts.specs.StepFacts.{step_facts}
+use Rattle.facts.specs.EventFacts.{swept_places}
+
+-- it is a core, whose machine's places the table has, and it tells where their values are from
+pub record IsFollowed (core : CoreParts) (table : Table) : Type 0 where
+  pub kept : IsCore core
+  pub harts : table.harts ≡ length core.state.harts
+  pub size : length table.slots ≡ 33 * table.harts + length core.state.memory
+  pub tells : TellsOrigins core.image (operations_of core.trace) table
+
+-- where the values of a core's state are from
+abbrev pub origins_now : CoreParts → Origins
+origins_now core = replayed_origins core.image (operations_of core.trace)
+
+-- the facts of the next step, of the hart with this number, and what a sweep clears
+abbrev pub next_facts : CoreParts → ℕ → StepFacts
+next_facts core hart = step_facts core.image core.state (origins_now core) hart
+
+abbrev pub next_swept : CoreParts → ℕ → ℕ → List Place
+next_swept core lo hi = swept_places lo hi core.state
+
+-- what a step answers: its refusal, else its facts
+abbrev pub answered_facts : CoreParts → ℕ → Result StepFacts StepFault
+answered_facts core hart =
+    unless_refused (refused core (operation.Step hart)) (next_facts core hart)
+
+-- a place of the core's machine
+abbrev pub IsPlaceOf : CoreParts → Place → Type 0
+IsPlaceOf core place =
+    IsPlaceIn (length core.state.harts)
+    (33 * length core.state.harts + length core.state.memory) place

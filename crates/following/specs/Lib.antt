@@ -1,0 +1,3 @@
+-- A run that is followed.
+pub mod Following
+pub mod Faults
