@@ -1,6 +1,6 @@
 -- The events of a run and their facts, one by one, and a core that takes a run's operations once more.
 use Rattle.std.proofs.Common.{◌≡◌, ℕ, zero, suc, ◌+◌, ◌<◌, ◌≤◌, Bool, true, false, not, ◌&&◌, List, [], ◌∷◌, ◌++◌, length, take, get_or, map, refl, ap, sym, subst, ◌∙◌, arith, length-take}
-use Rattle.std.specs.Prelude.{nat_lt, if◌then◌else◌, Option, Some, None, Result, Ok, Err, OnOk}
+use Rattle.std.specs.Prelude.{nat_lt, if◌then◌else◌, Option, Some, None, Result, Ok, Err, OnOk, IfOk}
 use Rattle.std.proofs.lemmas.Bool.{and_parts, lt-ltb}
 use Rattle.std.proofs.lemmas.Bool.Decides.{nat_tests}
 use Rattle.std.proofs.lemmas.List.{length-map, take-map, map_more, get_or-map}
@@ -16,8 +16,9 @@ use Rattle.cheri_model.specs.runs.Sweeps.{is_range}
 use Rattle.cheri_model.specs.runs.Machine.{MachineState, opening_state, may_take, is_running, hart_at, state_after_one, event_of}
 use Rattle.cheri_model.specs.runs.Replay.{IsReplay, state_after, is_legal, replayed_state, replayed_events, operation_of, operations_of}
 use Rattle.cheri_model.proofs.Runs.Replays.{state_after_push, operations_of_push, operation-event_of}
+use Rattle.origins.specs.declared.place.Place.{Place}
 use Rattle.origins.specs.Origins.{Origins, came_from, origins_after, replayed_origins}
-use Rattle.facts.specs.EventFacts.{EventFacts, step, facts_of, facts_along, replayed_facts}
+use Rattle.facts.specs.EventFacts.{EventFacts, step, sweep, swept_places, facts_of, facts_along, replayed_facts}
 use Rattle.cores.specs.declared.faults.StepFault.TheVariants.{NoSuchHart, TraceFull, HartStopped, BadRange}
 use Rattle.cores.specs.Cores.{CoreParts, opening_core, refused, core_after, unless_refused, unless_kept, applied}
 use Rattle.cores.specs.declared.faults.StepFault.{StepFault}
@@ -196,6 +197,15 @@ turn image trace entries limit k e event state core same room is replay fits at 
 pub on_ok : {T E : Type 0} (result : Result T E) (P Q : Type 0) → (P → Q) → OnOk result P → OnOk result Q
 on_ok (Ok x) P Q use_it so = use_it so
 on_ok (Err e) P Q use_it so = tt
+
+pub if_ok : {T E : Type 0} (result : Result T E) (P Q : T → Type 0) → ((x : T) → P x → Q x) → IfOk result P → IfOk result Q
+if_ok (Ok x) P Q use_it so = use_it x so
+if_ok (Err e) P Q use_it so = tt
+
+pub sweep_answered : (core : CoreParts) (lo hi : ℕ) (places : List Place) → places ≡ swept_places lo hi core.state
+    → sweep places ≡ next_facts core (operation.Sweep lo hi)
+unfolding facts_of
+sweep_answered core lo hi places is = ap sweep is
 
 pub step_answered : (core : CoreParts) (hart : ℕ) (facts : StepFacts) → ◌≡◌ {A = Result StepFacts StepFault} (Ok facts) (answered_facts core hart)
     → refused core (operation.Step hart) ≡ None → step facts ≡ next_facts core (operation.Step hart)
