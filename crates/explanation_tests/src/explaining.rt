@@ -68,8 +68,10 @@ fn the_first_run_is_explained(rt: HostRuntime) -> Result<(), Fail> {
 #[test]
 fn an_empty_order_has_no_event(rt: HostRuntime) -> Result<(), Fail> {
     let text = explained(&rt, rt.alloc(), FIRST, b"", ALL)?;
-    assert!(rt; text.bytes()
-        == b"cheri-sim explanation 1\nimage harts=2 ram=4096 code=4\nentries 0\nend\n".as_slice());
+    assert!(rt;
+        text.bytes()
+            == b"cheri-sim explanation 1\nimage harts=2 ram=4096 code=4\nentries 0\nend\n".as_slice()
+    );
     Ok(())
 }
 
@@ -195,13 +197,17 @@ fn a_hundred_thousand_steps_are_explained(rt: HostRuntime) -> Result<(), Fail> {
         filter: Filter::All,
     };
     let text = explained(&rt, rt.alloc(), LOOP, order.as_slice(), last)?;
-    assert!(rt; text.bytes() == b"cheri-sim explanation 1
+    assert!(rt;
+        text.bytes()
+            == b"cheri-sim explanation 1
 image harts=1 ram=4096 code=2
 entries 100000
 99998 hart=0 pc=0000000010000000 done | line 2: addi c1, c1, 1
   reads c1 0 0000000000000000_000000000000c34f
   sets c1 0 0000000000000000_000000000000c350
 end
-".as_slice());
+"
+                .as_slice()
+    );
     Ok(())
 }

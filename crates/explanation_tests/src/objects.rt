@@ -1,7 +1,7 @@
 //! Explanations in JSON.
 
-use crate::selecting::{MIXED, MIXED_ORDER};
 use crate::explaining::ALL;
+use crate::selecting::{MIXED, MIXED_ORDER};
 use explanations::{Filter, Format, Selection, explain};
 use sinks::MemSink;
 use std::alloc::Global;
@@ -124,7 +124,13 @@ fn only_selected_events_are_objects(rt: HostRuntime) -> Result<(), Fail> {
         last: 99_999,
         filter: Filter::TrapsOrClears,
     };
-    is_explained(&rt, rt.alloc(), (MIXED, MIXED_ORDER), selected, SELECTED_JSON);
+    is_explained(
+        &rt,
+        rt.alloc(),
+        (MIXED, MIXED_ORDER),
+        selected,
+        SELECTED_JSON,
+    );
     let none = Selection {
         first: 9,
         last: 9,

@@ -15,7 +15,14 @@ fn fail_at_each_put(rt: &impl Abort, alloc: Global, most: usize) -> Result<(), F
     let text = FIRST_TEXT.as_bytes();
     for fail_at in 1..5_000 {
         let mut sink = MemSink::new(alloc, fail_at, most.max(1));
-        let result = explain(alloc, FIRST.as_bytes(), b"0000", ALL, Format::Text, &mut sink);
+        let result = explain(
+            alloc,
+            FIRST.as_bytes(),
+            b"0000",
+            ALL,
+            Format::Text,
+            &mut sink,
+        );
         if result == Ok(None) {
             assert!(rt; sink.bytes() == text);
             assert_eq!(rt; fail_at as usize, 1 + text.len().div_ceil(most.max(1)));
@@ -53,7 +60,14 @@ fn nothing_is_written_of_refused_texts(rt: HostRuntime) -> Result<(), Fail> {
 #[test]
 fn the_first_refused_step_is_answered(rt: HostRuntime) -> Result<(), Fail> {
     let mut sink = MemSink::new(rt.alloc(), 0, 65_536);
-    let result = explain(rt.alloc(), FIRST.as_bytes(), b"02", ALL, Format::Json, &mut sink);
+    let result = explain(
+        rt.alloc(),
+        FIRST.as_bytes(),
+        b"02",
+        ALL,
+        Format::Json,
+        &mut sink,
+    );
     assert!(rt; result == Ok(Some((1, StepFault::NoSuchHart))));
     assert!(rt; sink.bytes().starts_with(b"{\"entries\":1,\"events\":[{"));
     Ok(())

@@ -166,8 +166,12 @@ replayed image trace state replay = subst (IsReplay image trace) replay.state re
 pub explained_length : (image : ImageParts) (trace : List Event) → IsReplay image trace (replayed_state image (operations_of trace))
     → length (explained_events image (operations_of trace)) ≡ length trace
 explained_length image trace replay =
-    omega (arith, length-zip (replayed_events image (operations_of trace)) (replayed_facts image (operations_of trace)),
-    ap length replay.events, facts_length image trace)
+    omega (
+      arith,
+      length-zip (replayed_events image (operations_of trace)) (replayed_facts image (operations_of trace)),
+      ap length replay.events,
+      facts_length image trace,
+    )
 
 -- what is so of the event that is taken next, where a loop has the events as it reads them
 pub record Turn (image : ImageParts) (trace : List Event) (limit k : ℕ) (e event : Event) (core : CoreParts) : Type 0 where

@@ -26,11 +26,11 @@ use crate::names::{OriginName, SpotName, SweptName};
 use crate::reasons::{write_trap_why, write_why};
 use cheri_model::{Event, NoMemory};
 use facts::{Cleared, Extent, Fetched, NamedValue, StepFacts, Trapped, UpToTwo};
+use notation::InstructionText;
 use origins::{Place, Spot};
 use report_lines::{HexWord, event_json, granule_address, value_json};
 use serde_json::{Map, Value, put};
 use std::alloc::Global;
-use notation::InstructionText;
 
 /// The members of an object.
 fn members_of(alloc: Global, value: Value) -> Map<String, Value>
@@ -264,11 +264,7 @@ pub(crate) fn step_json(
 
 /// Puts a place that a sweep cleared.
 #[tactic(auto, unfolding(crate::specs::FactData::put_swept))]
-fn put_swept(
-    alloc: Global,
-    members: &mut Map<String, Value>,
-    place: Place,
-) -> Result<(), NoMemory>
+fn put_swept(alloc: Global, members: &mut Map<String, Value>, place: Place) -> Result<(), NoMemory>
     ensures { OnOk result (members_view members.new.entries
         ≡ put_swept (place ∷ []) (members_view members.old.entries)) }
 {

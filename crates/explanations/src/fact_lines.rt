@@ -24,10 +24,10 @@ use crate::names::{OriginName, SpotName, SweptName};
 use crate::reasons::{write_trap_why, write_why};
 use cheri_model::{Event, NoMemory};
 use facts::{Cleared, Extent, Fetched, NamedValue, StepFacts, Trapped, UpToTwo};
+use notation::InstructionText;
 use origins::Place;
 use report_lines::{CauseName, HexWord, ValueText, write_event};
 use std::fmt;
-use notation::InstructionText;
 
 /// The origin of a value, if it has one.
 #[derive(Clone, Copy)]
@@ -52,8 +52,18 @@ impl fmt::Display for NamedText {
     ghost output = { λ named. Some (named_text named.0) };
 
     fn fmt<W: fmt::Write>(&self, f: &mut fmt::Formatter<W>) -> fmt::Result {
-        let NamedValue { name, value, origin } = self.0;
-        write!(f, "{} {}{}", SpotName(name), ValueText(value), FromOrigin(origin))
+        let NamedValue {
+            name,
+            value,
+            origin,
+        } = self.0;
+        write!(
+            f,
+            "{} {}{}",
+            SpotName(name),
+            ValueText(value),
+            FromOrigin(origin)
+        )
     }
 }
 
@@ -195,15 +205,15 @@ pub(crate) fn write_swept(out: &mut String, place: Place) -> Result<(), NoMemory
 pub(crate) fn line_of(lines: &[u32], number: usize) -> u32
     ensures { result ≡ line_of lines.now number }
 {
-    if number < lines.len() { lines[number] } else { 0 }
+    if number < lines.len() {
+        lines[number]
+    } else {
+        0
+    }
 }
 
 /// Appends an instruction after the number of its line, where its fetch passed.
-fn write_fetched(
-    out: &mut String,
-    lines: &[u32],
-    fetched: Option<Fetched>,
-) -> Result<(), NoMemory>
+fn write_fetched(out: &mut String, lines: &[u32], fetched: Option<Fetched>) -> Result<(), NoMemory>
     ensures { OnOk result (string_bytes out.new
         ≡ string_bytes out.old ++ if_any (fetched_text lines.now) fetched) }
 {

@@ -195,7 +195,14 @@ fn put_events<S: Sink>(
     let mut later = false;
     for (number, event) in view.entries.iter().enumerate() {
         later = write_next(
-            alloc, out, lines, selection, later, number, &mut follower, event,
+            alloc,
+            out,
+            lines,
+            selection,
+            later,
+            number,
+            &mut follower,
+            event,
         )?;
         make_room(out, sink)?;
     }

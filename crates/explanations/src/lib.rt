@@ -7,7 +7,6 @@ mod fact_lines;
 mod followed;
 mod json;
 mod names;
-pub mod page;
 mod reasons;
 mod runs;
 mod selection;

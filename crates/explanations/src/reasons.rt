@@ -8,10 +8,10 @@ use crate::names::SpotName;
 use bitflags::Flags;
 use cheri_model::{NoMemory, OType, Perms};
 use facts::{TrapWhy, Why};
+use notation::write_permission_names;
 use origins::Spot;
 use report_lines::{Hex, HexWord, TypeText};
 use std::fmt;
-use notation::write_permission_names;
 
 /// That a register is untagged.
 #[derive(Clone, Copy)]
@@ -50,7 +50,11 @@ impl fmt::Display for OutsideRegion {
     ghost output = { λ region. Some (outside_region region.address region.power region.start) };
 
     fn fmt<W: fmt::Write>(&self, f: &mut fmt::Formatter<W>) -> fmt::Result {
-        let OutsideRegion { address, power, start } = *self;
+        let OutsideRegion {
+            address,
+            power,
+            start,
+        } = *self;
         let (address, start) = (HexWord(address), HexWord(start));
         write!(
             f,
@@ -97,7 +101,10 @@ impl fmt::Display for Outside {
         let (address, base) = (HexWord(self.address), HexWord(self.base));
         let (top, name) = (Hex::of_top(self.top), SpotName(self.name));
         let bytes = self.bytes;
-        write!(f, "{bytes} bytes at {address} are not in {base} {top} of {name}")
+        write!(
+            f,
+            "{bytes} bytes at {address} are not in {base} {top} of {name}"
+        )
     }
 }
 
@@ -118,7 +125,12 @@ fn write_lacks(out: &mut String, name: Spot, permission: u32) -> Result<(), NoMe
 }
 
 /// Appends that a word has permissions that its source lacks.
-fn write_more(out: &mut String, name: Spot, permissions: Perms, source: Spot) -> Result<(), NoMemory>
+fn write_more(
+    out: &mut String,
+    name: Spot,
+    permissions: Perms,
+    source: Spot,
+) -> Result<(), NoMemory>
     ensures { OnOk result (string_bytes out.new
         ≡ string_bytes out.old ++ why_text (Why.MorePermissions name permissions source)) }
 {
@@ -137,40 +149,91 @@ pub(crate) fn write_why(out: &mut String, why: Why) -> Result<(), NoMemory>
         Why::AskedFor => out.push_str("asked for"),
         Why::UpperReplaced => out.push_str("upper half replaced"),
         Why::Sealed { name, otype } => write!(out, "{}", Sealed(name, otype)),
-        Why::OutsideRegion { address, power, start } => {
-            write!(out, "{}", OutsideRegion { address, power, start })
+        Why::OutsideRegion {
+            address,
+            power,
+            start,
+        } => {
+            write!(
+                out,
+                "{}",
+                OutsideRegion {
+                    address,
+                    power,
+                    start
+                }
+            )
         }
         Why::BaseBelow { base, limit } => {
             write!(out, "base {} is below {}", HexWord(base), HexWord(limit))
         }
         Why::EndAbove { end, limit } => {
-            write!(out, "end {} is above {}", Hex::of_top(end), Hex::of_top(limit))
+            write!(
+                out,
+                "end {} is above {}",
+                Hex::of_top(end),
+                Hex::of_top(limit)
+            )
         }
         Why::Rounds { base, top } => {
             write!(out, "rounds to {} {}", HexWord(base), Hex::of_top(top))
         }
         Why::Lacks { name, permission } => write_lacks(out, name, permission),
         Why::Untagged { name } => write!(out, "{}", Untagged(name)),
-        Why::TypeOutside { otype, base, top, authority } => {
-            write!(out, "{}", TypeOutside { otype, base, top, authority })
+        Why::TypeOutside {
+            otype,
+            base,
+            top,
+            authority,
+        } => {
+            write!(
+                out,
+                "{}",
+                TypeOutside {
+                    otype,
+                    base,
+                    top,
+                    authority
+                }
+            )
         }
         Why::TypeAbove { otype } => write!(out, "type {} is above 262139", HexWord(otype)),
         Why::NotSealed { name } => write!(out, "{} is not sealed", SpotName(name)),
         Why::Sentry { name } => write!(out, "{} is sealed as sentry", SpotName(name)),
-        Why::TypeDiffers { otype, authority, sealed } => {
+        Why::TypeDiffers {
+            otype,
+            authority,
+            sealed,
+        } => {
             let (otype, authority) = (HexWord(otype), SpotName(authority));
-            write!(out, "type {otype} of {authority} is not {}", sealed.number())
+            write!(
+                out,
+                "type {otype} of {authority} is not {}",
+                sealed.number()
+            )
         }
         Why::ReservedBits { name } => write!(out, "{} has reserved bits", SpotName(name)),
         Why::TopAbove { top, limit } => {
-            write!(out, "top {} is above {}", Hex::of_top(top), Hex::of_top(limit))
+            write!(
+                out,
+                "top {} is above {}",
+                Hex::of_top(top),
+                Hex::of_top(limit)
+            )
         }
         Why::BaseAboveTop { base, top } => {
-            write!(out, "base {} is above top {}", HexWord(base), Hex::of_top(top))
+            write!(
+                out,
+                "base {} is above top {}",
+                HexWord(base),
+                Hex::of_top(top)
+            )
         }
-        Why::MorePermissions { name, permissions, source } => {
-            write_more(out, name, permissions, source)
-        }
+        Why::MorePermissions {
+            name,
+            permissions,
+            source,
+        } => { write_more(out, name, permissions, source) }
         Why::NotAligned { alignment } => {
             write!(out, "bounds are no multiples of {}", HexWord(alignment))
         }
@@ -199,8 +262,24 @@ pub(crate) fn write_trap_why(out: &mut String, why: TrapWhy) -> Result<(), NoMem
             let (name, stored) = (SpotName(name), SpotName(stored));
             write!(out, "{name} has no store_local for a local {stored}")
         }
-        TrapWhy::Outside { bytes, address, base, top, name } => {
-            write!(out, "{}", Outside { bytes, address, base, top, name })
+        TrapWhy::Outside {
+            bytes,
+            address,
+            base,
+            top,
+            name,
+        } => {
+            write!(
+                out,
+                "{}",
+                Outside {
+                    bytes,
+                    address,
+                    base,
+                    top,
+                    name
+                }
+            )
         }
         TrapWhy::Misaligned { address, bytes } => {
             write!(out, "{} is no multiple of {bytes}", HexWord(address))

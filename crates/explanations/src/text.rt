@@ -164,7 +164,9 @@ fn write_next(
             write_next_step(out, lines, selection, number, follower, event, *hart)
         }
         Event::Sweep { lo, hi, .. } => {
-            write_next_sweep(alloc, out, lines, selection, number, follower, event, *lo, *hi)
+            write_next_sweep(
+                alloc, out, lines, selection, number, follower, event, *lo, *hi,
+            )
         }
     }
 }
