@@ -4,10 +4,14 @@
 #[cfg(test)]
 mod explaining;
 #[cfg(test)]
+mod lost_tags;
+#[cfg(test)]
 mod objects;
 #[cfg(test)]
-mod reasons;
+mod rows;
 #[cfg(test)]
 mod selecting;
 #[cfg(test)]
 mod sinking;
+#[cfg(test)]
+mod trapping;
