@@ -140,6 +140,20 @@ fn write_more(
     Ok(())
 }
 
+/// Appends that a base is above its top.
+#[tactic(auto, unfolding(crate::specs::Reasons::why_text))]
+fn write_base_above_top(out: &mut String, base: u64, top: u128) -> Result<(), NoMemory>
+    ensures { OnOk result (string_bytes out.new
+        ≡ string_bytes out.old ++ why_text (Why.BaseAboveTop base top)) }
+{
+    write!(
+        out,
+        "base {} is above top {}",
+        HexWord(base),
+        Hex::of_top(top)
+    )
+}
+
 /// Appends why a tag was lost.
 #[tactic(auto, unfolding(crate::specs::Reasons::why_text))]
 pub(crate) fn write_why(out: &mut String, why: Why) -> Result<(), NoMemory>
@@ -221,14 +235,7 @@ pub(crate) fn write_why(out: &mut String, why: Why) -> Result<(), NoMemory>
                 Hex::of_top(limit)
             )
         }
-        Why::BaseAboveTop { base, top } => {
-            write!(
-                out,
-                "base {} is above top {}",
-                HexWord(base),
-                Hex::of_top(top)
-            )
-        }
+        Why::BaseAboveTop { base, top } => write_base_above_top(out, base, top),
         Why::MorePermissions {
             name,
             permissions,

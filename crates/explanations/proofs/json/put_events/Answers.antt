@@ -34,6 +34,9 @@ loop-number-preserved g c =
       position = now.next c.write_next.new.follower (c.in_ok-later.ensures.after now.goes);
     }
 
+pub returns-in_err-follower-clause-beginning : goal.returns-in_err-follower-clause-beginning
+returns-in_err-follower-clause-beginning g c = (_, takes_none _ _)
+
 pub returns-in_err-make_room-clause-beginning : goal.returns-in_err-make_room-clause-beginning
 returns-in_err-make_room-clause-beginning g c =
     let core = c.args.core.now in

@@ -40,14 +40,14 @@ returns-in_err-write_end-clause-beginning g c =
 pub returns-in_err-put_whole-clause-beginning : goal.returns-in_err-put_whole-clause-beginning
 returns-in_err-put_whole-clause-beginning g c =
     parts_stop _ _ _ _ _ _ _ _ _ _ (parts _ _ _ _) (rw (c.in_ok-out.ensures.bytes, c.view-view.ensures.entries) at c.in_ok-write_head.ensures)
-    c.in_ok-put_events.ensures.whole (c.as_bytes.ensures.value ∙ c.in_ok-write_end.ensures) c.put_whole.ensures.beginning
+    c.in_ok-put_events.ensures.whole (c.as_bytes.ensures.value ∙ (rw c.view-view.ensures.image at c.in_ok-write_end.ensures)) c.put_whole.ensures.beginning
 
 pub returns-clause-whole : goal.returns-clause-whole
 returns-clause-whole g c =
     parts_end _ _ _ _ _ _ _ _ _ _ (parts _ _ _ _) (rw (c.in_ok-out.ensures.bytes, c.view-view.ensures.entries) at c.in_ok-write_head.ensures)
-    c.in_ok-put_events.ensures.whole (c.as_bytes.ensures.value ∙ c.in_ok-write_end.ensures) c.in_ok-put_whole.ensures.whole
+    c.in_ok-put_events.ensures.whole (c.as_bytes.ensures.value ∙ (rw c.view-view.ensures.image at c.in_ok-write_end.ensures)) c.in_ok-put_whole.ensures.whole
 
 pub returns-clause-beginning : goal.returns-clause-beginning
 returns-clause-beginning g c =
     parts_stop _ _ _ _ _ _ _ _ _ _ (parts _ _ _ _) (rw (c.in_ok-out.ensures.bytes, c.view-view.ensures.entries) at c.in_ok-write_head.ensures)
-    c.in_ok-put_events.ensures.whole (c.as_bytes.ensures.value ∙ c.in_ok-write_end.ensures) c.put_whole.ensures.beginning
+    c.in_ok-put_events.ensures.whole (c.as_bytes.ensures.value ∙ (rw c.view-view.ensures.image at c.in_ok-write_end.ensures)) c.put_whole.ensures.beginning
