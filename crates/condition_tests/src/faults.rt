@@ -1,0 +1,183 @@
+//! Which texts are conditions and lists of items, and where the others are at fault.
+
+use cheri_model::Image;
+use conditions::{TextFault, read_condition, read_items};
+use listings::read_listing;
+use std::alloc::Global;
+use std::process::Abort;
+use std::test::Fail;
+
+/// Two harts and 64 bytes of RAM.
+const LISTING: &[u8] = b".ram 64\n\
+.hart 0x10000000 4 0x10000000 execute\n\
+.hart 0x10000000 4 0x10000000 execute\n\
+ecall\n";
+
+/// Conditions of this image.
+const GOOD: &[&str] = &[
+    "0.c1 = 0",
+    "0.c31.tag != 1",
+    "1.pcc.base < 0x10000001",
+    "0.c0.len <= 5",
+    "0.c1.perms > 3",
+    "0.c1.sealed >= 1",
+    "0.c1.top = 0",
+    "0.c1.type = 262143",
+    "0.c1.word = 0xffffffffffffffffffffffffffffffff",
+    "mem[0x80000000] = 0",
+    "mem[0x80000030].tag = 1",
+    "mem1[0x8000003f] = 0",
+    "mem2[0x8000003e] = 0",
+    "mem4[0x8000003c] = 0",
+    "mem8[2147483704] = 0",
+    "0 is running",
+    "1 is halted",
+    "0 is trapped",
+    "0 is trapped:1",
+    "0 is trapped:13",
+    "1 reaches 0 none",
+    "0 reaches 0xffffffffffffffff load+store",
+    "0 reaches 1 all and 1 is halted and 0.c1 = 0",
+    "0.c1 = 340282366920938463463374607431768211455",
+];
+
+/// Texts that are none, and the bytes of their faults.
+const BAD: &[(&str, usize)] = &[
+    ("", 0),
+    (" ", 0),
+    ("0.c1", 4),
+    ("0.c1 ", 5),
+    ("0.c1 =", 6),
+    ("0.c1 = ", 7),
+    ("0.c1  = 0", 5),
+    ("0.c1 = 0 ", 9),
+    ("0.c1 = 0 and", 12),
+    ("0.c1 = 0 and ", 13),
+    ("0.c1 = 0 or 0.c1 = 0", 9),
+    ("2.c1 = 0", 0),
+    ("2 is halted", 0),
+    ("0.c32 = 0", 0),
+    ("0.c01 = 0", 0),
+    ("0.c1.foo = 0", 0),
+    ("0.c1. = 0", 0),
+    ("0.c1.status = 0", 0),
+    ("0.pcc.addr.addr = 0", 0),
+    ("0.C1 = 0", 0),
+    ("mem[0x80000008] = 0", 0),
+    ("mem[0x80000040] = 0", 0),
+    ("mem[0x7ffffff0] = 0", 0),
+    ("mem[] = 0", 0),
+    ("mem[0x80000000]tag = 0", 0),
+    ("mem[0x80000000 = 0", 0),
+    ("mem3[0x80000000] = 0", 0),
+    ("mem1[0x80000000].tag = 0", 0),
+    ("mem8[0x8000003c] = 0", 0),
+    ("mem16[0x80000000] = 0", 0),
+    ("mem1[0x80000040] = 0", 0),
+    ("0.c1 == 0", 5),
+    ("0.c1 = x", 7),
+    ("0.c1 = 0x", 7),
+    ("0.c1 = -1", 7),
+    ("0.c1 = 340282366920938463463374607431768211456", 7),
+    ("0 are halted", 2),
+    ("0 is stopped", 5),
+    ("0 is trapped:0", 5),
+    ("0 is trapped:14", 5),
+    ("0 is trapped:01", 5),
+    ("0 is trapped:", 5),
+    ("0 reaches", 9),
+    ("0 reaches 18446744073709551616 none", 10),
+    ("0 reaches 0 execut", 12),
+    ("0 reaches 0 load+", 12),
+    ("0 reaches 0 none and", 20),
+    ("0 is halted and 1 is halted and and", 32),
+    ("00 is halted", 0),
+    ("0 is halted\n", 5),
+];
+
+/// Lists of items, and how many each has.
+const LISTS: &[(&str, usize)] = &[
+    ("0.c1", 1),
+    ("0.status", 1),
+    (
+        "1.status,mem[0x80000000].word,mem8[0x80000000],0.pcc.perms",
+        4,
+    ),
+    (
+        "0.c1,0.c1,0.c1,0.c1,0.c1,0.c1,0.c1,0.c1,0.c1,0.c1,0.c1,0.c1,0.c1,0.c1,0.c1,0.c1",
+        16,
+    ),
+];
+
+/// Texts that are no lists of items, and the bytes of their faults.
+const BAD_LISTS: &[(&str, usize)] = &[
+    ("", 0),
+    ("0.c1,", 5),
+    ("0.c1,,0.c1", 5),
+    ("2.status", 0),
+    ("0.status.addr", 0),
+    ("status", 0),
+    ("0.c1,0.c9,0.cx", 10),
+    (
+        "0.c1,0.c1,0.c1,0.c1,0.c1,0.c1,0.c1,0.c1,0.c1,0.c1,0.c1,0.c1,0.c1,0.c1,0.c1,0.c1,0.c1",
+        80,
+    ),
+    ("0.c1, 0.c2", 5),
+    ("0.c1 = 0", 0),
+    ("0.STATUS", 0),
+];
+
+fn image(alloc: Global) -> Result<Image, Fail> {
+    Ok(read_listing(alloc, LISTING)?)
+}
+
+fn refuses_condition(rt: &impl Abort, alloc: Global, image: &Image, text: &str, byte: usize) {
+    match read_condition(alloc, image, text) {
+        Ok(_) => panic!(rt; "{text:?} is taken for a condition"),
+        Err(fault) => assert_eq!(rt; fault, TextFault::Condition(byte), "{text:?}"),
+    }
+}
+
+fn refuses_items(rt: &impl Abort, alloc: Global, image: &Image, text: &str, byte: usize) {
+    match read_items(alloc, image, text) {
+        Ok(_) => panic!(rt; "{text:?} is taken for items"),
+        Err(fault) => assert_eq!(rt; fault, TextFault::Place(byte), "{text:?}"),
+    }
+}
+
+#[test]
+fn conditions_of_every_form_are_read(rt: HostRuntime) -> Result<(), Fail> {
+    let image = image(rt.alloc())?;
+    for text in GOOD {
+        let _ = read_condition(rt.alloc(), &image, text)?;
+    }
+    Ok(())
+}
+
+#[test]
+fn conditions_are_refused_at_their_first_faulty_word(rt: HostRuntime) -> Result<(), Fail> {
+    let image = image(rt.alloc())?;
+    for (text, byte) in BAD {
+        refuses_condition(&rt, rt.alloc(), &image, text, *byte);
+    }
+    Ok(())
+}
+
+#[test]
+fn items_are_read(rt: HostRuntime) -> Result<(), Fail> {
+    let image = image(rt.alloc())?;
+    for (text, count) in LISTS {
+        let items = read_items(rt.alloc(), &image, text)?;
+        assert_eq!(rt; items.shown.len(), *count, "{text:?}");
+    }
+    Ok(())
+}
+
+#[test]
+fn items_are_refused_at_the_first_that_is_none(rt: HostRuntime) -> Result<(), Fail> {
+    let image = image(rt.alloc())?;
+    for (text, byte) in BAD_LISTS {
+        refuses_items(&rt, rt.alloc(), &image, text, *byte);
+    }
+    Ok(())
+}
