@@ -1,5 +1,6 @@
 -- What the laws of cleared tags say: where a tag is lost, and which reasons are so.
-use Rattle.std.specs.Prelude.{◌≡◌, ℕ, ◌==◌, Bool, true, false, not, ◌&&◌, if◌then◌else◌, List, [], ◌∷◌}
+use Rattle.std.specs.Prelude.{◌≡◌, ℕ, ◌==◌, Bool, true, false, not, ◌&&◌, if◌then◌else◌, List, []}
+use Rattle.std.specs.Prelude.{◌∷◌}
 use Rattle.std.specs.Prelude.{Option, Some, None, Contains, ⊤}
 use Rattle.cap_model.specs.declared.reason.Reason.{Reason}
 use Rattle.cap_model.specs.values.CapValue.{CapValue, tag_of}

@@ -49,7 +49,8 @@ IsNotTrap outcome.Halt = ⊤
 IsNotTrap (outcome.Trap trap) = ⊥
 
 -- what was seen before a step of a hart: nothing where its fetch traps
-abbrev pub IsSeenBefore : Option Seen → List Instr → ℕ → HartState → List CapValue → Origins → Type 0
+abbrev pub IsSeenBefore : Option Seen → List Instr → ℕ → HartState → List CapValue → Origins
+    → Type 0
 IsSeenBefore None program number hart memory origins = fetched_of program hart.pcc ≡ None
 IsSeenBefore (Some seen) program number hart memory origins =
     (fetched_of program hart.pcc ≡ Some seen.fetched) × IsSeen seen number hart memory origins

@@ -1,5 +1,6 @@
 -- Parts that several tables of reasons share, each with the numbers that its lines speak of.
-use Rattle.std.specs.Prelude.{ℕ, ◌+◌, ◌/◌, ◌^◌, ◌==◌, nat_lt, not, if◌then◌else◌, bit_and, Option, Some}
+use Rattle.std.specs.Prelude.{ℕ, ◌+◌, ◌/◌, ◌^◌, ◌==◌, nat_lt, not, if◌then◌else◌, bit_and, Option}
+use Rattle.std.specs.Prelude.{Some}
 use Rattle.std.specs.Prelude.{None}
 use Rattle.cap_model.specs.values.Capability.{sentry_type}
 use Rattle.cap_model.specs.values.CapValue.{bits_of, tag_of}
@@ -52,7 +53,8 @@ abbrev pub rebuilt_outside : Operands → Option Why
 rebuilt_outside o =
     if nat_lt (base_of o.w) (base_of o.v) then Some (why.BaseBelow (base_of o.w) (base_of o.v))
     else if nat_lt (top_of o.v) (top_of o.w) then Some (why.TopAbove (top_of o.w) (top_of o.v))
-    else if nat_lt (top_of o.w) (base_of o.w) then Some (why.BaseAboveTop (base_of o.w) (top_of o.w))
+    else if nat_lt (top_of o.w) (base_of o.w)
+    then Some (why.BaseAboveTop (base_of o.w) (top_of o.w))
     else None
 
 -- it has permissions that the source lacks

@@ -74,7 +74,8 @@ fn sealed(name: Spot, value: Cap) -> Why
 
 /// An object type outside the authority's bounds.
 fn type_outside(o: &Operands) -> Why
-    ensures { result ≡ Why.TypeOutside (address_of o.now.w) (base_of o.now.w) (top_of o.now.w) o.now.authority }
+    ensures { result ≡ Why.TypeOutside (address_of o.now.w) (base_of o.now.w) (top_of o.now.w)
+        o.now.authority }
 {
     let (base, top) = o.w.bounds();
     Why::TypeOutside {

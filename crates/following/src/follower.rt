@@ -1,6 +1,7 @@
 //! The core that is followed.
 
-ghost use Rattle.std.specs.Prelude.{◌≡◌, ◌↔◌, ◌<◌, [], IfOk, IfErr, OnOk, OnErr, Err, None, false, length, slice_index_or};
+ghost use Rattle.std.specs.Prelude.{◌≡◌, ◌↔◌, ◌<◌, [], IfOk, IfErr, OnOk, OnErr, Err, None, false};
+ghost use Rattle.std.specs.Prelude.{length, slice_index_or};
 ghost use Rattle.cap_model.specs.values.Capability.{Capability};
 ghost use Rattle.cap_model.specs.values.CapValue.{valid};
 ghost use Rattle.cheri_model.specs.runs.Replay.{operations_of};
@@ -153,8 +154,8 @@ fn stepped(core: &mut Core, number: u8) -> Outcome
 
 impl Follower {
     /// The machine of an image before its first step, with room for a trace of `limit` events; each
-    /// value is its own origin. Fails with `Limit` exactly where the limit is not from 1 to 100,000,
-    /// and otherwise only when out of memory.
+    /// value is its own origin. Fails with `Limit` exactly where the limit is not from 1 to
+    /// 100,000, and otherwise only when out of memory.
     pub fn boot(alloc: Global, image: Image, limit: u32) -> Result<Follower, BootFault>
         ensures opened { IfOk result (λ follower. follower ≡ opening_core image limit) }
         ensures limit { (result ≡ Err BootFault.Limit) ↔ (is_limit limit ≡ false) }
@@ -173,8 +174,8 @@ impl Follower {
         self.core.refusal(op)
     }
 
-    /// One step of this hart, with its facts. It is refused exactly where `refusal` says so, and then
-    /// nothing changes. Takes no memory.
+    /// One step of this hart, with its facts. It is refused exactly where `refusal` says so, and
+    /// then nothing changes. Takes no memory.
     pub fn step(&mut self, hart: u8) -> Result<StepFacts, StepFault>
         ensures answered { result ≡ answered_facts self.old hart }
         ensures applied { self.new ≡ applied self.old (Op.Step hart) }

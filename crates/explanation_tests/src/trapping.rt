@@ -1,0 +1,272 @@
+//! Each reason of a trap in words.
+//!
+//! A row sets c5 and c6, where it says so, and runs one instruction. The words are those of the
+//! format's table, for values that were computed by hand.
+
+use crate::rows::{GRANULE, LOAD, NONE, SENTRY, TYPED, WHOLE, ends_with};
+use std::test::Fail;
+
+/// A trap: c5, c6, the instruction, the cause's name, and why.
+const TRAPPED: &[(&str, &str, &str, &str, &str)] = &[
+    (
+        GRANULE,
+        "",
+        "lh c7, 1(c5)",
+        "Align",
+        "0000000080000001 is no multiple of 2",
+    ),
+    (
+        GRANULE,
+        "",
+        "sw c7, 2(c5)",
+        "Align",
+        "0000000080000002 is no multiple of 4",
+    ),
+    (
+        GRANULE,
+        "",
+        "lwu c7, 1(c5)",
+        "Align",
+        "0000000080000001 is no multiple of 4",
+    ),
+    (
+        GRANULE,
+        "",
+        "sd c7, 4(c5)",
+        "Align",
+        "0000000080000004 is no multiple of 8",
+    ),
+    (
+        "cap 0x80000000 32 0x80000008 all",
+        "",
+        "lc c7, 0(c5)",
+        "Align",
+        "0000000080000008 is no multiple of 16",
+    ),
+    (
+        "cap 0x80000000 32 0x80000008 all",
+        "",
+        "sc c6, 0(c5)",
+        "Align",
+        "0000000080000008 is no multiple of 16",
+    ),
+    (
+        "cap 0x80000000 32 0x80000008 all",
+        "",
+        "amoswap.c c7, c6, c5",
+        "Align",
+        "0000000080000008 is no multiple of 16",
+    ),
+    (
+        "cap 0x10000000 16 0x10000003 execute",
+        "",
+        "cjalr c7, 0(c5)",
+        "Align",
+        "0000000010000002 is no multiple of 4",
+    ),
+    (
+        "cap 0x10000000 16 0x10000003 execute+cinvoke 7",
+        "cap 0 1 0 cinvoke 7",
+        "cinvoke c5, c6",
+        "Align",
+        "0000000010000002 is no multiple of 4",
+    ),
+    (
+        "cap 0x10000000 16 0x10000000 load",
+        "",
+        "cjalr c7, 0(c5)",
+        "Execute",
+        "c5 has no execute",
+    ),
+    (
+        "cap 0x10000000 16 0x10000000 cinvoke 7",
+        "cap 0x80000000 16 0x80000000 cinvoke 7",
+        "cinvoke c5, c6",
+        "Execute",
+        "c5 has no execute",
+    ),
+    (
+        "cap 0x10000000 16 0x10000000 execute+cinvoke 7",
+        "cap 0x80000000 16 0x80000000 execute+cinvoke 7",
+        "cinvoke c5, c6",
+        "Execute",
+        "c6 has execute",
+    ),
+    (
+        "cap 0x10000000 16 0x10000000 execute+cinvoke 7",
+        "",
+        "cinvoke c5, c5",
+        "Execute",
+        "c5 has execute",
+    ),
+    (
+        GRANULE,
+        "",
+        "ld c7, 16(c5)",
+        "Length",
+        "8 bytes at 0000000080000010 are not in 0000000080000000 00000000080000010 of c5",
+    ),
+    (
+        GRANULE,
+        "",
+        "sb c7, -1(c5)",
+        "Length",
+        "1 bytes at 000000007fffffff are not in 0000000080000000 00000000080000010 of c5",
+    ),
+    (
+        GRANULE,
+        "",
+        "lc c7, 1(c5)",
+        "Length",
+        "16 bytes at 0000000080000001 are not in 0000000080000000 00000000080000010 of c5",
+    ),
+    (
+        "cap 0x10000000 16 0x10000000 execute",
+        "",
+        "cjalr c7, 17(c5)",
+        "Length",
+        "4 bytes at 0000000010000010 are not in 0000000010000000 00000000010000010 of c5",
+    ),
+    (
+        "cap 0x10000000 16 0x10000000 execute",
+        "",
+        "cjalr c7, -1(c5)",
+        "Length",
+        "4 bytes at 000000000ffffffe are not in 0000000010000000 00000000010000010 of c5",
+    ),
+    (
+        "cap 0x10000000 16 0x1000000f execute+cinvoke 7",
+        "cap 0 1 0 cinvoke 7",
+        "cinvoke c5, c6",
+        "Length",
+        "4 bytes at 000000001000000e are not in 0000000010000000 00000000010000010 of c5",
+    ),
+    (NONE, "", "ld c7, 0(c5)", "Load", "c5 has no load"),
+    (NONE, "", "lc c7, 0(c5)", "Load", "c5 has no load"),
+    (NONE, "", "amoswap.c c7, c6, c5", "Load", "c5 has no load"),
+    (LOAD, "", "sd c7, 0(c5)", "Store", "c5 has no store"),
+    (LOAD, "", "sc c7, 0(c5)", "Store", "c5 has no store"),
+    (LOAD, "", "amoswap.c c7, c6, c5", "Store", "c5 has no store"),
+    (
+        "cap 0x80000000 16 0x80000000 load+store+store_local",
+        NONE,
+        "sc c6, 0(c5)",
+        "StoreCap",
+        "c5 has no store_cap for a tagged c6",
+    ),
+    (
+        "cap 0x80000000 16 0x80000000 load+store+store_cap",
+        LOAD,
+        "sc c6, 0(c5)",
+        "StoreLocal",
+        "c5 has no store_local for a local c6",
+    ),
+    (
+        "cap 0x80000000 16 0x80000000 load+store+store_local",
+        NONE,
+        "amoswap.c c7, c6, c5",
+        "StoreCap",
+        "c5 has no store_cap for a tagged c6",
+    ),
+    (
+        "cap 0x80000000 16 0x80000000 load+store+store_cap",
+        LOAD,
+        "amoswap.c c7, c6, c5",
+        "StoreLocal",
+        "c5 has no store_local for a local c6",
+    ),
+    (
+        "cap 0x80000000 16 0x80000000 execute 7",
+        "cap 0x80000000 16 0x80000000 cinvoke 7",
+        "cinvoke c5, c6",
+        "CInvoke",
+        "c5 has no cinvoke",
+    ),
+    (
+        "cap 0x80000000 16 0x80000000 cinvoke 7",
+        "cap 0x80000000 16 0x80000000 none 7",
+        "cinvoke c5, c6",
+        "CInvoke",
+        "c6 has no cinvoke",
+    ),
+    (
+        WHOLE,
+        "",
+        "lb c7, 0(c5)",
+        "Place",
+        "1 bytes at 0000000000000000 are not in RAM",
+    ),
+    (
+        "cap 0x80000000 0x2000 0x80001000 all",
+        "",
+        "sc c6, 0(c5)",
+        "Place",
+        "16 bytes at 0000000080001000 are not in RAM",
+    ),
+    (TYPED, "", "lbu c7, 0(c5)", "Seal", "c5 is sealed (5)"),
+    (TYPED, "", "sw c6, 0(c5)", "Seal", "c5 is sealed (5)"),
+    (TYPED, "", "lc c7, 0(c5)", "Seal", "c5 is sealed (5)"),
+    (TYPED, "", "sc c6, 0(c5)", "Seal", "c5 is sealed (5)"),
+    (
+        TYPED,
+        "",
+        "amoswap.c c7, c6, c5",
+        "Seal",
+        "c5 is sealed (5)",
+    ),
+    (TYPED, "", "cjalr c7, 0(c5)", "Seal", "c5 is sealed (5)"),
+    (SENTRY, "", "lw c7, 0(c5)", "Seal", "c5 is sealed (sentry)"),
+    (
+        SENTRY,
+        "",
+        "cjalr c7, 4(c5)",
+        "Seal",
+        "c5 is sealed (sentry)",
+    ),
+    (
+        GRANULE,
+        GRANULE,
+        "cinvoke c5, c6",
+        "Seal",
+        "c5 is not sealed with a type",
+    ),
+    (
+        SENTRY,
+        GRANULE,
+        "cinvoke c5, c6",
+        "Seal",
+        "c5 is not sealed with a type",
+    ),
+    (
+        TYPED,
+        GRANULE,
+        "cinvoke c5, c6",
+        "Seal",
+        "c6 is not sealed with a type",
+    ),
+    (
+        TYPED,
+        "cap 0x80000000 16 0x80000000 all 262139",
+        "cinvoke c5, c6",
+        "Type",
+        "types 5 and 262139 differ",
+    ),
+    ("int 1", "", "lb c7, 0(c5)", "Tag", "c5 is untagged"),
+    ("int 1", "", "sd c6, 0(c5)", "Tag", "c5 is untagged"),
+    ("int 1", "", "lc c7, 0(c5)", "Tag", "c5 is untagged"),
+    ("int 1", "", "sc c6, 0(c5)", "Tag", "c5 is untagged"),
+    ("int 1", "", "amoswap.c c7, c6, c5", "Tag", "c5 is untagged"),
+    ("int 1", "", "cjalr c7, 0(c5)", "Tag", "c5 is untagged"),
+    ("int 1", "", "cinvoke c5, c6", "Tag", "c5 is untagged"),
+    (GRANULE, "int 1", "cinvoke c5, c6", "Tag", "c6 is untagged"),
+    ("", "", "lb c7, 0(c0)", "Tag", "c0 is untagged"),
+];
+
+#[test]
+fn traps_have_their_reasons(rt: HostRuntime) -> Result<(), Fail> {
+    for (c5, c6, instruction, cause, why) in TRAPPED {
+        let line = format!(in rt.alloc(); "  traps {cause}: {why}")?;
+        ends_with(&rt, rt.alloc(), (c5, c6, instruction), line.as_str())?;
+    }
+    Ok(())
+}

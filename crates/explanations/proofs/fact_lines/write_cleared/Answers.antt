@@ -1,0 +1,10 @@
+use Rattle.std.proofs.Common.{append_assoc}
+use Rattle.explanations.specs.FactLines.{clears_line}
+use Rattle.explanations.proofs.fact_lines.write_cleared.Goals as goal
+
+pub returns : goal.returns
+unfolding clears_line
+returns c =
+    let e = simp (c.in_ok-write_why.ensures, c.in_ok-write.ensures.bytes) at c.in_ok-push_str.ensures.bytes in
+    let grouped = simp append_assoc at e in
+    simp append_assoc grouped

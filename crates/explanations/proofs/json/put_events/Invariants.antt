@@ -1,0 +1,22 @@
+-- What the sink took, what is kept and the others' texts are those of all; no put has failed; the follower took the events
+-- so far.
+use Rattle.std.proofs.Common.{◌≡◌, ◌++◌, false, drop, string_bytes}
+use Rattle.cheri_model.specs.runs.Replay.{operations_of}
+use Rattle.sinks.specs.Sinks.{TakesAllBut}
+use Rattle.explanations.specs.Explanation.{explained_events}
+use Rattle.explanations.specs.JsonText.{events_from}
+use Rattle.explanations.proofs.RunLemmas.{IsAt}
+use Rattle.explanations.proofs.json.put_events.Given as goal
+
+abbrev pub invariant-loop-number : goal.invariant-loop-number
+invariant-loop-number g l =
+    let order = operations_of l.core.trace in
+    let events = explained_events l.core.image order in
+    record {
+      taken : TakesAllBut (g.S.Sink.taken l.initial.sink) (g.S.Sink.taken l.sink)
+          (string_bytes l.out ++ events_from l.lines l.selection l.later l.number (drop l.number events))
+          (string_bytes l.initial.out ++ events_from l.lines l.selection false 0 events);
+      failures : g.S.Sink.failures l.sink ≡ g.S.Sink.failures l.initial.sink;
+      place : g.S.Sink.place l.sink ≡ g.S.Sink.place l.initial.sink;
+      position : IsAt l.core.image l.core.limit order l.number l.follower;
+    }

@@ -1,0 +1,53 @@
+use Rattle.std.proofs.Common.{◌≡◌, ℕ, List, ◌++◌, length, false, refl, ap, ◌∙◌}
+use Rattle.std.proofs.lemmas.List.{length-map}
+use Rattle.cheri_model.specs.declared.operation.Op.{Op}
+use Rattle.cheri_model.specs.declared.operation.Event.{Event}
+use Rattle.cheri_model.specs.runs.Image.{ImageParts}
+use Rattle.cheri_model.specs.runs.Replay.{operation_of, operations_of}
+use Rattle.sinks.proofs.SinkLemmas.{takes_none}
+use Rattle.explanations.specs.declared.selection.Selection.{Selection}
+use Rattle.explanations.specs.Explanation.{explained_events, explanation_json}
+use Rattle.explanations.specs.JsonText.{json_head, events_from, json_end}
+use Rattle.explanations.proofs.JsonParts.{json_parts}
+use Rattle.explanations.proofs.Parts.{parts_begin, parts_stop, parts_end}
+use Rattle.explanations.proofs.json.write_json.Goals as goal
+
+counted : (trace : List Event) → length (operations_of trace) ≡ length trace
+unfolding operations_of
+counted trace = length-map trace operation_of
+
+parts : (image : ImageParts) (lines : List ℕ) (selection : Selection) (trace : List Event)
+    → explanation_json image lines selection (operations_of trace)
+    ≡ json_head (length trace) ++ (events_from lines selection false 0 (explained_events image (operations_of trace)) ++ json_end image)
+parts image lines selection trace =
+    json_parts image lines selection (operations_of trace)
+    ∙ ap (λ n. json_head n ++ (events_from lines selection false 0 (explained_events image (operations_of trace)) ++ json_end image)) (counted trace)
+
+pub returns-in_err-out-clause-beginning : goal.returns-in_err-out-clause-beginning
+returns-in_err-out-clause-beginning g c = (_, takes_none _ _)
+
+pub returns-in_err-write_head-clause-beginning : goal.returns-in_err-write_head-clause-beginning
+returns-in_err-write_head-clause-beginning g c = (_, takes_none _ _)
+
+pub returns-in_err-put_events-clause-beginning : goal.returns-in_err-put_events-clause-beginning
+returns-in_err-put_events-clause-beginning g c =
+    parts_begin _ _ _ _ _ _ _ (parts _ _ _ _) (rw (c.in_ok-out.ensures.bytes, c.view-view.ensures.entries) at c.in_ok-write_head.ensures) c.put_events.ensures.beginning
+
+pub returns-in_err-write_end-clause-beginning : goal.returns-in_err-write_end-clause-beginning
+returns-in_err-write_end-clause-beginning g c =
+    parts_begin _ _ _ _ _ _ _ (parts _ _ _ _) (rw (c.in_ok-out.ensures.bytes, c.view-view.ensures.entries) at c.in_ok-write_head.ensures) (_, c.in_ok-put_events.ensures.whole)
+
+pub returns-in_err-put_whole-clause-beginning : goal.returns-in_err-put_whole-clause-beginning
+returns-in_err-put_whole-clause-beginning g c =
+    parts_stop _ _ _ _ _ _ _ _ _ _ (parts _ _ _ _) (rw (c.in_ok-out.ensures.bytes, c.view-view.ensures.entries) at c.in_ok-write_head.ensures)
+    c.in_ok-put_events.ensures.whole (c.as_bytes.ensures.value ∙ (rw c.view-view.ensures.image at c.in_ok-write_end.ensures)) c.put_whole.ensures.beginning
+
+pub returns-clause-whole : goal.returns-clause-whole
+returns-clause-whole g c =
+    parts_end _ _ _ _ _ _ _ _ _ _ (parts _ _ _ _) (rw (c.in_ok-out.ensures.bytes, c.view-view.ensures.entries) at c.in_ok-write_head.ensures)
+    c.in_ok-put_events.ensures.whole (c.as_bytes.ensures.value ∙ (rw c.view-view.ensures.image at c.in_ok-write_end.ensures)) c.in_ok-put_whole.ensures.whole
+
+pub returns-clause-beginning : goal.returns-clause-beginning
+returns-clause-beginning g c =
+    parts_stop _ _ _ _ _ _ _ _ _ _ (parts _ _ _ _) (rw (c.in_ok-out.ensures.bytes, c.view-view.ensures.entries) at c.in_ok-write_head.ensures)
+    c.in_ok-put_events.ensures.whole (c.as_bytes.ensures.value ∙ (rw c.view-view.ensures.image at c.in_ok-write_end.ensures)) c.put_whole.ensures.beginning

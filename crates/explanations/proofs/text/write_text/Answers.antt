@@ -1,0 +1,52 @@
+use Rattle.std.proofs.Common.{◌≡◌, ℕ, List, ◌++◌, length, map, codes, refl, ap, ◌∙◌}
+use Rattle.std.proofs.lemmas.List.{length-map}
+use Rattle.cheri_model.specs.declared.operation.Op.{Op}
+use Rattle.cheri_model.specs.declared.operation.Event.{Event}
+use Rattle.cheri_model.specs.runs.Image.{ImageParts}
+use Rattle.cheri_model.specs.runs.Replay.{operation_of, operations_of}
+use Rattle.report_lines.specs.Texts.{line}
+use Rattle.sinks.proofs.SinkLemmas.{takes_none}
+use Rattle.explanations.specs.declared.selection.Selection.{Selection}
+use Rattle.explanations.specs.Explanation.{explanation, head_lines, events_lines}
+use Rattle.explanations.proofs.Parts.{parts_begin, parts_stop, parts_end}
+use Rattle.explanations.proofs.text.write_text.Goals as goal
+
+counted : (trace : List Event) → length (operations_of trace) ≡ length trace
+unfolding operations_of
+counted trace = length-map trace operation_of
+
+parts : (image : ImageParts) (lines : List ℕ) (selection : Selection) (trace : List Event)
+    → explanation image lines selection (operations_of trace)
+    ≡ head_lines image (length trace) ++ (events_lines image lines selection (operations_of trace) ++ line (codes "end"))
+unfolding explanation
+parts image lines selection trace =
+    ap (λ n. head_lines image n ++ (events_lines image lines selection (operations_of trace) ++ line (codes "end"))) (counted trace)
+
+pub returns-in_err-out-clause-beginning : goal.returns-in_err-out-clause-beginning
+returns-in_err-out-clause-beginning g c = (_, takes_none _ _)
+
+pub returns-in_err-write_head-clause-beginning : goal.returns-in_err-write_head-clause-beginning
+returns-in_err-write_head-clause-beginning g c = (_, takes_none _ _)
+
+pub returns-in_err-put_events-clause-beginning : goal.returns-in_err-put_events-clause-beginning
+returns-in_err-put_events-clause-beginning g c =
+    parts_begin _ _ _ _ _ _ _ (parts _ _ _ _) (rw (c.in_ok-out.ensures.bytes, c.view-view.ensures.entries, c.view-view.ensures.image) at c.in_ok-write_head.ensures) c.put_events.ensures.beginning
+
+pub returns-in_err-push_str-clause-beginning : goal.returns-in_err-push_str-clause-beginning
+returns-in_err-push_str-clause-beginning g c =
+    parts_begin _ _ _ _ _ _ _ (parts _ _ _ _) (rw (c.in_ok-out.ensures.bytes, c.view-view.ensures.entries, c.view-view.ensures.image) at c.in_ok-write_head.ensures) (_, c.in_ok-put_events.ensures.whole)
+
+pub returns-in_err-put_whole-clause-beginning : goal.returns-in_err-put_whole-clause-beginning
+returns-in_err-put_whole-clause-beginning g c =
+    parts_stop _ _ _ _ _ _ _ _ _ _ (parts _ _ _ _) (rw (c.in_ok-out.ensures.bytes, c.view-view.ensures.entries, c.view-view.ensures.image) at c.in_ok-write_head.ensures)
+    c.in_ok-put_events.ensures.whole (c.as_bytes.ensures.value ∙ c.in_ok-push_str.ensures.bytes) c.put_whole.ensures.beginning
+
+pub returns-clause-whole : goal.returns-clause-whole
+returns-clause-whole g c =
+    parts_end _ _ _ _ _ _ _ _ _ _ (parts _ _ _ _) (rw (c.in_ok-out.ensures.bytes, c.view-view.ensures.entries, c.view-view.ensures.image) at c.in_ok-write_head.ensures)
+    c.in_ok-put_events.ensures.whole (c.as_bytes.ensures.value ∙ c.in_ok-push_str.ensures.bytes) c.in_ok-put_whole.ensures.whole
+
+pub returns-clause-beginning : goal.returns-clause-beginning
+returns-clause-beginning g c =
+    parts_stop _ _ _ _ _ _ _ _ _ _ (parts _ _ _ _) (rw (c.in_ok-out.ensures.bytes, c.view-view.ensures.entries, c.view-view.ensures.image) at c.in_ok-write_head.ensures)
+    c.in_ok-put_events.ensures.whole (c.as_bytes.ensures.value ∙ c.in_ok-push_str.ensures.bytes) c.put_whole.ensures.beginning

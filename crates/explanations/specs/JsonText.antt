@@ -1,0 +1,30 @@
+-- The text of an explanation in JSON, in pieces.
+use Rattle.std.specs.Prelude.{ℕ, Bool, if◌then◌else◌, List, [], ◌++◌, codes, decimal}
+use Rattle.serde_json.specs.Written.{comma_if, compact_text, items_text}
+use Rattle.cheri_model.specs.runs.Image.{ImageParts}
+use Rattle.report_lines.specs.EventData.{image_data}
+use Rattle.explanations.specs.declared.selection.Selection.{Selection}
+use Rattle.explanations.specs.Explanation.{Explained, is_shown, shown_from, event_data}
+use Rattle.explanations.specs.Explanation.{events_data}
+
+-- what is before the events
+unfoldable pub json_head : ℕ → List ℕ
+json_head count = codes "{\"entries\":" ++ (decimal count ++ codes ",\"events\":[")
+
+-- an event, after a comma where one is before it; nothing where it isn't shown
+unfoldable pub shown_item : List ℕ → Selection → Bool → ℕ → Explained → List ℕ
+shown_item lines selection later number explained =
+    if is_shown selection number explained.1
+    then comma_if later ++ compact_text (event_data lines number explained)
+    else []
+
+-- the events from one on, of which the first has this number, and the bracket after them
+abbrev pub events_from : List ℕ → Selection → Bool → ℕ → List Explained → List ℕ
+events_from lines selection later number events =
+    items_text later (events_data lines (shown_from selection number events))
+
+-- what is after them
+unfoldable pub json_end : ImageParts → List ℕ
+json_end image =
+    codes ",\"explanation\":" ++ (decimal 1 ++ (codes ",\"image\":"
+    ++ (compact_text (image_data image) ++ codes "}\n")))

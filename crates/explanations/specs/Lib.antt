@@ -1,0 +1,9 @@
+pub mod Names
+pub mod Reasons
+pub mod FactLines
+pub mod FactData
+pub mod Filters
+pub mod Explanation
+pub mod JsonText
+pub mod NextFacts
+pub mod ExplainedRuns

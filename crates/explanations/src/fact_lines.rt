@@ -1,0 +1,262 @@
+//! Facts in words, a line each.
+
+ghost use Rattle.std.specs.Prelude.{◌≡◌, ◌++◌, OnOk, Some, string_bytes};
+ghost use Rattle.explanations.specs.FactLines.{
+  if_any,
+  up_to_two,
+  from_text,
+  named_text,
+  reads_line,
+  at_line,
+  finds_line,
+  traps_line,
+  leaves_line,
+  sets_line,
+  clears_line,
+  swept_line,
+  line_of,
+  fetched_text,
+  step_head,
+  step_lines,
+};
+
+use crate::names::{OriginName, SpotName, SweptName};
+use crate::reasons::{write_trap_why, write_why};
+use cheri_model::{Event, NoMemory};
+use facts::{Cleared, Extent, Fetched, NamedValue, StepFacts, Trapped, UpToTwo};
+use notation::InstructionText;
+use origins::Place;
+use report_lines::{CauseName, HexWord, ValueText, write_event};
+use std::fmt;
+
+/// The origin of a value, if it has one.
+#[derive(Clone, Copy)]
+struct FromOrigin(Option<Place>);
+
+impl fmt::Display for FromOrigin {
+    ghost output = { λ from. Some (if_any from_text from.0) };
+
+    fn fmt<W: fmt::Write>(&self, f: &mut fmt::Formatter<W>) -> fmt::Result {
+        match self.0 {
+            Some(place) => write!(f, " from {}", OriginName(place)),
+            None => Ok(()),
+        }
+    }
+}
+
+/// A place, its value, and the value's origin.
+#[derive(Clone, Copy)]
+struct NamedText(NamedValue);
+
+impl fmt::Display for NamedText {
+    ghost output = { λ named. Some (named_text named.0) };
+
+    fn fmt<W: fmt::Write>(&self, f: &mut fmt::Formatter<W>) -> fmt::Result {
+        let NamedValue {
+            name,
+            value,
+            origin,
+        } = self.0;
+        write!(
+            f,
+            "{} {}{}",
+            SpotName(name),
+            ValueText(value),
+            FromOrigin(origin)
+        )
+    }
+}
+
+/// Appends what was read.
+#[tactic(auto, unfolding(crate::specs::FactLines::reads_line))]
+fn write_read(out: &mut String, named: NamedValue) -> Result<(), NoMemory>
+    ensures { OnOk result (string_bytes out.new ≡ string_bytes out.old ++ reads_line named) }
+{
+    writeln!(out, "  reads {}", NamedText(named))?;
+    Ok(())
+}
+
+/// Appends all that was read.
+fn write_reads(out: &mut String, reads: UpToTwo<NamedValue>) -> Result<(), NoMemory>
+    ensures { OnOk result (string_bytes out.new
+        ≡ string_bytes out.old ++ up_to_two reads_line reads) }
+{
+    match reads {
+        UpToTwo::Zero => Ok(()),
+        UpToTwo::One(named) => write_read(out, named),
+        UpToTwo::Two(first, second) => {
+            write_read(out, first)?;
+            write_read(out, second)
+        }
+    }
+}
+
+/// Appends what was set.
+#[tactic(auto, unfolding(crate::specs::FactLines::sets_line))]
+fn write_set(out: &mut String, named: NamedValue) -> Result<(), NoMemory>
+    ensures { OnOk result (string_bytes out.new ≡ string_bytes out.old ++ sets_line named) }
+{
+    writeln!(out, "  sets {}", NamedText(named))?;
+    Ok(())
+}
+
+/// Appends all that was set.
+fn write_sets(out: &mut String, sets: UpToTwo<NamedValue>) -> Result<(), NoMemory>
+    ensures { OnOk result (string_bytes out.new
+        ≡ string_bytes out.old ++ up_to_two sets_line sets) }
+{
+    match sets {
+        UpToTwo::Zero => Ok(()),
+        UpToTwo::One(named) => write_set(out, named),
+        UpToTwo::Two(first, second) => {
+            write_set(out, first)?;
+            write_set(out, second)
+        }
+    }
+}
+
+/// Appends where an access of memory was, if there was one.
+#[tactic(auto, unfolding(crate::specs::FactLines::at_line))]
+fn write_at(out: &mut String, at: Option<Extent>) -> Result<(), NoMemory>
+    ensures { OnOk result (string_bytes out.new ≡ string_bytes out.old ++ if_any at_line at) }
+{
+    if let Some(Extent { address, bytes }) = at {
+        writeln!(out, "  at {} {bytes}", HexWord(address))?;
+    }
+    Ok(())
+}
+
+/// Appends the granule that an access found, if it was done.
+#[tactic(auto, unfolding(crate::specs::FactLines::finds_line))]
+fn write_finds(out: &mut String, finds: Option<NamedValue>) -> Result<(), NoMemory>
+    ensures { OnOk result (string_bytes out.new
+        ≡ string_bytes out.old ++ if_any finds_line finds) }
+{
+    if let Some(named) = finds {
+        writeln!(out, "  finds {}", NamedText(named))?;
+    }
+    Ok(())
+}
+
+/// Appends why a step trapped.
+fn write_trap(out: &mut String, trapped: Trapped) -> Result<(), NoMemory>
+    ensures { OnOk result (string_bytes out.new ≡ string_bytes out.old ++ traps_line trapped) }
+{
+    write!(out, "  traps {}: ", CauseName(trapped.trap.cause))?;
+    write_trap_why(out, trapped.why)?;
+    out.push_str("\n")?;
+    Ok(())
+}
+
+/// Appends why a step trapped, if it did.
+fn write_traps(out: &mut String, traps: Option<Trapped>) -> Result<(), NoMemory>
+    ensures { OnOk result (string_bytes out.new
+        ≡ string_bytes out.old ++ if_any traps_line traps) }
+{
+    match traps {
+        Some(trapped) => write_trap(out, trapped),
+        None => Ok(()),
+    }
+}
+
+/// Appends the granule that a store left, if it was done.
+#[tactic(auto, unfolding(crate::specs::FactLines::leaves_line))]
+fn write_leaves(out: &mut String, leaves: Option<NamedValue>) -> Result<(), NoMemory>
+    ensures { OnOk result (string_bytes out.new
+        ≡ string_bytes out.old ++ if_any leaves_line leaves) }
+{
+    if let Some(named) = leaves {
+        writeln!(out, "  leaves {}", NamedText(named))?;
+    }
+    Ok(())
+}
+
+/// Appends what lost its tag, and why.
+fn write_cleared(out: &mut String, cleared: Cleared) -> Result<(), NoMemory>
+    ensures { OnOk result (string_bytes out.new ≡ string_bytes out.old ++ clears_line cleared) }
+{
+    write!(out, "  clears {}: ", SpotName(cleared.name))?;
+    write_why(out, cleared.why)?;
+    out.push_str("\n")?;
+    Ok(())
+}
+
+/// Appends what lost its tag, if something did.
+fn write_clears(out: &mut String, clears: Option<Cleared>) -> Result<(), NoMemory>
+    ensures { OnOk result (string_bytes out.new
+        ≡ string_bytes out.old ++ if_any clears_line clears) }
+{
+    match clears {
+        Some(cleared) => write_cleared(out, cleared),
+        None => Ok(()),
+    }
+}
+
+/// Appends that a sweep cleared a place.
+#[tactic(auto, unfolding(crate::specs::FactLines::swept_line))]
+pub(crate) fn write_swept(out: &mut String, place: Place) -> Result<(), NoMemory>
+    ensures { OnOk result (string_bytes out.new ≡ string_bytes out.old ++ swept_line place) }
+{
+    writeln!(out, "  clears {}: swept", SweptName(place))?;
+    Ok(())
+}
+
+/// The listing's line of an instruction, by the instruction's number: 0 where it has none.
+pub(crate) fn line_of(lines: &[u32], number: usize) -> u32
+    ensures { result ≡ line_of lines.now number }
+{
+    if number < lines.len() {
+        lines[number]
+    } else {
+        0
+    }
+}
+
+/// Appends an instruction after the number of its line, where its fetch passed.
+fn write_fetched(out: &mut String, lines: &[u32], fetched: Option<Fetched>) -> Result<(), NoMemory>
+    ensures { OnOk result (string_bytes out.new
+        ≡ string_bytes out.old ++ if_any (fetched_text lines.now) fetched) }
+{
+    if let Some(Fetched { number, instr }) = fetched {
+        let line = line_of(lines, number);
+        write!(out, " | line {line}: {}", InstructionText(instr.form()))?;
+    }
+    Ok(())
+}
+
+/// Appends the report's line of a step, and the instruction where its fetch passed.
+fn write_head(
+    out: &mut String,
+    lines: &[u32],
+    number: usize,
+    facts: &StepFacts,
+) -> Result<(), NoMemory>
+    ensures { OnOk result (string_bytes out.new
+        ≡ string_bytes out.old ++ step_head lines.now number facts.now) }
+{
+    write_event(out, number, &Event::Step(facts.entry))?;
+    write_fetched(out, lines, facts.fetched)?;
+    out.push_str("\n")?;
+    Ok(())
+}
+
+/// Appends a step and its facts.
+pub(crate) fn write_step(
+    out: &mut String,
+    lines: &[u32],
+    number: usize,
+    facts: &StepFacts,
+) -> Result<(), NoMemory>
+    ensures { OnOk result (string_bytes out.new
+        ≡ string_bytes out.old ++ step_lines lines.now number facts.now) }
+{
+    write_head(out, lines, number, facts)?;
+    write_reads(out, facts.reads)?;
+    write_at(out, facts.at)?;
+    write_finds(out, facts.finds)?;
+    write_traps(out, facts.traps)?;
+    write_leaves(out, facts.leaves)?;
+    write_sets(out, facts.sets)?;
+    write_clears(out, facts.clears)?;
+    Ok(())
+}

@@ -1,0 +1,16 @@
+//! Explanations of a run: what each event read, found, left and set, why it trapped and why a tag
+//! was lost, as text and in JSON.
+#![tactic(auto)]
+
+mod fact_data;
+mod fact_lines;
+mod followed;
+mod json;
+mod names;
+mod reasons;
+mod runs;
+mod selection;
+mod text;
+
+pub use runs::{Format, explain};
+pub use selection::{Filter, Selection};

@@ -1,0 +1,57 @@
+//! Names of places, and of the places of the image that values come from.
+
+ghost use Rattle.std.specs.Prelude.{Some};
+ghost use Rattle.explanations.specs.Names.{spot_name, swept_name, origin_name};
+
+use origins::{Place, Spot};
+use report_lines::granule_address;
+use std::fmt;
+
+/// A place as the hart that steps names it: `c7`, `pcc` or `mem` and a granule's address.
+#[derive(Clone, Copy)]
+pub(crate) struct SpotName(pub Spot);
+
+impl fmt::Display for SpotName {
+    ghost output = { λ name. Some (spot_name name.0) };
+
+    fn fmt<W: fmt::Write>(&self, f: &mut fmt::Formatter<W>) -> fmt::Result {
+        match self.0 {
+            Spot::Pcc => f.write_str("pcc"),
+            Spot::Register(number) => write!(f, "c{number}"),
+            Spot::Granule(number) => write!(f, "mem {}", granule_address(number as usize)),
+        }
+    }
+}
+
+/// A place that a sweep cleared: `0:c7`, `0:pcc` or `mem` and a granule's address.
+#[derive(Clone, Copy)]
+pub(crate) struct SweptName(pub Place);
+
+impl fmt::Display for SweptName {
+    ghost output = { λ name. Some (swept_name name.0) };
+
+    fn fmt<W: fmt::Write>(&self, f: &mut fmt::Formatter<W>) -> fmt::Result {
+        match self.0 {
+            Place::PccOf(hart) => write!(f, "{hart}:pcc"),
+            Place::RegisterOf { hart, number } => write!(f, "{hart}:c{number}"),
+            Place::GranuleOf(number) => write!(f, "mem {}", granule_address(number as usize)),
+        }
+    }
+}
+
+/// The place of the image that has a value's capability: `0:c7`, `0:pcc` or `mem:` and a granule's
+/// address.
+#[derive(Clone, Copy)]
+pub(crate) struct OriginName(pub Place);
+
+impl fmt::Display for OriginName {
+    ghost output = { λ name. Some (origin_name name.0) };
+
+    fn fmt<W: fmt::Write>(&self, f: &mut fmt::Formatter<W>) -> fmt::Result {
+        match self.0 {
+            Place::PccOf(hart) => write!(f, "{hart}:pcc"),
+            Place::RegisterOf { hart, number } => write!(f, "{hart}:c{number}"),
+            Place::GranuleOf(number) => write!(f, "mem:{}", granule_address(number as usize)),
+        }
+    }
+}
