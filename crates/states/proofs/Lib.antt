@@ -1,0 +1,13 @@
+pub mod TouchLemmas
+pub mod TableLemmas
+pub mod SizeLemmas
+pub mod OpeningLemmas
+pub mod GraphLemmas
+pub mod RowLemmas
+pub mod StepLemmas
+pub mod NodeLemmas
+pub mod TakenLemmas
+pub mod EdgeLemmas
+pub mod KeepLemmas
+pub mod LabelLemmas
+pub mod KeptLemmas

@@ -1,0 +1,93 @@
+-- What a search kept: the first states in the order of their witnesses.
+use Rattle.std.specs.Prelude.{◌≡◌, ◌≢◌, ℕ, ◌<◌, ◌≤◌, List, length, reverse, Option, Some, None, Bool, true, false, ◌⊎◌}
+use Rattle.cheri_model.specs.declared.operation.Op.{Op}
+use Rattle.cheri_model.specs.runs.Image.{ImageParts}
+use Rattle.cheri_model.specs.runs.Machine.{MachineState, opening_state}
+use Rattle.cheri_model.specs.runs.Replay.{is_legal, replayed_state}
+use Rattle.graph_search.specs.declared.edges.Edge.{Edge}
+use Rattle.graph_search.specs.Searches.{IsExplored}
+use Rattle.graph_search.specs.Trees.{IsFound, state_at, edge_at, Found}
+use Rattle.graph_search.specs.Walks.{IsWitness}
+use Rattle.schedules.specs.declared.ranges.SweepRange.{SweepRange}
+use Rattle.schedules.specs.Schedules.{next, AreLabelsOf, AreAllowed}
+use Rattle.state_store.specs.Stores.{Stored}
+use Rattle.states.specs.Graphs.{GraphParts, state_in}
+
+-- the rows of the states in a store, the edges by which they were found, the limit of the search, and
+-- whether these are all
+pub record KeptParts : Type 0 where
+  pub image : ImageParts
+  pub sweeps : List SweepRange
+  pub store : Stored
+  pub nodes : List (List ℕ)
+  pub edges : List Edge
+  pub limit : ℕ
+  pub complete : Bool
+
+abbrev pub kept_of : ImageParts → List SweepRange → Stored → Found → ℕ → KeptParts
+kept_of image sweeps store found limit =
+    record {
+      image = image;
+      sweeps = sweeps;
+      store = store;
+      nodes = found.nodes;
+      edges = found.edges;
+      limit = limit;
+      complete = found.complete;
+    }
+
+-- the graph of which they are nodes
+abbrev pub graph_of : KeptParts → GraphParts
+graph_of kept = record { image = kept.image; sweeps = kept.sweeps; store = kept.store }
+
+-- how many states are kept; the state with a number, and the edge by which it was found
+abbrev pub count : KeptParts → ℕ
+count kept = length kept.nodes
+
+abbrev pub at : KeptParts → ℕ → Option MachineState
+at kept = state_at (state_in (graph_of kept)) kept.nodes
+
+abbrev pub edge : KeptParts → ℕ → Edge
+edge kept = edge_at kept.edges
+
+-- the kept states are the first ones that any order leads to, or all
+abbrev pub IsSearch : KeptParts → Type 0
+IsSearch kept =
+    IsExplored (next kept.image kept.sweeps) (opening_state kept.image) kept.limit
+    (at kept) (edge kept) (count kept) kept.complete
+
+-- What is kept beside: a graph with the edges of that image and those sweeps, in whose store the
+-- states are.
+pub record IsKept (image : ImageParts) (sweeps : List SweepRange) (graph : GraphParts)
+    (found : Found) (limit : ℕ) : Type 0 where
+  pub edges : next graph.image graph.sweeps ≡ next image sweeps
+  pub harts : length graph.image.harts ≡ length image.harts
+  pub search : IsSearch (kept_of image sweeps graph.store found limit)
+
+-- The witness of a state as an order: of the orders that lead to it the shortest, and of those the
+-- least, harts ascending before sweeps in the order given.
+pub record IsWitnessOrder (image : ImageParts) (sweeps : List SweepRange) (state : MachineState)
+    (order : List Op) : Type 0 where
+  pub labels : List ℕ
+  pub least : IsWitness (next image sweeps) (opening_state image) state labels
+  pub operations : AreLabelsOf image sweeps labels order
+  pub legal : is_legal image (opening_state image) order ≡ true
+  pub leads : replayed_state image order ≡ state
+
+-- the state that every legal order of steps and of these sweeps leaves is kept
+abbrev pub AreAllKept : KeptParts → Type 0
+AreAllKept kept = (order : List Op) → AreAllowed kept.sweeps order →
+    is_legal kept.image (opening_state kept.image) order ≡ true →
+    IsFound (at kept) (replayed_state kept.image order)
+
+-- the first kept state that passes, if any does
+abbrev pub IsFirstPassing : KeptParts → (MachineState → Bool) → Option ℕ → Type 0
+IsFirstPassing kept passing None =
+    (i : ℕ) (s : MachineState) → at kept i ≡ Some s → passing s ≡ false
+IsFirstPassing kept passing (Some k) =
+    (k < count kept) × ((s : MachineState) → at kept k ≡ Some s → passing s ≡ true)
+    × ((i : ℕ) (s : MachineState) → i < k → at kept i ≡ Some s → passing s ≡ false)
+
+-- the search found all states, or as many as it may
+abbrev pub IsWhole : KeptParts → ℕ → Type 0
+IsWhole kept limit = (kept.complete ≡ true) ⊎ (kept.limit ≡ limit)

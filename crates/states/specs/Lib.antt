@@ -1,0 +1,4 @@
+pub mod Accesses
+pub mod Locals
+pub mod Graphs
+pub mod Kept

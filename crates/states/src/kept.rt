@@ -1,0 +1,251 @@
+//! What a search kept.
+
+ghost use Rattle.std.specs.Prelude.{
+  ◌≡◌,
+  ℕ,
+  ◌+◌,
+  ◌*◌,
+  ◌<◌,
+  ◌≤◌,
+  length,
+  slice_get,
+  List,
+  Some,
+  None,
+  IsSome,
+  IfOk,
+  true,
+};
+ghost use Rattle.cheri_model.specs.runs.Machine.{MachineState};
+ghost use Rattle.cheri_model.specs.runs.Machine.{opening_state};
+ghost use Rattle.schedules.specs.Schedules.{operation_of_label, AreLabelsOf};
+ghost use Rattle.state_store.specs.Stores.{state_of};
+ghost use Rattle.states.specs.Graphs.{state_in};
+ghost use Rattle.schedules.specs.Schedules.{next};
+ghost use Rattle.states.specs.Kept.{kept_of, at, count, IsKept, IsSearch, IsWitnessOrder, AreAllKept};
+
+use crate::graph::MachineGraph;
+use cheri_model::{Image, Op};
+use graph_search::{Progress, Reached, explore};
+use schedules::SweepRange;
+use state_store::State;
+use std::alloc::{AllocError, Global};
+use std::marker::Model;
+
+/// The states that a search kept, numbered from 0 in the order of their witnesses: the first ones,
+/// or all. The witness of a state is the least of the shortest orders that lead to it.
+#[derive(Drop)]
+pub struct Kept {
+    image: Image,
+    sweeps: Vec<SweepRange>,
+    graph: MachineGraph,
+    reached: Reached,
+    limit: u32,
+}
+
+impl Model for Kept {
+    ghost use Rattle.states.specs.Kept.{KeptParts, kept_of, IsKept};
+
+    ghost Value = { KeptParts };
+
+    ghost view = { λ a. kept_of a.image a.sweeps.items a.graph.store a.reached a.limit };
+
+    ghost invariant = { λ a. IsKept a.image a.sweeps.items a.graph a.reached a.limit };
+}
+
+/// The operation of a label.
+#[tactic(auto, unfolding(schedules::specs::Schedules::operation_of_label))]
+fn operation_of_label(image: &Image, sweeps: &[SweepRange], label: u32) -> Op
+    requires { IsSome (operation_of_label image.now sweeps.now label) }
+    ensures { operation_of_label image.now sweeps.now label ≡ Some result }
+{
+    // Its clause says that there are at most 8 harts.
+    let _granules = image.granules();
+    let harts = image.harts().len();
+    let label = label as usize;
+    if label < harts {
+        return Op::Step(label as u8);
+    }
+    let range = sweeps[label - harts];
+    Op::Sweep {
+        lo: range.lo,
+        hi: range.hi,
+    }
+}
+
+impl Kept {
+    /// Searches a graph with the edges of an image and sweeps from a node: the first `limit` states,
+    /// or all.
+    pub(crate) fn search<P: Progress>(
+        alloc: Global,
+        image: Image,
+        sweeps: Vec<SweepRange>,
+        mut graph: MachineGraph,
+        start: &[u32],
+        limit: u32,
+        progress: &mut P,
+    ) -> Result<Kept, AllocError>
+        requires some { 0 < limit }
+        requires edges { next graph.image graph.sweeps ≡ next image sweeps.items }
+        requires harts { length graph.image.harts ≡ length image.harts }
+        requires opening { state_in graph start.now ≡ Some (opening_state image) }
+        ensures image { IfOk result (λ kept. kept.image ≡ image) }
+        ensures sweeps { IfOk result (λ kept. kept.sweeps ≡ sweeps.items) }
+        ensures limit { IfOk result (λ kept. kept.limit ≡ limit) }
+    {
+        let reached = explore(alloc, &mut graph, start, limit, progress)?;
+        Ok(Kept {
+            image,
+            sweeps,
+            graph,
+            reached,
+            limit,
+        })
+    }
+
+    /// Searches again, with another limit. What the search learned of single steps is kept.
+    pub fn search_again<P: Progress>(
+        self,
+        alloc: Global,
+        limit: u32,
+        progress: &mut P,
+    ) -> Result<Kept, AllocError>
+        requires { 0 < limit }
+        ensures image { IfOk result (λ kept. kept.image ≡ self.image) }
+        ensures sweeps { IfOk result (λ kept. kept.sweeps ≡ self.sweeps) }
+        ensures limit { IfOk result (λ kept. kept.limit ≡ limit) }
+    {
+        let Some(first) = self.reached.node(0) else {
+            unreachable!()
+        };
+        let start = Vec::from_slice(alloc, first)?;
+        Kept::search(
+            alloc,
+            self.image,
+            self.sweeps,
+            self.graph,
+            start.as_slice(),
+            limit,
+            progress,
+        )
+    }
+
+    /// How many states are kept.
+    pub fn len(&self) -> u32
+        ensures count { result ≡ count self.now }
+        ensures search { IsSearch self.now }
+    {
+        self.reached.len()
+    }
+
+    /// Whether these are all states that any order leads to.
+    pub fn is_complete(&self) -> bool
+        ensures complete { result ≡ self.now.complete }
+        ensures all { result ≡ true → AreAllKept self.now }
+    {
+        self.reached.is_complete()
+    }
+
+    /// The limit of the search.
+    pub fn limit(&self) -> u32
+        ensures { result ≡ self.now.limit }
+    {
+        self.limit
+    }
+
+    /// The image.
+    pub fn image(&self) -> &Image
+        ensures { result.now ≡ self.now.image }
+    {
+        &self.image
+    }
+
+    /// The state of this number.
+    pub fn state(&self, number: u32) -> State<'_>
+        requires { number < count self.now }
+        ensures state { at self.now number ≡ state_of result.store.now result.row.now }
+        ensures meant { IsSome (state_of result.store.now result.row.now) }
+        ensures harts { length result.row.now ≡ length self.now.image.harts + 1 }
+        ensures granules { 16 * result.store.now.granules ≡ self.now.image.ram }
+    {
+        // Its clause says how large RAM may be.
+        let _granules = self.image.granules();
+        let Some(row) = self.reached.node(number) else {
+            unreachable!()
+        };
+        State {
+            store: self.graph.store(),
+            row,
+        }
+    }
+
+    /// The witness of the state of this number: the order that leads to it. Fails only when out of
+    /// memory.
+    pub fn witness(&self, alloc: Global, number: u32) -> Result<Vec<Op>, AllocError>
+        requires { number < count self.now }
+        ensures { IfOk result (λ order. (s : MachineState) → at self.now number ≡ Some s →
+            IsWitnessOrder self.now.image self.now.sweeps s order.items) }
+    {
+        let labels = self.reached.witness(alloc, number)?;
+        self.operations(alloc, labels.as_slice())
+    }
+
+    /// The operations of labels, one by one. Fails only when out of memory.
+    pub fn operations(&self, alloc: Global, labels: &[u32]) -> Result<Vec<Op>, AllocError>
+        requires { (i l : ℕ) → slice_get labels.now i ≡ Some l →
+            IsSome (operation_of_label self.now.image self.now.sweeps l) }
+        ensures { IfOk result (λ order.
+            AreLabelsOf self.now.image self.now.sweeps labels.now order.items) }
+    {
+        let mut order = Vec::with_capacity(alloc, labels.len())?;
+        for label in labels {
+            let sweeps = self.sweeps.as_slice();
+            order.push(operation_of_label(&self.image, sweeps, *label))?;
+        }
+        Ok(order)
+    }
+}
+
+/// A search taken apart: the image and the sweeps, the graph with their edges, what it reached, and
+/// its limit.
+#[derive(Drop)]
+pub struct Searched {
+    pub image: Image,
+    pub sweeps: Vec<SweepRange>,
+    pub graph: MachineGraph,
+    pub reached: Reached,
+    pub limit: u32,
+}
+
+impl Kept {
+    /// Takes it apart.
+    pub fn into_parts(self) -> Searched
+        ensures parts { kept_of result.image result.sweeps.items result.graph.store result.reached
+            result.limit ≡ self }
+        ensures kept { IsKept result.image result.sweeps.items result.graph result.reached
+            result.limit }
+    {
+        Searched {
+            image: self.image,
+            sweeps: self.sweeps,
+            graph: self.graph,
+            reached: self.reached,
+            limit: self.limit,
+        }
+    }
+
+    /// Puts it together.
+    pub fn from_parts(parts: Searched) -> Kept
+        requires { IsKept parts.image parts.sweeps.items parts.graph parts.reached parts.limit }
+        ensures { result ≡ kept_of parts.image parts.sweeps.items parts.graph.store parts.reached
+            parts.limit }
+    {
+        Kept {
+            image: parts.image,
+            sweeps: parts.sweeps,
+            graph: parts.graph,
+            reached: parts.reached,
+            limit: parts.limit,
+        }
+    }
+}

@@ -1,0 +1,17 @@
+//! The states that an image's machine can reach, under every order of its harts' steps and of
+//! sweeps.
+#![tactic(auto)]
+
+mod accesses;
+mod graph;
+mod kept;
+pub mod laws;
+mod locals;
+mod passing;
+mod search;
+mod sweeping;
+
+pub use graph::{MAX_SWEEPS, MachineGraph};
+pub use kept::{Kept, Searched};
+pub use passing::StateTest;
+pub use search::{Found, find_from, search_from};
