@@ -1,6 +1,6 @@
 -- That the rows which steps and sweeps write are those of the states to which edges lead.
-use Rattle.std.proofs.Common.{◌≡◌, ◌≢◌, ℕ, zero, suc, ◌+◌, ◌-◌, ◌*◌, ◌<◌, ◌≤◌, List, [], ◌∷◌, length, map, arith, ap, sym, ◌∙◌, refl, subst, length-set, inl, inr, ◌⊎◌}
-use Rattle.std.specs.Prelude.{Option, Some, None, IsSome, slice_get, slice_set, slice_index_or, Bool, true, false, ◌&&◌, nat_le, if◌then◌else◌}
+use Rattle.std.proofs.Common.{◌≡◌, ℕ, suc, ◌+◌, ◌-◌, ◌<◌, ◌≤◌, List, length, arith, ap, sym, ◌∙◌, subst, length-set, inl, inr, ◌⊎◌}
+use Rattle.std.specs.Prelude.{Option, Some, None, slice_get, slice_set, slice_index_or, Bool, true, false, if◌then◌else◌}
 use Rattle.std.proofs.lemmas.Bool.Decides.{nat_tests}
 use Rattle.std.proofs.lemmas.Option.{slice_get-get_or}
 use Rattle.cap_model.specs.values.CapValue.{CapValue}
@@ -12,7 +12,7 @@ use Rattle.cheri_model.specs.runs.Sweeps.{is_range, swept_hart, swept_memory}
 use Rattle.graph_search.specs.Graphs.{LeadsTo}
 use Rattle.schedules.specs.declared.ranges.SweepRange.{SweepRange}
 use Rattle.schedules.specs.Schedules.{next, taken, sweep_of}
-use Rattle.state_store.specs.Stores.{Stored, hart_at, memory_at, state_of, Keeps}
+use Rattle.state_store.specs.Stores.{hart_at, memory_at}
 use Rattle.state_store.proofs.StoreLemmas.{memory_at_kept, hart_at_kept}
 use Rattle.states.specs.declared.locals.LocalStep.{LocalStep}
 use Rattle.states.specs.Locals.{touched, IsLocalStep}

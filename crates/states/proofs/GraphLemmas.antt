@@ -1,11 +1,9 @@
 -- Where the edges of the graph of a machine's states lead.
-use Rattle.std.proofs.Common.{◌≡◌, ℕ, zero, suc, ◌+◌, ◌-◌, ◌*◌, ◌<◌, ◌≤◌, List, [], ◌∷◌, length, arith, ap, sym, ◌∙◌, refl, subst}
-use Rattle.std.specs.Prelude.{Option, Some, None, slice_get, slice_set, Bool, true, false, nat_lt, if◌then◌else◌}
+use Rattle.std.proofs.Common.{◌≡◌, ℕ, ◌-◌, ◌<◌, ◌≤◌, List, length, arith}
+use Rattle.std.specs.Prelude.{Some, None, slice_get, true, false}
 use Rattle.std.proofs.lemmas.Bool.Decides.{nat_tests}
 use Rattle.cheri_model.specs.runs.Image.{ImageParts}
-use Rattle.cheri_model.specs.runs.Machine.{MachineState, hart_at, is_running, may_take, state_after_one, state_after_step, swept_state}
-use Rattle.cheri_model.specs.runs.Sweeps.{is_range}
-use Rattle.cheri_model.specs.steps.HartStep.{hart_step}
+use Rattle.cheri_model.specs.runs.Machine.{MachineState, hart_at, is_running, may_take, state_after_one, state_after_step}
 use Rattle.schedules.specs.declared.ranges.SweepRange.{SweepRange}
 use Rattle.schedules.specs.Schedules.{next, taken, operation_of_label, sweep_of}
 

@@ -12,9 +12,9 @@ use Rattle.graph_search.specs.Searches.{IsExplored}
 use Rattle.graph_search.specs.Trees.{IsTrace, Found, state_at, edge_at}
 use Rattle.graph_search.specs.Walks.{IsWitness}
 use Rattle.schedules.specs.declared.ranges.SweepRange.{SweepRange}
-use Rattle.schedules.specs.Schedules.{next, operation_of_label, AreLabelsOf, AreAllowed}
+use Rattle.schedules.specs.Schedules.{next, operation_of_label, AreLabelsOf}
 use Rattle.schedules.proofs.WalkLemmas.{walk_legal, replayed_reachable}
-use Rattle.state_store.specs.Stores.{Stored, memory_at, state_of}
+use Rattle.state_store.specs.Stores.{memory_at, state_of}
 use Rattle.state_store.proofs.NumberedLemmas.{then_some, each_length}
 use Rattle.state_store.proofs.ViewLemmas.{row_of_memory}
 use Rattle.state_store.proofs.SeenLemmas.{memory_there}

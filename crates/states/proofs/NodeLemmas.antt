@@ -1,18 +1,17 @@
 -- What is so of a node of the graph, and of the tables that the graph keeps.
-use Rattle.std.proofs.Common.{◌≡◌, ◌≢◌, ℕ, zero, suc, ◌+◌, ◌*◌, ◌<◌, ◌≤◌, List, [], ◌∷◌, length, arith, ap, sym, ◌∙◌, refl, subst, inl, inr}
-use Rattle.std.specs.Prelude.{Option, Some, None, IsSome, slice_get, slice_index_or, Bool, true, false, ◌==◌, if◌then◌else◌, option_and_then}
+use Rattle.std.proofs.Common.{◌≡◌, ◌≢◌, ℕ, ◌+◌, ◌<◌, ◌≤◌, List, length, arith, ap, sym, ◌∙◌, refl, subst, inl, inr}
+use Rattle.std.specs.Prelude.{Option, Some, None, IsSome, slice_get, slice_index_or, Bool, true, false, if◌then◌else◌}
 use Rattle.std.proofs.lemmas.Bool.{cases_eq, cases_Bool}
 use Rattle.std.proofs.lemmas.Bool.Decides.{nat_tests}
 use Rattle.std.proofs.lemmas.Option.{none-some, same_Some, slice_get_within, slice_get-get_or}
-use Rattle.cap_model.specs.values.CapValue.{CapValue}
 use Rattle.cheri_model.specs.declared.instr.Instr.{Instr}
 use Rattle.cheri_model.specs.steps.Hart.{HartState}
 use Rattle.cheri_model.specs.runs.Image.{ImageParts}
 use Rattle.cheri_model.specs.runs.Machine.{MachineState, is_running}
 use Rattle.cheri_model.specs.runs.Machine as machine
-use Rattle.state_store.specs.Stores.{Stored, hart_of, hart_at, memory_at, state_of, Keeps, IsOneRow}
+use Rattle.state_store.specs.Stores.{Stored, hart_of, hart_at, memory_at, state_of, IsOneRow}
 use Rattle.state_store.proofs.NumberedLemmas.{some_of, then_some}
-use Rattle.state_store.proofs.StoreLemmas.{hart_at_kept, state_of_kept, keeps_self, keeps_on}
+use Rattle.state_store.proofs.StoreLemmas.{state_of_kept, keeps_self, keeps_on}
 use Rattle.state_store.proofs.SeenLemmas.{seen_memory, seen_hart, seen_count}
 use Rattle.states.specs.declared.locals.LocalStep.{LocalStep}
 use Rattle.states.specs.Locals.{touched, site_of, stopped, IsTabled}

@@ -1,13 +1,12 @@
 -- How large the opening state of an image is.
-use Rattle.std.proofs.Common.{◌≡◌, ℕ, ◌+◌, ◌*◌, ◌/◌, List, [], ◌∷◌, length, map, fold, arith, ap, sym, ◌∙◌, refl, subst, length-set}
+use Rattle.std.proofs.Common.{◌≡◌, ℕ, ◌*◌, ◌/◌, List, [], ◌∷◌, length, fold, arith, ◌∙◌, refl, length-set}
 use Rattle.std.specs.Prelude.{true}
 use Rattle.std.proofs.lemmas.List.{length-map, length-replicate}
 use Rattle.cap_model.specs.values.CapValue.{CapValue, raw}
-use Rattle.cheri_model.specs.steps.Hart.{HartState}
 use Rattle.cheri_model.specs.steps.Memory.{granule_number, store_capability, cleared_memory}
 use Rattle.cheri_model.specs.runs.Image.{ImageParts, opening_hart, opening_memory}
 use Rattle.cheri_model.specs.runs.ImageForm.{is_image}
-use Rattle.cheri_model.specs.runs.Machine.{MachineState, opening_state}
+use Rattle.cheri_model.specs.runs.Machine.{opening_state}
 use Rattle.cheri_model.proofs.Granules.ImageGranules.{image_ram}
 
 stored : (memory : List CapValue) (granules : List (ℕ × CapValue)) →

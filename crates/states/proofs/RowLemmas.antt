@@ -1,14 +1,14 @@
 -- Rows of states and memories in which one number changed, and lists that are changed up to a place.
-use Rattle.std.proofs.Common.{◌≡◌, ℕ, zero, suc, ◌+◌, ◌-◌, ◌<◌, ◌≤◌, List, [], ◌∷◌, length, map, arith, ap, sym, ◌∙◌, refl, subst, length-set, ◌++◌, take, drop}
+use Rattle.std.proofs.Common.{◌≡◌, ℕ, zero, suc, ◌+◌, ◌<◌, ◌≤◌, List, [], ◌∷◌, length, map, arith, ap, sym, ◌∙◌, refl, subst, length-set, ◌++◌, take, drop}
 use Rattle.std.specs.Prelude.{Option, Some, None, IsSome, slice_get, slice_set, slice_index_or, Bool, true, false, if◌then◌else◌}
 use Rattle.std.proofs.lemmas.List.{take_at}
-use Rattle.std.proofs.lemmas.Option.{none-some, same_Some, slice_get_within, slice_get-get_or}
+use Rattle.std.proofs.lemmas.Option.{none-some, same_Some, slice_get-get_or}
 use Rattle.cap_model.specs.values.CapValue.{CapValue}
 use Rattle.cap_model.specs.results.Addresses.{clear_tag}
 use Rattle.cap_model.specs.results.Swept.{is_in_sweep, swept}
 use Rattle.cheri_model.specs.steps.Hart.{HartState}
 use Rattle.cheri_model.specs.runs.Machine.{MachineState}
-use Rattle.state_store.specs.Numbered.{Extends, each}
+use Rattle.state_store.specs.Numbered.{each}
 use Rattle.state_store.specs.Stores.{Stored, hart_at, memory_at, state_of, Keeps}
 use Rattle.state_store.proofs.NumberedLemmas.{each_kept, each_set, each_get, each_length, each_parts, each_cons}
 use Rattle.state_store.proofs.StoreLemmas.{hart_at_kept, memory_at_kept, state_parts, state_made}

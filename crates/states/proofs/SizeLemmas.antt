@@ -1,5 +1,5 @@
 -- The sizes of an image, and of a graph of which nothing is known yet.
-use Rattle.std.proofs.Common.{◌≡◌, ℕ, ◌+◌, ◌*◌, ◌<◌, ◌≤◌, List, [], length, arith, ap, sym, ◌∙◌, refl}
+use Rattle.std.proofs.Common.{◌≡◌, ◌<◌, ◌≤◌, List, [], length, arith, ap, sym, refl}
 use Rattle.std.specs.Prelude.{true, nat_le, ◌&&◌, ◌==◌, ◌%◌}
 use Rattle.std.proofs.lemmas.Bool.{and_parts}
 use Rattle.std.proofs.lemmas.Bool.Decides.{nat_tests}

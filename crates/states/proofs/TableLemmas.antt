@@ -1,18 +1,17 @@
 -- Tables of steps, while more harts, values and steps get numbers.
-use Rattle.std.proofs.Common.{◌≡◌, ◌≢◌, ℕ, zero, suc, ◌+◌, ◌<◌, ◌≤◌, List, [], ◌∷◌, ◌++◌, length, arith, ap, sym, ◌∙◌, refl, subst, inl, inr, ◌⊎◌}
-use Rattle.std.specs.Prelude.{Option, Some, None, slice_get, Result, Ok, Err, IfOk, OnErr, Bool, true, false, nat_lt, if◌then◌else◌, ◌-◌, take}
+use Rattle.std.proofs.Common.{◌≡◌, ◌≢◌, ℕ, zero, suc, ◌+◌, ◌<◌, List, [], ◌∷◌, ◌++◌, length, arith, ap, sym, ◌∙◌, refl, subst, inl, inr, ◌⊎◌}
+use Rattle.std.specs.Prelude.{Some, slice_get, Result, Ok, Err, IfOk, OnErr, Bool, true, false, nat_lt, if◌then◌else◌, ◌-◌, take}
 use Rattle.std.proofs.lemmas.Bool.Decides.{nat_tests}
 use Rattle.std.proofs.lemmas.List.{length-append, take_at}
 use Rattle.std.proofs.lemmas.Option.{none-some, same_Some, slice_get_within}
 use Rattle.cheri_model.specs.declared.instr.Instr.{Instr}
-use Rattle.cap_model.specs.values.CapValue.{CapValue}
 use Rattle.cheri_model.specs.steps.Hart.{HartState}
-use Rattle.interner.specs.Rows.{Rows, IsInterned, with_row}
+use Rattle.interner.specs.Rows.{Rows, IsInterned}
 use Rattle.state_store.specs.Numbered.{IsThereOrLast}
 use Rattle.state_store.specs.Stores.{Stored, hart_at, Keeps}
 use Rattle.state_store.proofs.StoreLemmas.{hart_at_kept}
 use Rattle.states.specs.declared.locals.LocalStep.{LocalStep}
-use Rattle.states.specs.Locals.{touched, local_step, local_value, site_of, IsLocalStep, IsTabled}
+use Rattle.states.specs.Locals.{local_step, local_value, site_of, IsLocalStep, IsTabled}
 
 -- an item of a list with one more
 item_cases : {A : Type 0} (xs : List A) (x : A) (i : ℕ) (y : A) → slice_get (xs ++ x ∷ []) i ≡ Some y →

@@ -1,11 +1,10 @@
 -- A step that is taken in a memory where a value was stored in the hart's granule.
-use Rattle.std.proofs.Common.{◌≡◌, ℕ, ◌+◌, ◌-◌, ◌*◌, ◌/◌, ◌%◌, ◌<◌, ◌≤◌, List, length, arith, ap, sym, ◌∙◌, refl, subst, length-set}
+use Rattle.std.proofs.Common.{◌≡◌, ℕ, ◌+◌, ◌*◌, ◌<◌, List, length, arith, ap, sym, ◌∙◌, refl, subst, length-set}
 use Rattle.std.specs.Prelude.{Some, slice_get, slice_set, slice_index_or, IsTrue, Bool, true, if◌then◌else◌}
 use Rattle.std.proofs.lemmas.List.{get_or-set_same}
 use Rattle.std.proofs.lemmas.Option.{slice_get-get_or}
 use Rattle.cap_model.specs.values.CapValue.{CapValue, raw}
 use Rattle.cheri_model.specs.declared.instr.Instr.{Instr}
-use Rattle.cheri_model.specs.declared.trace.Outcome.{Outcome}
 use Rattle.cheri_model.specs.steps.Hart.{HartState}
 use Rattle.cheri_model.specs.steps.HartStep.{Stepped, hart_step}
 use Rattle.cheri_model.specs.steps.Memory.{granule_at, granule_number, store_capability, fits}

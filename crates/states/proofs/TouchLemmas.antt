@@ -1,8 +1,8 @@
 -- A step touches one granule: what it does to its hart and to that granule is the same in any two
 -- memories of a size that agree there, and all other granules stay.
-use Rattle.std.proofs.Common.{◌≡◌, ℕ, zero, suc, ◌+◌, ◌<◌, ◌≤◌, List, [], ◌∷◌, length, arith, ap, sym, ◌∙◌, refl, subst, inl, inr}
-use Rattle.std.specs.Prelude.{Bool, true, false, Option, Some, None, Result, Ok, Err, slice_set, slice_index_or, nat_lt, if◌then◌else◌, replicate}
-use Rattle.std.proofs.lemmas.List.{set-get_or, get_or-set_same, length-set, length-replicate, get_or-replicate}
+use Rattle.std.proofs.Common.{◌≡◌, ℕ, zero, suc, ◌<◌, ◌≤◌, List, [], ◌∷◌, length, arith, ap, sym, ◌∙◌, refl, subst, inl, inr}
+use Rattle.std.specs.Prelude.{true, false, Option, Some, None, Result, Ok, Err, slice_set, slice_index_or, replicate}
+use Rattle.std.proofs.lemmas.List.{set-get_or, get_or-set_same, length-replicate, get_or-replicate}
 use Rattle.std.proofs.lemmas.Bool.{cases_lt}
 use Rattle.std.proofs.lemmas.Bool.Decides.{nat_tests}
 use Rattle.cheri_model.specs.declared.instr.Instr.{Instr}

@@ -1,5 +1,5 @@
 -- Where the next step of a hart accesses memory.
-use Rattle.std.specs.Prelude.{ℕ, List, length, Bool, true, false, Result, Ok, Err}
+use Rattle.std.specs.Prelude.{ℕ, List, length, Result, Ok, Err}
 use Rattle.cheri_model.specs.declared.instr.Instr.{Instr}
 use Rattle.cheri_model.specs.declared.trace.Trap.{Trap}
 use Rattle.cap_model.specs.results.Addresses.{address_of}

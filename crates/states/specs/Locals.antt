@@ -1,6 +1,6 @@
 -- What a step does to its hart and to the one granule that it may touch. Where a step makes no
 -- access, or none in RAM, that granule is granule 0, which stays as it is.
-use Rattle.std.specs.Prelude.{◌≡◌, ℕ, ◌<◌, List, [], ◌∷◌, length, slice_get, Some, nat_lt, if◌then◌else◌, replicate}
+use Rattle.std.specs.Prelude.{◌≡◌, ℕ, List, [], ◌∷◌, length, slice_get, Some, nat_lt, if◌then◌else◌, replicate}
 use Rattle.cheri_model.specs.declared.instr.Instr.{Instr}
 use Rattle.cap_model.specs.values.CapValue.{CapValue}
 use Rattle.cheri_model.specs.steps.Hart.{HartState}

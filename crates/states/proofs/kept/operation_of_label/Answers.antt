@@ -1,5 +1,5 @@
-use Rattle.std.proofs.Common.{◌≡◌, ◌≤◌, ◌<◌, ℕ, length, arith, ap, sym, ◌∙◌, subst, Some, List, ◌-◌}
-use Rattle.std.specs.Prelude.{slice_get, slice_index_or}
+use Rattle.std.proofs.Common.{◌≡◌, ◌≤◌, ℕ, length, arith, ap, sym, ◌∙◌, Some, List, ◌-◌}
+use Rattle.std.specs.Prelude.{slice_index_or}
 use Rattle.std.proofs.lemmas.Option.{slice_get_within, get_or_from_slice_get}
 use Rattle.cheri_model.specs.declared.image.HartImage.{HartImage}
 use Rattle.schedules.specs.declared.ranges.SweepRange.{SweepRange}

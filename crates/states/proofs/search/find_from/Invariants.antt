@@ -1,5 +1,5 @@
 -- the states so far, and the first of them that passes
-use Rattle.std.proofs.Common.{◌≡◌, ◌<◌, ◌≤◌, ◌-◌, ℕ}
+use Rattle.std.proofs.Common.{◌≡◌, ◌<◌, ◌≤◌, ◌-◌}
 use Rattle.states.specs.Kept.{IsFirstPassing}
 use Rattle.states.proofs.search.find_from.Given as goal
 

@@ -1,5 +1,5 @@
 -- none so far passes
-use Rattle.std.proofs.Common.{◌≡◌, ◌<◌, ◌≤◌, ℕ}
+use Rattle.std.proofs.Common.{◌≡◌, ◌<◌, ℕ}
 use Rattle.std.specs.Prelude.{Some, false}
 use Rattle.cheri_model.specs.runs.Machine.{MachineState}
 use Rattle.states.specs.Kept.{at}

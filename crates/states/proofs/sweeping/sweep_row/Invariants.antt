@@ -1,5 +1,5 @@
 -- the values so far are swept
-use Rattle.std.proofs.Common.{◌≡◌, ℕ, List, length}
+use Rattle.std.proofs.Common.{◌≡◌, List, length}
 use Rattle.std.specs.Prelude.{Some, slice_get}
 use Rattle.cap_model.specs.results.Swept.{swept}
 use Rattle.cap_model.specs.values.CapValue.{CapValue}

@@ -1,9 +1,9 @@
 use Rattle.std.proofs.Common.{◌≡◌, ap, sym, ◌∙◌, Some, slice_get}
-use Rattle.std.specs.Prelude.{true, false, Result, Ok, IfOk, ℕ}
+use Rattle.std.specs.Prelude.{ℕ}
 use Rattle.std.proofs.lemmas.Option.{same_Some}
 use Rattle.std.proofs.lemmas.Result.{IfOk-weaker}
 use Rattle.cap_model.specs.values.CapValue.{CapValue}
-use Rattle.cap_model.specs.results.Swept.{is_in_sweep, swept}
+use Rattle.cap_model.specs.results.Swept.{is_in_sweep}
 use Rattle.states.proofs.RowLemmas.{swept_stays, swept_clears}
 use Rattle.states.proofs.sweeping.swept_value.Goals as goal
 

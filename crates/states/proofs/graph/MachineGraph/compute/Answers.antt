@@ -1,7 +1,5 @@
-use Rattle.std.proofs.Common.{ap, sym, ◌∙◌, subst, List}
-use Rattle.cheri_model.specs.declared.instr.Instr.{Instr}
+use Rattle.std.proofs.Common.{ap, sym, ◌∙◌, subst}
 use Rattle.cheri_model.specs.runs.Image.{ImageParts}
-use Rattle.state_store.specs.Stores.{Stored}
 use Rattle.states.specs.Graphs.{GraphParts}
 use Rattle.states.specs.Locals.{IsLocalStep}
 use Rattle.states.proofs.TakenLemmas.{step_numbered}

@@ -1,5 +1,5 @@
-use Rattle.std.proofs.Common.{◌≡◌, ◌≤◌, ◌<◌, ◌-◌, ◌+◌, ℕ, List, length, arith, ap, sym, ◌∙◌, subst}
-use Rattle.std.specs.Prelude.{Some, IfOk, Option, Bool, slice_get}
+use Rattle.std.proofs.Common.{◌≡◌, ◌≤◌, ◌<◌, ◌-◌, ℕ, List, length, arith, ap, sym, ◌∙◌, subst}
+use Rattle.std.specs.Prelude.{Some, Option, Bool, slice_get}
 use Rattle.std.proofs.lemmas.Option.{slice_get-get_or}
 use Rattle.std.proofs.lemmas.Result.{IfOk-weaker}
 use Rattle.cheri_model.specs.declared.image.HartImage.{HartImage}

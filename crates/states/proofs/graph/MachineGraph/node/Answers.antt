@@ -1,4 +1,4 @@
-use Rattle.std.proofs.Common.{◌≡◌, ◌+◌, ◌<◌, ◌≤◌, ℕ, List, [], ◌∷◌, ◌++◌, length, take, arith, ap, sym, ◌∙◌, refl}
+use Rattle.std.proofs.Common.{◌≡◌, ◌<◌, ℕ, List, [], ◌∷◌, ◌++◌, length, take, arith, ap, sym, ◌∙◌}
 use Rattle.std.specs.Prelude.{Some}
 use Rattle.std.proofs.lemmas.List.{take_more, take_all}
 use Rattle.cheri_model.specs.steps.Hart.{HartState}
@@ -6,7 +6,6 @@ use Rattle.cheri_model.specs.runs.Image.{ImageParts}
 use Rattle.cheri_model.specs.runs.Machine.{MachineState}
 use Rattle.state_store.specs.Stores.{state_of}
 use Rattle.state_store.proofs.SeenLemmas.{seen_count}
-use Rattle.states.specs.Graphs.{GraphParts}
 use Rattle.states.proofs.NodeLemmas.{state_made, continues_on}
 use Rattle.states.proofs.RowLemmas.{row_begun, row_pushed}
 use Rattle.states.proofs.graph.MachineGraph.node.Goals as goal

@@ -1,5 +1,5 @@
 -- the row so far is that of the memory and of the harts so far
-use Rattle.std.proofs.Common.{◌≡◌, ◌≤◌, ℕ, take, length}
+use Rattle.std.proofs.Common.{◌≡◌, take}
 use Rattle.std.specs.Prelude.{Some}
 use Rattle.state_store.specs.Stores.{state_of}
 use Rattle.states.specs.Graphs.{Continues}

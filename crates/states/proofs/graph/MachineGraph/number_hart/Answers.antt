@@ -1,5 +1,5 @@
-use Rattle.std.proofs.Common.{◌≡◌, ◌<◌, ◌≤◌, ap, sym, ◌∙◌, subst, ℕ, List}
-use Rattle.std.specs.Prelude.{nat_lt, length, take, ◌-◌, ◌++◌, ◌∷◌, [], if◌then◌else◌}
+use Rattle.std.proofs.Common.{◌<◌, ◌≤◌, ap, sym, ◌∙◌, subst, ℕ, List}
+use Rattle.std.specs.Prelude.{nat_lt, length, take, ◌-◌, if◌then◌else◌}
 use Rattle.cheri_model.specs.declared.instr.Instr.{Instr}
 use Rattle.states.specs.Locals.{site_of}
 use Rattle.states.proofs.KeepLemmas.{granules_some, granules_few, graph_numbered}

@@ -1,10 +1,10 @@
-use Rattle.std.proofs.Common.{◌≡◌, ◌≢◌, ◌+◌, ◌<◌, ◌≤◌, ℕ, List, length, arith, ap, sym, ◌∙◌, refl, subst}
-use Rattle.std.specs.Prelude.{Some, None, IsSome, true, slice_get, slice_index_or, slice_set}
+use Rattle.std.proofs.Common.{◌≡◌, ◌+◌, ◌<◌, ℕ, List, length, arith, ap, sym, ◌∙◌, subst}
+use Rattle.std.specs.Prelude.{Some, true, slice_get, slice_index_or, slice_set}
 use Rattle.std.proofs.lemmas.Option.{slice_get-get_or, slice_get_within}
 use Rattle.cheri_model.specs.runs.Machine.{MachineState}
 use Rattle.cheri_model.specs.runs.Machine as machine
-use Rattle.state_store.specs.Stores.{hart_at, memory_at}
-use Rattle.state_store.proofs.SeenLemmas.{seen_granule, memory_wide}
+use Rattle.state_store.specs.Stores.{memory_at}
+use Rattle.state_store.proofs.SeenLemmas.{seen_granule}
 use Rattle.state_store.proofs.StoreLemmas.{memory_at_kept}
 use Rattle.graph_search.specs.Graphs.{LeadsTo}
 use Rattle.schedules.specs.Schedules.{next}
@@ -12,7 +12,7 @@ use Rattle.states.specs.Graphs.{GraphParts, IsGraph, state_in}
 use Rattle.states.specs.Locals.{local_value}
 use Rattle.states.proofs.KeepLemmas.{granules_some, granules_few}
 use Rattle.states.proofs.GraphLemmas.{next_of_stopped}
-use Rattle.states.proofs.NodeLemmas.{some_state, node_of, is_some, site_there, site_of_stopped, IsReady, ready, continues_on}
+use Rattle.states.proofs.NodeLemmas.{some_state, node_of, is_some, site_there, site_of_stopped, ready, continues_on}
 use Rattle.states.proofs.EdgeLemmas.{step_leads, step_writes}
 use Rattle.states.proofs.graph.MachineGraph.step_hart.Goals as goal
 

@@ -1,14 +1,12 @@
-use Rattle.std.proofs.Common.{◌≡◌, ◌+◌, ◌-◌, ◌*◌, ◌<◌, ◌≤◌, ◌^◌, ℕ, List, length, arith, ap, sym, ◌∙◌, refl, subst, inl, inr}
-use Rattle.std.specs.Prelude.{Some, true, false, slice_index_or}
-use Rattle.cheri_model.specs.steps.Hart.{HartState}
+use Rattle.std.proofs.Common.{◌-◌, ◌<◌, ◌≤◌, length, arith, ap, sym, ◌∙◌, inl, inr}
+use Rattle.std.specs.Prelude.{slice_index_or}
 use Rattle.cheri_model.specs.runs.Machine.{MachineState}
 use Rattle.cheri_model.specs.runs.Machine as machine
-use Rattle.cheri_model.specs.runs.Sweeps.{is_range}
 use Rattle.state_store.specs.Stores.{hart_at, memory_at}
 use Rattle.state_store.proofs.StoreLemmas.{memory_at_kept}
-use Rattle.states.specs.Graphs.{GraphParts, state_in}
+use Rattle.states.specs.Graphs.{state_in}
 use Rattle.states.proofs.NodeLemmas.{some_state, node_of, is_some, continues_self, continues_on}
-use Rattle.states.proofs.EdgeLemmas.{swept_to, sweep_begun, sweep_on, sweep_leads, hart_there, taken_of_none, range_good, range_bad}
+use Rattle.states.proofs.EdgeLemmas.{sweep_begun, sweep_on, sweep_leads, hart_there, taken_of_none, range_good, range_bad}
 use Rattle.states.proofs.graph.MachineGraph.sweep.Goals as goal
 
 pub returns-then-from-range-clause-value : goal.returns-then-from-range-clause-value

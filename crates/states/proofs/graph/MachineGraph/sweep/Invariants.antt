@@ -1,5 +1,5 @@
 -- the row is that of the state whose first harts are swept
-use Rattle.std.proofs.Common.{◌≡◌, ◌-◌, ◌≤◌, ℕ, length}
+use Rattle.std.proofs.Common.{◌≡◌, ◌-◌}
 use Rattle.std.specs.Prelude.{Some}
 use Rattle.cheri_model.specs.runs.Machine.{MachineState}
 use Rattle.states.specs.Graphs.{Continues, state_in}

@@ -1,14 +1,12 @@
-use Rattle.std.proofs.Common.{◌≡◌, ◌<◌, ◌≤◌, ℕ, List, length, arith, ap, sym, ◌∙◌, refl, subst}
+use Rattle.std.proofs.Common.{◌≡◌, ◌<◌, length, arith, ap, sym, ◌∙◌, subst}
 use Rattle.std.specs.Prelude.{Some, slice_get, true}
 use Rattle.std.proofs.lemmas.Option.{same_Some}
-use Rattle.cap_model.specs.values.CapValue.{CapValue}
-use Rattle.cheri_model.specs.declared.instr.Instr.{Instr}
 use Rattle.cheri_model.specs.steps.Hart.{HartState}
 use Rattle.cheri_model.specs.steps.HartStep.{Stepped, hart_step}
 use Rattle.cheri_model.specs.steps.Memory.{store_capability}
 use Rattle.cheri_model.specs.runs.Machine.{is_running}
 use Rattle.state_store.specs.Stores.{hart_at}
-use Rattle.states.specs.Graphs.{GraphParts, IsGraph}
+use Rattle.states.specs.Graphs.{GraphParts}
 use Rattle.states.specs.Locals.{local_step, local_value}
 use Rattle.states.proofs.KeepLemmas.{granules_some}
 use Rattle.states.proofs.NodeLemmas.{site_there}

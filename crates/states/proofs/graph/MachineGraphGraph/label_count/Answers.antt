@@ -1,4 +1,4 @@
-use Rattle.std.proofs.Common.{◌≡◌, ◌≤◌, ◌<◌, ℕ, length, arith, ap, List}
+use Rattle.std.proofs.Common.{◌≡◌, length, arith, ap, List}
 use Rattle.cheri_model.specs.declared.image.HartImage.{HartImage}
 use Rattle.states.proofs.SizeLemmas.{sizes_of}
 use Rattle.states.proofs.graph.MachineGraphGraph.label_count.Goals as goal

@@ -1,4 +1,4 @@
-use Rattle.std.proofs.Common.{sym, subst}
+use Rattle.std.proofs.Common.{subst}
 use Rattle.state_store.specs.Stores.{IsOneRow}
 use Rattle.states.specs.Graphs.{GraphParts}
 use Rattle.states.proofs.NodeLemmas.{state_kept, one_node}

@@ -1,4 +1,4 @@
-use Rattle.std.proofs.Common.{◌≡◌, sym, ◌∙◌, subst}
+use Rattle.std.proofs.Common.{sym, ◌∙◌, subst}
 use Rattle.states.specs.Kept.{KeptParts, kept_of, AreAllKept}
 use Rattle.states.proofs.KeptLemmas.{all_kept}
 use Rattle.states.proofs.kept.Kept.is_complete.Goals as goal

@@ -1,4 +1,4 @@
-use Rattle.std.proofs.Common.{◌≡◌, ◌+◌, ℕ, length, ap, sym, ◌∙◌, subst, arith}
+use Rattle.std.proofs.Common.{◌≡◌, ◌+◌, length, ◌∙◌, arith}
 use Rattle.cheri_model.specs.runs.Machine.{opening_state}
 use Rattle.schedules.specs.Schedules.{next}
 use Rattle.states.specs.Graphs.{state_in}

@@ -1,10 +1,8 @@
-use Rattle.std.proofs.Common.{◌≡◌, ◌+◌, ◌<◌, ◌*◌, ℕ, length, List, ap, sym, ◌∙◌, subst}
-use Rattle.std.specs.Prelude.{Some, Option}
-use Rattle.cheri_model.specs.runs.Machine.{MachineState}
+use Rattle.std.proofs.Common.{◌≡◌, ◌+◌, ◌<◌, ◌*◌, length, ap, sym, ◌∙◌, subst}
 use Rattle.state_store.specs.Stores.{Stored, state_of}
-use Rattle.states.specs.Kept.{KeptParts, at, count, kept_of, IsSearch}
+use Rattle.states.specs.Kept.{KeptParts, at, count, kept_of}
 use Rattle.states.proofs.NodeLemmas.{is_some}
-use Rattle.states.proofs.KeptLemmas.{IsSeen, seen_state, kept_granules}
+use Rattle.states.proofs.KeptLemmas.{seen_state, kept_granules}
 use Rattle.states.proofs.kept.Kept.state.Goals as goal
 
 pub returns-clause-state : goal.returns-clause-state
