@@ -1,0 +1,104 @@
+/**
+ * The simulator, as calls over texts. It computes nothing itself: a call puts its texts into the
+ * module's memory, and reads what is answered.
+ */
+const machine = (() => {
+  /** Room for every report: the largest has less than 15,800,000 bytes. */
+  const ROOM = 16_777_200;
+  const ANSWER_BYTES = 32;
+  const STATUS = { DONE: 0, LISTING: 1, ORDER: 2, STEP: 3, MEMORY: 4, ROOM: 5, NUMBER: 6 };
+  const OUT_OF_MEMORY = { status: STATUS.MEMORY, kind: 0, place: 0, text: "", line: "memory" };
+
+  const encoder = new TextEncoder();
+  const decoder = new TextDecoder();
+  let compiled = null;
+  let instance = null;
+
+  /** Takes the module's bytes. */
+  function begin(bytes) {
+    compiled = new WebAssembly.Module(bytes);
+    instance = null;
+  }
+
+  /** The module's calls. After a trap, or where memory ran out, they are those of a new instance. */
+  function calls() {
+    instance ??= new WebAssembly.Instance(compiled, {});
+    return instance.exports;
+  }
+
+  const bytesAt = (exports, place, count) =>
+    new Uint8Array(exports.memory.buffer, Number(place), count);
+
+  /** Puts bytes into the module's memory, and notes where. Nothing where there is no room. */
+  function put(exports, bytes, places) {
+    const place = exports.page_room(BigInt(bytes.length));
+    if (place === 0n) return false;
+    places.push(place);
+    bytesAt(exports, place, bytes.length).set(bytes);
+    return true;
+  }
+
+  /** What is answered: numbers, the text and the fault's line. */
+  function answerAt(exports, answer, out) {
+    const view = new DataView(exports.memory.buffer, Number(answer), ANSWER_BYTES);
+    const [status, kind] = [view.getUint32(0, true), view.getUint32(4, true)];
+    const [place, length, said] = [8, 16, 24].map((at) => Number(view.getBigUint64(at, true)));
+    if (status === STATUS.ROOM) return { status, kind, place, needed: length, text: "", line: "" };
+    return {
+      status, kind, place,
+      text: decoder.decode(bytesAt(exports, out, length)),
+      line: decoder.decode(bytesAt(exports, out + BigInt(length), said)).trimEnd(),
+    };
+  }
+
+  /** One call in the instance that there is, with so much room for its answer. */
+  function callWith(name, texts, numbers, room) {
+    const exports = calls();
+    const places = [];
+    const parts = texts.map((text) => (typeof text === "string" ? encoder.encode(text) : text));
+    const isPut = parts.every((bytes) => put(exports, bytes, places));
+    const out = isPut ? exports.page_room(BigInt(room)) : 0n;
+    const answer = out === 0n ? 0n : exports.page_room(BigInt(ANSWER_BYTES));
+    if (answer === 0n) {
+      instance = null;
+      return OUT_OF_MEMORY;
+    }
+    const words = parts.flatMap((bytes, index) => [places[index], BigInt(bytes.length)]);
+    exports[name](...words, ...numbers, out, BigInt(room), answer);
+    const answered = answerAt(exports, answer, out);
+    [...places, out, answer].forEach(exports.page_free);
+    if (answered.status === STATUS.MEMORY) instance = null;
+    return answered;
+  }
+
+  /**
+   * Calls the module: the texts, then the numbers. An answer has `status`, `kind` and `place` of
+   * the fault, the `text`, and the fault's `line`.
+   */
+  function call(name, texts, numbers = []) {
+    try {
+      const answered = callWith(name, texts, numbers, ROOM);
+      if (answered.status !== STATUS.ROOM) return answered;
+      return callWith(name, texts, numbers, answered.needed + 256);
+    } catch (trap) {
+      instance = null;
+      if (trap instanceof WebAssembly.RuntimeError) return OUT_OF_MEMORY;
+      throw trap;
+    }
+  }
+
+  /** How many bytes of memory the instance has now. */
+  const memoryBytes = () => (instance ? instance.exports.memory.buffer.byteLength : 0);
+
+  return {
+    STATUS, begin, memoryBytes,
+    check: (listing) => call("cheri_check", [listing]),
+    run: (listing, order) => call("cheri_run", [listing, order]),
+    json: (listing, order) => call("cheri_json", [listing, order]),
+    explain: (listing, order, from, to) => call("cheri_explain", [listing, order], [from, to]),
+    look: (listing, order, at, from, to) =>
+      call("cheri_look", [listing, order], [at, from, to]),
+    bounds: (base, len) => call("cheri_bounds", [base, len]),
+    decode: (word) => call("cheri_decode", [word]),
+  };
+})();
