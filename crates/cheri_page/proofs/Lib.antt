@@ -1,0 +1,2 @@
+-- What is told of a run, from what was written of it.
+pub mod RunLemmas
