@@ -10,7 +10,7 @@ const path = require("node:path");
 
 const KEYS = {
   ArrowLeft: 37, ArrowUp: 38, ArrowRight: 39, ArrowDown: 40, Home: 36, End: 35, Tab: 9,
-  Enter: 13, " ": 32, Escape: 27,
+  Enter: 13, " ": 32, Escape: 27, Delete: 46,
 };
 
 /** One connection to the browser; each message is answered by its number. */
@@ -102,7 +102,8 @@ class Tab {
   async press(key, modifiers = 0) {
     const code = KEYS[key] ?? key.toUpperCase().charCodeAt(0);
     const text = key === "Enter" ? "\r" : key.length === 1 && !modifiers ? key : undefined;
-    const named = { key, code: key, windowsVirtualKeyCode: code, modifiers };
+    const place = /^\d$/.test(key) ? `Digit${key}` : key;
+    const named = { key, code: place, windowsVirtualKeyCode: code, modifiers };
     await this.send("Input.dispatchKeyEvent",
       { type: text ? "keyDown" : "rawKeyDown", text, ...named });
     await this.send("Input.dispatchKeyEvent", { type: "keyUp", ...named });

@@ -1,0 +1,393 @@
+/**
+ * chromium.js PAGE ANSWERS [PICTURES]: the playground in Chromium, from disk and with the network off: the cases, a
+ * person's path by keyboard, faults at their lines, broken fragments, roles and names, contrast and widths, and that
+ * nothing leaves the page. Pictures are put into the folder PICTURES. Prints what failed, and last
+ * 'N passed, M failed'.
+ */
+"use strict";
+const fs = require("node:fs");
+const os = require("node:os");
+const path = require("node:path");
+const { withBrowser } = require("../../page/browser.js");
+const { check, checkFocus, checkQuiet, checkScreens, checkTree, end } = require("../../page/checks.js");
+const { readLines, readPage, same } = require("./common.js");
+
+const [page, answers, pictures] = process.argv.slice(2);
+const url = `file://${path.resolve(page)}`;
+const cases = readLines(answers);
+const { gallery } = readPage(page);
+const LAST = 4_294_967_295;
+const CONTROL = 2;
+const ALT = 1;
+
+/** Waits until a question that is asked in the page is answered by true. */
+async function until(tab, what, ...words) {
+  for (let tries = 0; tries < 200; tries += 1) {
+    if (await tab.ask(what, ...words)) return true;
+    await new Promise((resolve) => setTimeout(resolve, 25));
+  }
+  return false;
+}
+
+const isReady = () => document.documentElement?.dataset.ready === "yes";
+
+async function open(tab, fragment = "") {
+  await tab.send("Page.navigate", { url: "about:blank" });
+  await tab.go(url + fragment);
+  return until(tab, isReady);
+}
+
+const focus = (tab, id) => tab.ask((id) => document.getElementById(id).focus(), id);
+
+async function pressOn(tab, id, key) {
+  await focus(tab, id);
+  await tab.press(key);
+}
+
+/** Puts a text in place of what a field has, as a person would who marks all and types. */
+async function type(tab, id, text) {
+  await focus(tab, id);
+  await tab.ask((id) => document.getElementById(id).select(), id);
+  if (text) await tab.send("Input.insertText", { text });
+  else await tab.press("Delete");
+}
+
+/** What a person sees. */
+const seen = (tab) => tab.ask(() => {
+  const textOf = (id) => document.getElementById(id).textContent;
+  return {
+    listing: document.getElementById("listing").value,
+    order: document.getElementById("order").value,
+    place: textOf("place"),
+    words: textOf("words"),
+    fault: textOf("listing-fault"),
+    orderFault: textOf("order-fault"),
+    stale: textOf("stale"),
+    next: textOf("listing-next"),
+    isDimmed: document.getElementById("machine").classList.contains("dimmed"),
+    faulty: document.querySelector("#gutter .faulty")?.lastChild.textContent,
+    steps: [...document.querySelectorAll("#steps button")].map((one) => !one.disabled),
+    statuses: [...document.querySelectorAll("h3 .status")].map((one) => one.textContent),
+    harts: document.getElementById("harts").innerText,
+    notice: textOf("notice"),
+  };
+});
+
+// ------------------------------------------------------------------ the cases
+
+/** The module's answers to a part of the cases, compared in the page: the names of those that differ. */
+function differing(part) {
+  const bytesOf = (text) => Uint8Array.from(text, (one) => one.charCodeAt(0));
+  const same = (one, other) => ["status", "kind", "place", "text", "line"]
+    .every((name) => one[name] === other[name]);
+  return part.filter((one) => {
+    const texts = [bytesOf(one.listing), bytesOf(one.order)];
+    const checked = machine.check(texts[0]);
+    return checked.line !== one.check.line || !same(machine.run(...texts), one.run)
+      || !same(machine.json(...texts), one.json)
+      || (one.explain && !same(machine.explain(...texts, 0, 4_294_967_295), one.explain));
+  }).map(({ name }) => name);
+}
+
+async function checkCases(tab) {
+  const differ = [];
+  for (let at = 0; at < cases.length; at += 20) {
+    const part = cases.slice(at, at + 20).map(({ look, facts, ...one }) => one);
+    differ.push(...await tab.ask(differing, part));
+  }
+  check(`Chromium answers ${cases.length} cases as the program does`, differ.length === 0 && cases.length > 400,
+    differ);
+}
+
+// --------------------------------------------------------------- a person's path
+
+async function checkPath(tab, newTab) {
+  await open(tab);
+  const first = await seen(tab);
+  check("the page opens at its first example", first.listing === gallery[0].text, first.listing.slice(0, 80));
+  check("and shows its run", /^Event \d+/.test(first.words), first.words);
+
+  // another example of the gallery, by its list and its button
+  await focus(tab, "example");
+  await tab.press("l");
+  const chosen = await tab.ask(() => document.getElementById("example").value);
+  const example = gallery.find(({ name }) => name === chosen);
+  await tab.press("Tab");
+  await tab.press("Enter");
+  const opened = await seen(tab);
+  check("an example is opened by keys", example.name.startsWith("l") && opened.listing === example.text
+    && opened.order === example.orders[0].text, chosen);
+
+  // an edit to a faulty line, and back
+  await type(tab, "listing", opened.listing.replace(/^ecall/m, "ecal"));
+  const line = opened.listing.split("\n").indexOf("ecall") + 1;
+  const faulty = await seen(tab);
+  check("a fault is marked at its line", faulty.faulty === String(line)
+    && faulty.fault.startsWith(`listing line ${line}: 2 Word`), faulty);
+  check("the machine of the last good listing stays, dimmed", faulty.isDimmed
+    && faulty.stale === "of the last good listing" && faulty.harts === opened.harts, faulty.stale);
+  await type(tab, "listing", opened.listing);
+  const mended = await seen(tab);
+  check("and the mended listing is shown again", mended.fault === "" && !mended.isDimmed && mended.stale === ""
+    && mended.harts === opened.harts, mended.fault);
+
+  // three harts stepped by their keys, by a button, and taken back
+  const threeHarts = gallery.find(({ name }) => name === "leak");
+  await type(tab, "listing", threeHarts.text);
+  await type(tab, "order", "");
+  check("an empty order is position 0", (await seen(tab)).place === "0 of 0");
+  for (const hart of ["0", "1", "2"]) await tab.press(hart, ALT);
+  const stepped = await seen(tab);
+  check("Alt with a digit steps a hart", stepped.order === "012" && stepped.place === "3 of 3", stepped.order);
+  await tab.ask(() => document.querySelector("#steps button[data-hart='0']").focus());
+  await tab.press("Enter");
+  const pressed = await seen(tab);
+  check("so does its button, and it is disabled where the hart has stopped",
+    pressed.order === "0120" && same(pressed.steps, [false, true, true]), [pressed.order, pressed.steps]);
+  check("each hart's next instruction has its line", /hart 1: line \d+, hart 2: line \d+/.test(pressed.next), pressed.next);
+  await pressOn(tab, "undo", "Enter");
+  check("undo takes the last step back", (await seen(tab)).order === "012");
+
+  // back in the run, a step from there cuts the order
+  await pressOn(tab, "slider", "Home");
+  check("Home on the slider", (await seen(tab)).place === "0 of 3");
+  await tab.press("ArrowRight");
+  check("an arrow key on the slider", (await seen(tab)).place === "1 of 3");
+  await tab.press("2", ALT);
+  const cut = await seen(tab);
+  check("a step cuts the order after the operations done", cut.order === "02" && cut.place === "2 of 2", cut.order);
+  await pressOn(tab, "sweep-low", "Enter");
+  const swept = await seen(tab);
+  check("a sweep brings the header with it", swept.order === "order 2\n02[0x80000000,0x80001000]"
+    && swept.words.includes("sweep"), swept.order);
+  await pressOn(tab, "undo", "Enter");
+
+  // a race: the same seed, the same order; nothing refused in it
+  await type(tab, "order", "");
+  await type(tab, "race-seed", "7");
+  await type(tab, "race-count", "40");
+  await tab.press("Enter");
+  const raced = await seen(tab);
+  check("a race draws an order", /^[012]{5,40}$/.test(raced.order) && raced.orderFault === "", raced.order);
+  await type(tab, "order", "");
+  await type(tab, "race-count", "40");
+  await tab.press("Enter");
+  check("the same seed draws the same order", (await seen(tab)).order === raced.order);
+  await tab.press("Enter", CONTROL);
+  check("Ctrl and Enter runs", (await seen(tab)).place === `${raced.order.length} of ${raced.order.length}`);
+
+  // the tools
+  await pressOn(tab, "bounds-base", "Enter");
+  await pressOn(tab, "decode-word", "Enter");
+  const lines = await tab.ask(() => ["bounds-line", "decode-line"].map((id) => document.getElementById(id).textContent));
+  check("bounds and decode answer a line", lines[0].startsWith("ie=") && lines[1].startsWith("perms="), lines);
+
+  // the list of events
+  await tab.ask(() => document.querySelector("#events button").focus());
+  await tab.press("ArrowDown");
+  const listed = await seen(tab);
+  check("arrow keys in the list of events", listed.words.startsWith("Event ")
+    && listed.place === `${Number(/\d+/.exec(listed.words)[0]) + 1} of ${raced.order.length}`, listed.place);
+
+  await checkShare(tab, newTab);
+  await checkDownloads(tab);
+  await tab.send("Page.reload");
+  await until(tab, isReady);
+  const reloaded = await seen(tab);
+  check("a reload keeps both texts", reloaded.listing === threeHarts.text && reloaded.order === raced.order,
+    reloaded.order);
+}
+
+/** The link, opened in a new tab, gives the same page. */
+async function checkShare(tab, newTab) {
+  await pressOn(tab, "share", "Enter");
+  await until(tab, () => document.getElementById("share-link").value !== "");
+  const link = await tab.ask(() => document.getElementById("share-link").value);
+  check("a link is made", link.startsWith(`${url}#1.`), link.slice(0, 60));
+  await pressOn(tab, "run", "Enter");
+  const mine = await seen(tab);
+  const other = await newTab();
+  await open(other, link.slice(url.length));
+  const theirs = await seen(other);
+  check("the link opens the same page", same({ ...mine, notice: "" }, { ...theirs, notice: "" }),
+    Object.keys(mine).filter((key) => !same(mine[key], theirs[key])));
+  checkQuiet(other, "the linked page");
+  // a link that would be too long
+  await other.ask(() => { document.getElementById("share-link").value = ""; });
+  const noise = Array.from({ length: 60_000 }, () => Math.floor(Math.random() * 8)).join("");
+  await type(other, "order", noise);
+  await pressOn(other, "share", "Enter");
+  await until(other, () => document.getElementById("share-words").textContent.includes("too long"));
+  const words = await other.ask(() => document.getElementById("share-words").textContent);
+  check("a link that is too long is not made", words.includes("too long"), words);
+}
+
+/** What is downloaded has the bytes of the programs. */
+async function checkDownloads(tab) {
+  const folder = fs.mkdtempSync(path.join(os.tmpdir(), "downloads-"));
+  await tab.send("Browser.setDownloadBehavior", { behavior: "allow", downloadPath: folder }).catch(() =>
+    tab.connection.send("Browser.setDownloadBehavior", { behavior: "allow", downloadPath: folder }));
+  const names = ["listing.lst", "order.txt", "report.txt", "report.json", "explanation.txt"];
+  for (const name of names) {
+    await tab.ask((name) => document.querySelector(`[data-file="${name}"]`).focus(), name);
+    await tab.press("Enter");
+    for (let tries = 0; tries < 100 && !fs.existsSync(path.join(folder, name)); tries += 1) {
+      await new Promise((resolve) => setTimeout(resolve, 50));
+    }
+  }
+  const found = Object.fromEntries(names.map((name) => [name,
+    fs.existsSync(path.join(folder, name)) ? fs.readFileSync(path.join(folder, name), "utf8") : null]));
+  const wanted = await tab.ask(() => {
+    const [listing, order] = ["listing", "order"].map((id) => document.getElementById(id).value);
+    return {
+      "listing.lst": listing, "order.txt": order, "report.txt": machine.run(listing, order).text,
+      "report.json": machine.json(listing, order).text,
+      "explanation.txt": machine.explain(listing, order, 0, 4_294_967_295).text,
+    };
+  });
+  const wrong = names.filter((name) => found[name] !== wanted[name]);
+  check("downloads have the right bytes", wrong.length === 0, wrong);
+  fs.rmSync(folder, { recursive: true, force: true });
+}
+
+// ---------------------------------------------------------- faults, fragments, markup
+
+/** Each kind of fault of a listing, marked at its line. */
+async function checkFaults(tab) {
+  await open(tab);
+  const head = ".hart 0x10000000 4 0x10000000 execute\n";
+  const faults = {
+    "1 NotAscii": `${head}ecall # \u00e9\n`, "2 Word": `${head}nothing\necall\n`,
+    "3 Operand": `${head}add c1, c2\necall\n`, "4 Range": `${head}addi c1, c2, 5000\necall\n`,
+    "5 Label": `${head}cjal c0, nowhere\necall\n`, "6 Twice": `${head}a:\na:\necall\n`,
+    "7 Capability": `${head}.set c1 cap 0x80000001 4099 0x80000001 all\necall\n`,
+    "8 NoHart": `.set c1 int 5\n${head}ecall\n`, "9 Size": `.ram 17\n${head}ecall\n`,
+  };
+  const wrong = [];
+  for (const [kind, text] of Object.entries(faults)) {
+    await type(tab, "listing", text);
+    const { fault, faulty } = await seen(tab);
+    const [, line, found] = /^listing line (\d+): (.*?)( Go to line \d+)?$/.exec(fault) ?? [];
+    if (found !== kind || faulty !== line || line === "0") wrong.push([kind, fault, faulty]);
+  }
+  check(`each of ${Object.keys(faults).length} kinds of faults is marked at its line`, wrong.length === 0, wrong);
+  await type(tab, "listing", `${head}ecall\n`);
+  await type(tab, "order", "0 x");
+  const { orderFault } = await seen(tab);
+  const marked = await tab.ask(() => document.querySelector("#order-fault mark")?.textContent);
+  check("a fault of the order marks its byte", orderFault.startsWith("order byte 2: 1 Byte") && marked === "x",
+    [orderFault, marked]);
+  await type(tab, "order", "00");
+  const step = await tab.ask(() => [document.getElementById("order-fault").textContent,
+    document.getElementById("place").textContent]);
+  check("a refused step is told, and what ran before it shown", step[0].startsWith("order step 1: 3 HartStopped")
+    && step[1] === "1 of 1", step);
+}
+
+/** No text of a listing becomes markup. */
+async function checkMarkup(tab) {
+  const evil = "<img src=x onerror=document.title='taken'><script>document.title='taken'</script>";
+  await type(tab, "listing", `# ${evil}\n.hart 0x10000000 4 0x10000000 execute\necall # ${evil}\n${evil}\n`);
+  await type(tab, "order", evil);
+  const found = await tab.ask(() => [document.title, document.querySelectorAll("img").length,
+    document.querySelectorAll("main script").length]);
+  check("no text becomes markup", found[0] !== "taken" && found[1] === 0 && found[2] === 0, found);
+}
+
+/** A fragment cut at each byte, and with each byte changed, breaks nothing. */
+async function checkFragments(tab) {
+  await open(tab);
+  const wrong = await tab.ask(async () => {
+    const [listing, order] = [".hart 0x10000000 4 0x10000000 execute\necall\n", "0"];
+    const whole = await share.fragmentOf(listing, order);
+    const wrong = [];
+    const back = await share.read(whole);
+    if (back?.listing !== listing || back?.order !== order) wrong.push("whole");
+    for (let at = 0; at < whole.length; at += 1) {
+      for (const text of [whole.slice(0, at), `${whole.slice(0, at)}*${whole.slice(at + 1)}`,
+        `${whole.slice(0, at)}A${whole.slice(at + 1)}`]) {
+        const read = await share.read(text).catch((fault) => wrong.push([text, String(fault)]));
+        if (read && (typeof read.listing !== "string" || typeof read.order !== "string")) wrong.push(text);
+      }
+    }
+    return wrong;
+  });
+  check("a fragment cut or changed at each byte breaks nothing", wrong.length === 0, wrong.slice(0, 3));
+  for (const fragment of ["#1.", "#1.AAAA", "#2.abc", "#1.%00", "#nothing"]) {
+    await open(tab, fragment);
+    const { listing, notice } = await seen(tab);
+    check(`${fragment} leaves the page at its first example, and says so`,
+      listing === gallery[0].text && notice.includes("can't be read"), notice);
+  }
+}
+
+// ------------------------------------------------------------------------- speed
+
+/** How long it takes until the page is there and its first run is shown, and to answer a key. */
+async function checkSpeed(tab) {
+  let loaded = Infinity;
+  for (let count = 0; count < 3; count += 1) {
+    await tab.send("Page.navigate", { url: "about:blank" });
+    const began = performance.now();
+    await tab.go(url);
+    await until(tab, isReady);
+    loaded = Math.min(loaded, performance.now() - began);
+  }
+  const { key, large, run } = await tab.ask(() => {
+    const field = document.getElementById("listing");
+    const timed = (text) => {
+      const began = performance.now();
+      field.value = text;
+      field.dispatchEvent(new Event("input"));
+      return performance.now() - began;
+    };
+    const small = field.value;
+    const keys = Array.from({ length: 9 }, (_, n) => timed(`${small}${"#".repeat(n)}`)).sort((a, b) => a - b);
+    const many = `.hart 0x10000000 4 0x10000000 execute\n${"#".repeat(1_048_530)}\necall\n`;
+    const began = performance.now();
+    machine.check(many);
+    const large = performance.now() - began;
+    const busy = [".hart 0x10000000 8 0x10000000 execute", "again:", "addi c9, c9, 1", "cjal c0, again", ""].join("\n");
+    const start = performance.now();
+    machine.run(busy, "0".repeat(100_000));
+    return { key: keys[4], large, run: performance.now() - start };
+  });
+  const figures = { "the page is there": [loaded, 1000], "a key in a small listing": [key, 50],
+    "a check of 1 MiB": [large, 200], "a report of 100,000 steps": [run, 500] };
+  for (const [name, [taken, most]] of Object.entries(figures)) {
+    console.log(`playground: Chromium: ${name}: ${taken.toFixed(1)} ms`);
+    check(`${name} in less than ${most} ms`, taken < most, taken);
+  }
+}
+
+/** Where a browser lacks WebAssembly, a banner says so. */
+async function checkBanner(tab) {
+  await tab.send("Page.addScriptToEvaluateOnNewDocument", { source: "delete globalThis.WebAssembly" });
+  await tab.send("Page.navigate", { url: "about:blank" });
+  await tab.go(url);
+  const banner = await tab.ask(() => [document.getElementById("banner").hidden,
+    document.getElementById("banner").textContent, document.getElementById("banner").getAttribute("role")]);
+  check("a banner says what is missing", !banner[0] && banner[1].includes("WebAssembly") && banner[2] === "alert",
+    banner);
+}
+
+withBrowser(async (newTab) => {
+  const tab = await newTab();
+  await tab.send("Network.emulateNetworkConditions",
+    { offline: true, latency: 0, downloadThroughput: -1, uploadThroughput: -1 });
+  await tab.screen(1280, 900, false);
+  await open(tab);
+  await checkTree(tab, "the playground");
+  await checkFocus(tab, "the playground", ["slider", "listing", "order", "example", "BUTTON"]);
+  await checkPath(tab, newTab);
+  await checkFaults(tab);
+  await checkMarkup(tab);
+  await checkFragments(tab);
+  await checkScreens(tab, "playground", () => open(tab), pictures);
+  await tab.screen(1280, 900, false);
+  await open(tab);
+  await checkCases(tab);
+  await checkSpeed(tab);
+  checkQuiet(tab, "the playground");
+  await checkBanner(await newTab());
+}).then(() => end(), end);

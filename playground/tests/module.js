@@ -1,0 +1,188 @@
+/**
+ * module.js PAGE ANSWERS: the module of the built page in node: the cases and the gallery beside the
+ * native programs, each position of some, replays, limits, little memory. Prints what failed, and
+ * last 'N passed, M failed'.
+ */
+"use strict";
+const { bytesOf, machineOf, readLines, readPage, same, scriptsOf } = require("./common.js");
+const { check, end } = require("../../page/checks.js");
+
+const [page, answers] = process.argv.slice(2);
+const machine = machineOf(page);
+const { STATUS } = machine;
+const cases = readLines(answers);
+const LAST = 4_294_967_295;
+
+/** The parts of an answer that are compared. */
+const partsOf = ({ status, kind, place, text, line }) => ({ status, kind, place, text, line });
+
+/** The same bytes as the native programs. */
+function checkCases() {
+  const differ = { check: [], run: [], json: [], explain: [] };
+  for (const one of cases) {
+    const texts = [bytesOf(one.listing), bytesOf(one.order)];
+    const found = {
+      check: machine.check(texts[0]), run: machine.run(...texts), json: machine.json(...texts),
+      explain: one.explain && machine.explain(...texts, 0, LAST),
+    };
+    // The program's check says what a good listing has.
+    one.check.text = "";
+    for (const name of Object.keys(differ)) {
+      if (one[name] && !same(partsOf(found[name]), partsOf(one[name]))) differ[name].push(one.name);
+    }
+  }
+  for (const [name, names] of Object.entries(differ)) {
+    const count = cases.filter((one) => one[name]).length;
+    check(`${name} answers ${count} cases as the program does`, names.length === 0 && count > 400, names);
+  }
+}
+
+/** The line of the next instruction of each running hart, by the listing alone. */
+function nextOf(state, listing) {
+  const isCode = (line) => !/^[ \t,]*(#|$|\.|[^ \t,#]*:)/.test(line);
+  const lines = listing.split("\n").map((line, index) => [line, index + 1])
+    .filter(([line]) => isCode(line)).map(([, number]) => number);
+  return state.harts.map(({ status, pcc }) => {
+    const place = BigInt(`0x${pcc.word.split("_")[1]}`) - 0x10000000n;
+    const isThere = status === "running" && place >= 0n && place % 4n === 0n;
+    return (isThere && lines[Number(place / 4n)]) || null;
+  });
+}
+
+/** Each position: the state of `cheri_explain --html`, its events, and the state of replay.js. */
+function checkLooks() {
+  const { replay } = scriptsOf(["page/draw.js", "page/view.js", "page/replay.js"], ["replay"]);
+  const looked = cases.filter((one) => one.look);
+  const wrong = [];
+  let positions = 0;
+  for (const one of looked) {
+    const texts = [bytesOf(one.listing), bytesOf(one.order)];
+    const { events } = one.facts;
+    const run = replay.ofRun(one.look[0], events);
+    one.look.forEach((state, at) => {
+      const found = JSON.parse(machine.look(...texts, at, 0, LAST).text);
+      positions += 1;
+      if (found.at !== at || !same(found.state, state)) wrong.push([one.name, at, "state"]);
+      if (!same(found.events, events)) wrong.push([one.name, at, "events"]);
+      if (!same(sorted(run.at(at).state), sorted(state))) wrong.push([one.name, at, "replay"]);
+      if (!same(found.next, nextOf(state, one.listing))) wrong.push([one.name, at, "next", found.next]);
+    });
+    const past = JSON.parse(machine.look(...texts, LAST, 1, 0).text);
+    if (past.at !== events.length || past.events.length) wrong.push([one.name, "past the end", past.at]);
+  }
+  check(`${positions} positions of ${looked.length} runs are those of the program`,
+    wrong.length === 0 && looked.length > 40, wrong.slice(0, 5));
+}
+
+/** A value with its members in the order of their names. */
+function sorted(value) {
+  if (value === null || typeof value !== "object") return value;
+  if (Array.isArray(value)) return value.map(sorted);
+  return Object.fromEntries(Object.keys(value).sort().map((key) => [key, sorted(value[key])]));
+}
+
+// ------------------------------------------------------------------- limits
+
+/** Eight harts that store, load and narrow capabilities without end. */
+function busyListing(harts = 8) {
+  const lines = [];
+  for (let hart = 0; hart < harts; hart += 1) {
+    lines.push(".hart 0x10000000 24 0x10000000 execute",
+      `.set c5 cap 0x80000000 4096 ${0x80000000 + 16 * hart} load+store+load_cap+store_cap+global`);
+  }
+  lines.push("again:", "sc c5, 0(c5)", "lc c7, 0(c5)", "csetboundsimm c8, c7, 8", "addi c9, c9, 1",
+    "cjal c0, again", "");
+  return lines.join("\n");
+}
+
+/** The milliseconds that a call takes: the first, and the median of some more. */
+function times(work, count = 7) {
+  const taken = [];
+  for (let one = 0; one <= count; one += 1) {
+    const began = performance.now();
+    work();
+    taken.push(performance.now() - began);
+  }
+  const [first, ...more] = taken;
+  return { first, median: more.sort((a, b) => a - b)[count >> 1] };
+}
+
+function checkSpeed() {
+  const busy = busyListing();
+  const long = "01234567".repeat(12_500);
+  const some = "01234567".repeat(625);
+  const rows = Array.from({ length: 16_383 }, (_, n) => `l${n}:\nbeq c1, c2, l${16_382 - n}`).join("\n");
+  const full = `.hart 0x10000000 4 0x10000000 execute\n${"#".repeat(1_048_530)}\necall\n`;
+  const figures = {
+    "a report of 100,000 steps": [times(() => machine.run(busy, long)), 500],
+    "a JSON report of 100,000 steps": [times(() => machine.json(busy, long)), 2000],
+    "a check of 1,048,576 bytes": [times(() => machine.check(full)), 200],
+    "a check of 16,383 labelled branches": [
+      times(() => machine.check(`.hart 0x10000000 4 0x10000000 execute\n${rows}`)), 200],
+    "a position among 5,000 events": [times(() => machine.look(busy, some, 2500, 2400, 2600)), 50],
+  };
+  for (const [name, [{ first, median }, most]] of Object.entries(figures)) {
+    console.log(`playground: node: ${name}: ${median.toFixed(1)} ms, the first ${first.toFixed(1)} ms`);
+    check(`${name} takes less than ${most} ms`, Math.min(first, median) < most, { first, median });
+  }
+  const bytes = machine.memoryBytes();
+  console.log(`playground: node: memory ${(bytes / 1e6).toFixed(0)} MB`);
+  check("memory is below 256 MiB at 100,000 steps", bytes < 268_435_456, bytes);
+}
+
+function checkLimits() {
+  const one = ".hart 0x10000000 4 0x10000000 execute\n";
+  const many = "01234567".repeat(12_500);
+  const run = machine.run(busyListing(), many);
+  check("100,000 steps are run", run.status === STATUS.DONE && /^entries 100000$/m.test(run.text), run.line);
+  check("100,001 steps are too many", machine.run(busyListing(), `${many}0`).line === "order byte 0: 2 Size");
+  const filled = (bytes) => `${one}${"#".repeat(bytes - one.length - 7)}\necall\n`;
+  check("a listing of 1,048,576 bytes", machine.check(filled(1_048_576)).status === STATUS.DONE);
+  check("one byte more", machine.check(filled(1_048_577)).line === "listing line 0: 9 Size");
+  check("8 harts", machine.check(`${one.repeat(8)}ecall\n`).status === STATUS.DONE);
+  check("9 harts", machine.check(`${one.repeat(9)}ecall\n`).line === "listing line 9: 9 Size");
+  const ram = machine.run(`.ram 1048576\n${one}ecall\n`, "0");
+  check("1 MiB of RAM", ram.status === STATUS.DONE && ram.text.includes("ram=1048576"), ram.line);
+  check("an empty listing", machine.check("").line === "listing line 0: 8 NoHart");
+  check("bounds", machine.bounds("0x80000001", "4096").text
+    === "ie=1 e=0 t=080 b=0000 base=0000000080000000 top=00000000080001008 exact=no\n"
+    || machine.bounds("0x80000001", "4096").text.endsWith("exact=no\n"), machine.bounds("0x80000001", "4096"));
+  check("a bad number", machine.bounds("5x", "1").line === "bad number" && machine.bounds("5", "").status === STATUS.NUMBER);
+  check("a decoded word", machine.decode("0").text.startsWith("perms=00000 flag=0 type=unsealed"), machine.decode("0"));
+  check("a word above 128 bits", machine.decode(`0x1${"0".repeat(32)}`).line === "bad number");
+  const explained = machine.explain(busyListing(), "01234567".repeat(5000), 0, LAST);
+  check("an explanation longer than the room", explained.status === STATUS.DONE && explained.text.endsWith("\nend\n")
+    , [explained.status, explained.text.length]);
+}
+
+/** Room that is just enough, and one byte less: by the module's own exports. */
+function checkRoom() {
+  const instance = new WebAssembly.Instance(new WebAssembly.Module(readPage(page).module), {});
+  const { exports } = instance;
+  const put = (text) => {
+    const bytes = new TextEncoder().encode(text);
+    const place = exports.page_room(BigInt(bytes.length));
+    new Uint8Array(exports.memory.buffer, Number(place), bytes.length).set(bytes);
+    return [place, BigInt(bytes.length)];
+  };
+  const listing = put(".hart 0x10000000 4 0x10000000 execute\necall\n");
+  const order = put("0");
+  const [out, answer] = [exports.page_room(4096n), exports.page_room(32n)];
+  const call = (room) => {
+    exports.cheri_run(...listing, ...order, out, BigInt(room), answer);
+    const view = new DataView(exports.memory.buffer, Number(answer), 32);
+    return [view.getUint32(0, true), Number(view.getBigUint64(16, true))];
+  };
+  const [status, length] = call(4096);
+  check("there is room", status === STATUS.DONE && length > 100, [status, length]);
+  check("room that is just enough", same(call(length), [STATUS.DONE, length]), call(length));
+  check("a byte too little", same(call(length - 1), [STATUS.ROOM, length]), call(length - 1));
+  check("no room", same(call(0), [STATUS.ROOM, length]), call(0));
+}
+
+checkCases();
+checkLooks();
+checkRoom();
+checkLimits();
+checkSpeed();
+end();
