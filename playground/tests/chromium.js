@@ -10,6 +10,7 @@ const os = require("node:os");
 const path = require("node:path");
 const { withBrowser } = require("../../page/browser.js");
 const { check, checkFocus, checkQuiet, checkScreens, checkTree, end } = require("../../page/checks.js");
+const { differing, isReady } = require("./asked.js");
 const { readLines, readPage, same } = require("./common.js");
 
 const [page, answers, pictures] = process.argv.slice(2);
@@ -28,8 +29,6 @@ async function until(tab, what, ...words) {
   }
   return false;
 }
-
-const isReady = () => document.documentElement?.dataset.ready === "yes";
 
 async function open(tab, fragment = "") {
   await tab.send("Page.navigate", { url: "about:blank" });
@@ -74,20 +73,6 @@ const seen = (tab) => tab.ask(() => {
 });
 
 // ------------------------------------------------------------------ the cases
-
-/** The module's answers to a part of the cases, compared in the page: the names of those that differ. */
-function differing(part) {
-  const bytesOf = (text) => Uint8Array.from(text, (one) => one.charCodeAt(0));
-  const same = (one, other) => ["status", "kind", "place", "text", "line"]
-    .every((name) => one[name] === other[name]);
-  return part.filter((one) => {
-    const texts = [bytesOf(one.listing), bytesOf(one.order)];
-    const checked = machine.check(texts[0]);
-    return checked.line !== one.check.line || !same(machine.run(...texts), one.run)
-      || !same(machine.json(...texts), one.json)
-      || (one.explain && !same(machine.explain(...texts, 0, 4_294_967_295), one.explain));
-  }).map(({ name }) => name);
-}
 
 async function checkCases(tab) {
   const differ = [];
