@@ -2,6 +2,7 @@
 //! numbers that ask for them.
 #![tactic(auto)]
 
+pub mod laws;
 mod lines;
 mod numbers;
 
