@@ -1,8 +1,6 @@
 use Rattle.std.proofs.Common.{arith}
 use Rattle.std.proofs.lemmas.Grind.{common_steps}
-use Rattle.number_lines.specs.Lines.{decode_line}
 use Rattle.number_lines.proofs.lines.decode_text.Goals as goal
 
 pub returns : goal.returns
-unfolding decode_line
 returns c = grind (arith, common_steps)
