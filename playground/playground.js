@@ -176,6 +176,7 @@
 
   /** The next event after the position that trapped or cleared a tag, by looks at many events. */
   function goToMarked() {
+    if (!shown) return;
     const many = 5000;
     for (let from = position; from < shown.length; from += many) {
       const found = JSON.parse(look(0, from, from + many - 1).text).events.find(view.isMarked);
@@ -240,7 +241,6 @@
     listing.value = text;
     order.value = orderText;
     undos = [];
-    shown = null;
     code.show();
     runTexts(at);
   }
@@ -248,7 +248,7 @@
   /** Opens a listing of the gallery in one of its orders, at the first trap or cleared tag. */
   function openExample(example, number) {
     open(example.text, example.orders[number]?.text ?? "", 0);
-    if (shown && shown.length > 0) goToMarkedOrEnd();
+    if (shown?.listing === example.text) goToMarkedOrEnd();
   }
 
   function goToMarkedOrEnd() {
@@ -349,7 +349,10 @@
 
   function listen() {
     listing.addEventListener("input", runTextsLater);
-    order.addEventListener("input", () => runTexts(undefined));
+    order.addEventListener("input", () => {
+      undos = [];
+      runTexts(undefined);
+    });
     slider.addEventListener("input", () => go(Number(slider.value)));
     part("run").addEventListener("click", () => runTexts(undefined));
     part("first").addEventListener("click", () => go(0));
