@@ -97,7 +97,7 @@ const machine = (() => {
     json: (listing, order) => call("cheri_json", [listing, order]),
     explain: (listing, order, from, to) => call("cheri_explain", [listing, order], [from, to]),
     look: (listing, order, at, from, to) =>
-      call("cheri_look", [listing, order], [at, from, to]),
+      looks.look((one, other) => call("cheri_json", [one, other]), listing, order, at, from, to),
     bounds: (base, len) => call("cheri_bounds", [base, len]),
     decode: (word) => call("cheri_decode", [word]),
   };

@@ -1,6 +1,6 @@
 -- What is told of a run, from what was written of it and how that ended.
-use Rattle.std.proofs.Common.{◌≡◌, ◌∙◌, refl, sym, ap, subst, ℕ, List, [], ◌∷◌, ◌++◌, Option, Result, inl, inr, append-nil}
-use Rattle.std.specs.Prelude.{Some, None, Ok, Err, IfOk, IfErr, ◌⊎◌}
+use Rattle.std.proofs.Common.{◌≡◌, ◌∙◌, refl, sym, ap, subst, ℕ, List, [], ◌∷◌, Option, Result, inl, inr}
+use Rattle.std.specs.Prelude.{Some, Ok, Err, IfOk, IfErr, ◌⊎◌}
 use Rattle.std.specs.Io.KnownBytes.{Appends}
 use Rattle.std.proofs.KnownBytes.{Appends-trans}
 use Rattle.report_lines.specs.Texts.{line}
@@ -8,15 +8,12 @@ use Rattle.sinks.proofs.SinkLemmas.{begins_on, stops_on, puts_all}
 use Rattle.sinks.specs.Sinks.{TakesBeginning, Memory}
 use Rattle.cores.specs.Runs.{IsConfinedRun, Run, Stop}
 use Rattle.listings.specs.declared.fault.ListingFault.{ListingFault}
-use Rattle.listings.specs.Faults.{no_memory}
 use Rattle.simulation.specs.declared.faults.SimFault.{SimFault}
 use Rattle.simulation.specs.declared.faults.SimFault.TheVariants as sim
 use Rattle.simulation.specs.Simulation.{IsRefusedRun, IsRunAnd}
 use Rattle.cheri_page.specs.declared.answer.Answer.{Answer}
-use Rattle.cheri_page.specs.declared.fault.Fault.{Fault}
 use Rattle.cheri_page.specs.Answers.{Told, Answers, IsTold, out_of_memory}
-use Rattle.cheri_page.specs.Faults.{sim_fault}
-use Rattle.cheri_page.specs.Runs.{IsRunTold, longest_run, stop_fault, told_by, told_of_run}
+use Rattle.cheri_page.specs.Runs.{IsRunTold, longest_run, told_by, told_of_run}
 
 -- ---- the JSON report, and then the end of its line
 

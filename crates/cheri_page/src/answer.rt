@@ -95,6 +95,7 @@ fn tell_line(text: &[u8], fault: Option<Fault>, line: &[u8], out: &mut [u8], ans
 }
 
 /// Tells a text and why there is no more, where there isn't. Out of memory there is no text.
+#[tactic(auto, using(crate::proofs::AnswerLemmas::tells))]
 pub(crate) fn tell(
     alloc: Global,
     text: &[u8],
