@@ -90,8 +90,11 @@ const machine = (() => {
   /** How many bytes of memory the instance has now. */
   const memoryBytes = () => (instance ? instance.exports.memory.buffer.byteLength : 0);
 
+  /** Whether the module has a call. */
+  const has = (name) => calls()[name] !== undefined;
+
   return {
-    STATUS, begin, memoryBytes,
+    STATUS, begin, has, memoryBytes,
     check: (listing) => call("cheri_check", [listing]),
     run: (listing, order) => call("cheri_run", [listing, order]),
     json: (listing, order) => call("cheri_json", [listing, order]),

@@ -421,6 +421,7 @@
     }
     const text = atob(part("module-data").textContent.trim());
     machine.begin(Uint8Array.from(text, (one) => one.charCodeAt(0)));
+    document.querySelector('[data-file="explanation.txt"]').hidden = !machine.has("cheri_explain");
     fillGallery();
     listen();
     openFirst();

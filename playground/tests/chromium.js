@@ -212,7 +212,8 @@ async function checkDownloads(tab) {
   const folder = fs.mkdtempSync(path.join(os.tmpdir(), "downloads-"));
   await tab.send("Browser.setDownloadBehavior", { behavior: "allow", downloadPath: folder }).catch(() =>
     tab.connection.send("Browser.setDownloadBehavior", { behavior: "allow", downloadPath: folder }));
-  const names = ["listing.lst", "order.txt", "report.txt", "report.json", "explanation.txt"];
+  const names = ["listing.lst", "order.txt", "report.txt", "report.json"];
+  if (await tab.ask(() => machine.has("cheri_explain"))) names.push("explanation.txt");
   for (const name of names) {
     await tab.ask((name) => document.querySelector(`[data-file="${name}"]`).focus(), name);
     await tab.press("Enter");
@@ -227,7 +228,7 @@ async function checkDownloads(tab) {
     return {
       "listing.lst": listing, "order.txt": order, "report.txt": machine.run(listing, order).text,
       "report.json": machine.json(listing, order).text,
-      "explanation.txt": machine.explain(listing, order, 0, 4_294_967_295).text,
+      "explanation.txt": machine.has("cheri_explain") ? machine.explain(listing, order, 0, 4_294_967_295).text : null,
     };
   });
   const wrong = names.filter((name) => found[name] !== wanted[name]);

@@ -32,9 +32,12 @@ function scriptsOf(names, wanted) {
   return vm.runInContext(`${text}\n({ ${wanted.join(", ")} })`, context);
 }
 
+/** The scripts of the module's calls. */
+const MACHINE = ["playground/orders.js", "playground/looks.js", "playground/machine.js"];
+
 /** The calls of the module, in node. */
 function machineOf(file) {
-  const { machine } = scriptsOf(["playground/machine.js"], ["machine"]);
+  const { machine } = scriptsOf(MACHINE, ["machine"]);
   machine.begin(new Uint8Array(readPage(file).module));
   return machine;
 }
@@ -49,4 +52,4 @@ const bytesOf = (text) => Uint8Array.from(text, (one) => one.charCodeAt(0));
 
 const same = (one, other) => JSON.stringify(one) === JSON.stringify(other);
 
-module.exports = { TOP, bytesOf, machineOf, readLines, readPage, same, scriptsOf };
+module.exports = { MACHINE, TOP, bytesOf, machineOf, readLines, readPage, same, scriptsOf };
