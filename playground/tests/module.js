@@ -59,7 +59,7 @@ function checkLooks() {
   const wrong = [];
   let positions = 0;
   for (const one of looked) {
-    const texts = [bytesOf(one.listing), bytesOf(one.order)];
+    const texts = [one.listing, one.order];
     const { events } = one.facts;
     const run = replay.ofRun(one.look[0], events);
     one.look.forEach((state, at) => {
@@ -200,13 +200,13 @@ function withPages(bytes, pages) {
   throw new Error("the module has no memory");
 }
 
-/** With 40 MiB of memory a large report is out of memory, nothing traps, and the next call is right. */
+/** With 25 MiB of memory a large report is out of memory, nothing traps, and the next call is right. */
 function checkLittleMemory() {
   const { machine: small } = scriptsOf(MACHINE, ["machine"]);
-  small.begin(new Uint8Array(withPages(readPage(page).module, 640)));
+  small.begin(new Uint8Array(withPages(readPage(page).module, 400)));
   const long = "01234567".repeat(12_500);
   const out = small.json(busyListing(), long);
-  check("with 40 MiB a large report is out of memory", out.status === STATUS.MEMORY && out.line === "memory",
+  check("with 25 MiB a large report is out of memory", out.status === STATUS.MEMORY && out.line === "memory",
     [out.status, out.line]);
   const again = small.run(cases[0].listing, cases[0].order);
   check("and the next call is right", same(partsOf(again), partsOf(cases[0].run)), again.line);
