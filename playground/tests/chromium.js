@@ -336,7 +336,7 @@ async function checkSpeed(tab) {
     const busy = [".hart 0x10000000 8 0x10000000 execute", "again:", "addi c9, c9, 1", "cjal c0, again", ""].join("\n");
     const start = performance.now();
     machine.run(busy, "0".repeat(100_000));
-    return { key: keys[4], large, run: performance.now() - start };
+    return { key: keys[0], large, run: performance.now() - start };
   });
   const figures = { "the page is there": [loaded, 1000], "a key in a small listing": [key, 50],
     "a check of 1 MiB": [large, 200], "a report of 100,000 steps": [run, 500] };
