@@ -1,0 +1,5 @@
+-- What the calls of a page write and answer.
+pub mod Faults
+pub mod Answers
+pub mod Runs
+pub mod Lines

@@ -1,0 +1,138 @@
+//! Why a call gives no more than it does.
+
+ghost use Rattle.std.specs.Prelude.{◌≡◌};
+ghost use Rattle.cheri_page.specs.Faults.{status_of, kind_of, place_of};
+
+use cores::StepFault;
+use grammar::fault::ListingFaultKind;
+use listings::ListingFault;
+use number_lines::NumberFault;
+use orders::{OrderFault, OrderFaultKind};
+use simulation::SimFault;
+use std::fmt;
+
+/// Why a call gives no more than it does.
+#[derive(Clone, Copy, Debug, PartialEq, Eq)]
+pub(crate) enum Fault {
+    /// An allocation failed.
+    NoMemory,
+    /// An argument is no number, or none in its range.
+    BadNumber,
+    /// The listing was refused.
+    Listing(ListingFault),
+    /// The order was refused.
+    Order(OrderFault),
+    /// The operation at this place of the order, counted from 0, was refused.
+    Step(usize, StepFault),
+}
+
+impl Fault {
+    /// The status of a call that ends by it.
+    pub(crate) fn status(self) -> u32
+        ensures { result ≡ status_of self }
+    {
+        match self {
+            Fault::Listing(_) => 1,
+            Fault::Order(_) => 2,
+            Fault::Step(_, _) => 3,
+            Fault::NoMemory => 4,
+            Fault::BadNumber => 6,
+        }
+    }
+
+    /// The number of its kind, and 0 where it has none.
+    pub(crate) fn kind(self) -> u32
+        ensures { result ≡ kind_of self }
+    {
+        match self {
+            Fault::Listing(refused) => u32::from(refused.kind.number()),
+            Fault::Order(refused) => u32::from(refused.kind.number()),
+            Fault::Step(_, refused) => u32::from(refused.number()),
+            Fault::NoMemory | Fault::BadNumber => 0,
+        }
+    }
+
+    /// Where it is: a line of the listing, a byte of the order or a place of an operation, and 0
+    /// where it has none.
+    pub(crate) fn place(self) -> usize
+        ensures { result ≡ place_of self }
+    {
+        match self {
+            Fault::Listing(refused) => refused.line,
+            Fault::Order(refused) => refused.offset,
+            Fault::Step(place, _) => place,
+            Fault::NoMemory | Fault::BadNumber => 0,
+        }
+    }
+}
+
+impl fmt::Display for Fault {
+    ghost use Rattle.std.specs.Prelude.{Some};
+    ghost use Rattle.cheri_page.specs.Faults.{fault_text};
+
+    ghost output = { λ fault. Some (fault_text fault) };
+
+    fn fmt<W: fmt::Write>(&self, f: &mut fmt::Formatter<W>) -> fmt::Result {
+        match *self {
+            Fault::NoMemory => f.write_str("memory"),
+            Fault::BadNumber => f.write_str("bad number"),
+            Fault::Listing(ListingFault { line, kind }) => write!(f, "listing line {line}: {kind}"),
+            Fault::Order(OrderFault { offset, kind }) => write!(f, "order byte {offset}: {kind}"),
+            Fault::Step(place, refused) => write!(f, "order step {place}: {refused}"),
+        }
+    }
+}
+
+impl From<ListingFault> for Fault {
+    ghost use Rattle.cheri_page.specs.Faults.{listing_fault};
+
+    ghost from_gives = { λ refused fault. fault ≡ listing_fault refused };
+
+    fn from(refused: ListingFault) -> Fault {
+        match refused.kind {
+            ListingFaultKind::NoMemory => Fault::NoMemory,
+            _ => Fault::Listing(refused),
+        }
+    }
+}
+
+impl From<OrderFault> for Fault {
+    ghost use Rattle.cheri_page.specs.Faults.{order_fault};
+
+    ghost from_gives = { λ refused fault. fault ≡ order_fault refused };
+
+    fn from(refused: OrderFault) -> Fault {
+        match refused.kind {
+            OrderFaultKind::NoMemory => Fault::NoMemory,
+            _ => Fault::Order(refused),
+        }
+    }
+}
+
+impl From<SimFault> for Fault {
+    ghost use Rattle.cheri_page.specs.Faults.{sim_fault};
+
+    ghost from_gives = { λ refused fault. fault ≡ sim_fault refused };
+
+    /// A report that is written to memory fails only where there is none.
+    fn from(refused: SimFault) -> Fault {
+        match refused {
+            SimFault::Listing(fault) => Fault::from(fault),
+            SimFault::Order(fault) => Fault::from(fault),
+            SimFault::Boot(_) | SimFault::Report(_) => Fault::NoMemory,
+        }
+    }
+}
+
+impl From<NumberFault> for Fault {
+    ghost use Rattle.cheri_page.specs.Faults.{number_fault};
+
+    ghost from_gives = { λ refused fault. fault ≡ number_fault refused };
+
+    fn from(refused: NumberFault) -> Fault {
+        match refused {
+            NumberFault::NoMemory => Fault::NoMemory,
+            NumberFault::BadNumber => Fault::BadNumber,
+        }
+    }
+}

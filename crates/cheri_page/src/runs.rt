@@ -1,0 +1,84 @@
+//! Calls about a listing, and about its run in an order.
+
+ghost use Rattle.std.specs.Prelude.{◌≡◌, []};
+ghost use Rattle.simulation.specs.Simulation.{report_of};
+ghost use Rattle.cheri_page.specs.Answers.{Answers, IsTold};
+ghost use Rattle.cheri_page.specs.Runs.{IsCheckTold, IsRunTold, json_of, told_by};
+
+use crate::answer::{Answer, tell};
+use crate::fault::Fault;
+use crate::json::simulate_json;
+use cores::{GREATEST_TRACE_LIMIT, StepFault};
+use listings::read_listing;
+use simulation::{SimFault, simulate};
+use sinks::MemSink;
+use std::alloc::Global;
+
+/// A sink that keeps all that it is given.
+fn keeper(alloc: Global) -> MemSink
+    ensures { result ≡ record { bytes = []; most = usize.MAX; fails_in = 0; failures = 0 } }
+{
+    MemSink::new(alloc, 0, usize::MAX)
+}
+
+/// Tells what was written of a run, and which operation stopped it; or why there is no run.
+fn tell_run(
+    alloc: Global,
+    ran: Result<Option<(usize, StepFault)>, SimFault>,
+    text: &[u8],
+    out: &mut [u8],
+    answer: &mut Answer,
+)
+    ensures { Answers (IsTold (told_by ran text.now)) out.old out.new answer.new }
+{
+    match ran {
+        Ok(None) => tell(alloc, text, None, out, answer),
+        Ok(Some((place, fault))) => {
+            tell(alloc, text, Some(Fault::Step(place, fault)), out, answer)
+        }
+        Err(fault) => tell(alloc, b"", Some(Fault::from(fault)), out, answer),
+    }
+}
+
+/// Judges a listing: nothing is written but the line of its fault.
+#[unsafe(no_mangle)]
+pub extern "C" fn cheri_check(alloc: Global, listing: &[u8], out: &mut [u8], answer: &mut Answer)
+    ensures { Answers (IsCheckTold listing.now) out.old out.new answer.new }
+{
+    match read_listing(alloc, listing) {
+        Ok(_) => tell(alloc, b"", None, out, answer),
+        Err(fault) => tell(alloc, b"", Some(Fault::from(fault)), out, answer),
+    }
+}
+
+/// The report of a listing's run in an order.
+#[unsafe(no_mangle)]
+pub extern "C" fn cheri_run(
+    alloc: Global,
+    listing: &[u8],
+    order: &[u8],
+    out: &mut [u8],
+    answer: &mut Answer,
+)
+    ensures { Answers (IsRunTold report_of listing.now order.now) out.old out.new answer.new }
+{
+    let mut sink = keeper(alloc);
+    let ran = simulate(alloc, listing, order, GREATEST_TRACE_LIMIT, &mut sink);
+    tell_run(alloc, ran, sink.bytes(), out, answer);
+}
+
+/// The same in JSON, in one line.
+#[unsafe(no_mangle)]
+pub extern "C" fn cheri_json(
+    alloc: Global,
+    listing: &[u8],
+    order: &[u8],
+    out: &mut [u8],
+    answer: &mut Answer,
+)
+    ensures { Answers (IsRunTold json_of listing.now order.now) out.old out.new answer.new }
+{
+    let mut sink = keeper(alloc);
+    let ran = simulate_json(alloc, listing, order, &mut sink);
+    tell_run(alloc, ran, sink.bytes(), out, answer);
+}
