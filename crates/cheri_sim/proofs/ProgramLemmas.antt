@@ -12,7 +12,7 @@ use Rattle.sinks.specs.Sinks.{TakesBeginning}
 use Rattle.cores.specs.Runs.{Stop}
 use Rattle.cores.specs.declared.faults.StepFault.{StepFault}
 use Rattle.command_line.specs.Requests.{Asked, Check, Run, Race, Bounds, Decode}
-use Rattle.command_line.specs.declared.requests.ReportForm.{ReportForm}
+use Rattle.command_line.specs.declared.found.ReportForm.{ReportForm}
 use Rattle.command_line.specs.declared.faults.CommandFault.{CommandFault}
 use Rattle.command_line.specs.declared.faults.CommandFault.TheVariants as commands
 use Rattle.cheri_sim.specs.declared.faults.Fault.{Fault}

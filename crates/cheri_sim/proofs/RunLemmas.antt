@@ -16,8 +16,8 @@ use Rattle.cheri_model.specs.runs.Authority.{IsConfined}
 use Rattle.cores.specs.Cores.{IsCore}
 use Rattle.cores.specs.Runs.{IsConfinedRun, Run, Stop}
 use Rattle.simulation.specs.Simulation.{IsRefusedRun, IsRunAnd, is_reported, report_of}
-use Rattle.command_line.specs.declared.requests.ReportForm.{ReportForm}
-use Rattle.command_line.specs.declared.requests.ReportForm.TheVariants as forms
+use Rattle.command_line.specs.declared.found.ReportForm.{ReportForm}
+use Rattle.command_line.specs.declared.found.ReportForm.TheVariants as forms
 use Rattle.cheri_sim.specs.declared.faults.Fault.{Fault}
 use Rattle.cheri_sim.specs.declared.faults.Fault.TheVariants as faults
 use Rattle.cheri_sim.specs.Endings.{Answer, Fails, HasPrefix, HasWhole}

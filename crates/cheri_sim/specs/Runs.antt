@@ -7,8 +7,8 @@ use Rattle.cores.specs.declared.cores.TheConstants.{GREATEST_TRACE_LIMIT}
 use Rattle.simulation.specs.declared.faults.SimFault.{SimFault}
 use Rattle.cores.specs.Runs.{IsConfinedRun, Run}
 use Rattle.simulation.specs.Simulation.{report_of, run_of_texts}
-use Rattle.command_line.specs.declared.requests.ReportForm.{ReportForm}
-use Rattle.command_line.specs.declared.requests.ReportForm.TheVariants as forms
+use Rattle.command_line.specs.declared.found.ReportForm.{ReportForm}
+use Rattle.command_line.specs.declared.found.ReportForm.TheVariants as forms
 use Rattle.cheri_sim.specs.Endings.{Answer}
 use Rattle.cheri_sim.specs.Faults.{sim_fault}
 

@@ -1,3 +1,4 @@
--- How `clap` reads the words of this program, and which words write a number of turns.
+-- How `clap` reads the words of the programs, and which words write numbers and sweeps.
 pub mod ReadWords
-pub mod Turns
+pub mod NumberLemmas
+pub mod SweepLemmas

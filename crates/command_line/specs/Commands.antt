@@ -1,37 +1,23 @@
--- The commands of the program, in the terms in which the definitions of `clap` read a command line.
-use Rattle.std.specs.Prelude.{Bool, true, Some, codes}
-use Rattle.clap.specs.Words.{App, Rule, Text, new_app, new_rule, with_rule, with_subcommand}
-use Rattle.clap.specs.declared.builder.action.ArgAction.TheVariants.{Set, SetTrue}
-use Rattle.clap.specs.declared.builder.command.Command.{Command}
-use Rattle.clap.specs.declared.builder.command.Command.TheViews.{out-Command}
-
--- whether one of a command's words is also its subcommands'
-abbrev pub has_globals : Command → Bool
-has_globals command = (out-Command command).has_globals
-
--- a word that a command must have
-abbrev pub required_word : Text → Rule
-required_word name = record (new_rule name) { action = Some Set; required = true }
+-- The commands of `cheri_sim`.
+use Rattle.std.specs.Prelude.{codes}
+use Rattle.clap.specs.Words.{App, new_app, with_rule, with_subcommand}
+use Rattle.command_line.specs.Arguments.{flag, required_option, required_word, wanting_subcommand}
 
 -- `check LISTING`
 abbrev pub check_command : App
 check_command = with_rule (new_app (codes "check")) (required_word (codes "listing"))
 
--- a flag
-abbrev pub flag : Text → Rule
-flag name = record (new_rule name) { long = Some name; action = Some SetTrue }
-
 -- `run LISTING --order FILE [--json]`
 abbrev pub run_command : App
 run_command =
     with_rule (with_rule (with_rule (new_app (codes "run")) (required_word (codes "listing")))
-    (record (required_word (codes "order")) { long = Some (codes "order") })) (flag (codes "json"))
+    (required_option (codes "order"))) (flag (codes "json"))
 
 -- `race LISTING --turns N [--watch]`
 abbrev pub race_command : App
 race_command =
     with_rule (with_rule (with_rule (new_app (codes "race")) (required_word (codes "listing")))
-    (record (required_word (codes "turns")) { long = Some (codes "turns") })) (flag (codes "watch"))
+    (required_option (codes "turns"))) (flag (codes "watch"))
 
 -- `bounds BASE LEN`
 abbrev pub bounds_command : App
@@ -42,10 +28,6 @@ bounds_command =
 -- `decode WORD`
 abbrev pub decode_command : App
 decode_command = with_rule (new_app (codes "decode")) (required_word (codes "word"))
-
--- a command that wants a subcommand
-abbrev pub wanting_subcommand : App → App
-wanting_subcommand app = record app { top = record app.top { subcommand_required = true } }
 
 -- the program, which wants one of these
 abbrev pub program_alone : App

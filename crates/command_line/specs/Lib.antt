@@ -1,4 +1,9 @@
 -- What words ask for.
 pub mod Faults
+pub mod Arguments
+pub mod Found
+pub mod Numbers
 pub mod Commands
 pub mod Requests
+pub mod ExplainWords
+pub mod ExploreWords

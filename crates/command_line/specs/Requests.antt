@@ -1,26 +1,14 @@
--- What the words of a command line ask for.
-use Rattle.std.specs.Prelude.{ℕ, Bool, false, nat_le, ◌&&◌, List, Option, Some, None, option_and_then, option_map, codes, if◌then◌else◌, [], ◌∷◌}
-use Rattle.std.specs.Char.{is_ascii_digit}
-use Rattle.std.specs.List.{list_all}
+-- What the words of a command line of `cheri_sim` ask for.
+use Rattle.std.specs.Prelude.{ℕ, Bool, List, Option, Some, None, option_and_then, option_map, codes, if◌then◌else◌}
 use Rattle.std.specs.Str.{bytes_eq}
-use Rattle.std.specs.Str.Parse.{digits_value}
-use Rattle.clap.specs.Words.{Kinds, Row, Text, fault_of, first_of, subcommand_of}
+use Rattle.clap.specs.Words.{Row, Text, fault_of, first_of, subcommand_of}
 use Rattle.command_line.specs.Commands.{program}
+use Rattle.command_line.specs.Found.{form_of, is_given, unless_faulty}
+use Rattle.command_line.specs.Numbers.{decimal_within}
+use Rattle.command_line.specs.declared.found.ReportForm.{ReportForm}
 use Rattle.command_line.specs.declared.requests.TheConstants.{GREATEST_TURNS}
-use Rattle.command_line.specs.declared.requests.ReportForm.{ReportForm}
-use Rattle.command_line.specs.declared.requests.ReportForm.TheVariants as forms
 use Rattle.command_line.specs.declared.requests.Request.{Request}
 use Rattle.command_line.specs.declared.requests.Request.TheVariants as requests
-
--- the form of a report: JSON where a flag has the value that `clap` gives it when it is there
-abbrev pub form_of : Option Text → ReportForm
-form_of (Some value) = if bytes_eq value (codes "true") then forms.Json else forms.Text
-form_of None = forms.Text
-
--- whether a flag is there
-abbrev pub is_given : Option Text → Bool
-is_given (Some value) = bytes_eq value (codes "true")
-is_given None = false
 
 -- a request by the texts of its words
 pub data Asked : Type 0 where
@@ -46,13 +34,9 @@ abbrev pub with_one : (Text → Asked) → Option Text → Option Asked
 with_one make (Some first) = Some (make first)
 with_one make None = None
 
--- a number of turns that a race may have
-abbrev pub within_turns : ℕ → Option ℕ
-within_turns turns = if nat_le 1 turns && nat_le turns GREATEST_TURNS then Some turns else None
-
--- the number of turns that a word writes, by decimal digits alone
-unfoldable pub turns_of : Text → Option ℕ
-turns_of word = if list_all is_ascii_digit word then within_turns (digits_value 10 word) else None
+-- the number of turns that a word writes
+abbrev pub turns_of : Text → Option ℕ
+turns_of word = decimal_within 1 GREATEST_TURNS word
 
 -- a race by the values of its words, if they are there
 abbrev pub race_asked : Option Text → Option Text → Bool → Option Asked
@@ -70,11 +54,6 @@ asked_of name rows =
     else if bytes_eq name (codes "bounds") then with_two Bounds (first_of (codes "base") rows) (first_of (codes "len") rows)
     else if bytes_eq name (codes "decode") then with_one Decode (first_of (codes "word") rows)
     else None
-
--- nothing is asked for where there is a fault
-abbrev pub unless_faulty : Kinds → Option Asked → Option Asked
-unless_faulty [] found = found
-unless_faulty (kind ∷ kinds) found = None
 
 -- What the words of a command line ask for, the first of which is the program's name: nothing where `clap` finds a
 -- fault in them, or else what the command among them asks for.

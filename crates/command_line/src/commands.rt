@@ -1,21 +1,20 @@
-//! The commands of the program, as `clap` is given them.
+//! The commands of `cheri_sim`, as `clap` is given them.
 
 ghost use Rattle.std.specs.Prelude.{◌≡◌, IfOk, false};
-ghost use Rattle.clap.specs.Words.{app_of, rule_of};
-ghost use Rattle.command_line.specs.Commands.{has_globals, required_word, check_command};
-ghost use Rattle.command_line.specs.Commands.{run_command, race_command, bounds_command};
-ghost use Rattle.command_line.specs.Commands.{decode_command, program};
+ghost use Rattle.clap.specs.Words.{app_of};
+ghost use Rattle.command_line.specs.Arguments.{has_globals};
+ghost use Rattle.command_line.specs.Commands.{
+  bounds_command,
+  check_command,
+  decode_command,
+  program,
+  race_command,
+  run_command,
+};
 
-use clap::{Arg, ArgAction, Command};
+use crate::arguments::{flag, required, required_option};
+use clap::Command;
 use std::alloc::{AllocError, Global};
-
-/// A word that a command must have.
-fn required<'a>(alloc: Global, name: &'a str) -> Arg<'a>
-    ensures rule { rule_of result ≡ required_word name.now }
-    ensures local { result.global ≡ false }
-{
-    Arg::new(alloc, name).required(true).action(ArgAction::Set)
-}
 
 /// `check LISTING`.
 fn check_command<'a>(alloc: Global) -> Result<Command<'a>, AllocError>
@@ -30,14 +29,10 @@ fn run_command<'a>(alloc: Global) -> Result<Command<'a>, AllocError>
     ensures app { IfOk result (λ command. app_of command ≡ run_command) }
     ensures local { IfOk result (λ command. has_globals command ≡ false) }
 {
-    let order = required(alloc, "order").long("order");
-    let json = Arg::new(alloc, "json")
-        .long("json")
-        .action(ArgAction::SetTrue);
     Command::new(alloc, "run")
         .arg(required(alloc, "listing"))?
-        .arg(order)?
-        .arg(json)
+        .arg(required_option(alloc, "order"))?
+        .arg(flag(alloc, "json"))
 }
 
 /// `race LISTING --turns N [--watch]`.
@@ -45,14 +40,10 @@ fn race_command<'a>(alloc: Global) -> Result<Command<'a>, AllocError>
     ensures app { IfOk result (λ command. app_of command ≡ race_command) }
     ensures local { IfOk result (λ command. has_globals command ≡ false) }
 {
-    let turns = required(alloc, "turns").long("turns");
-    let watch = Arg::new(alloc, "watch")
-        .long("watch")
-        .action(ArgAction::SetTrue);
     Command::new(alloc, "race")
         .arg(required(alloc, "listing"))?
-        .arg(turns)?
-        .arg(watch)
+        .arg(required_option(alloc, "turns"))?
+        .arg(flag(alloc, "watch"))
 }
 
 /// `bounds BASE LEN`.

@@ -1,24 +1,17 @@
 //! What a command asks for, with the words that `clap` found.
 
 ghost use Rattle.std.specs.Prelude.{◌≡◌, option_map, option_and_then, codes};
-ghost use Rattle.std.specs.List.{list_all};
-ghost use Rattle.std.specs.Char.{is_ascii_digit};
 ghost use Rattle.clap.specs.Words.{first_of, found_of, rows_of, subcommand_rows_of};
-ghost use Rattle.command_line.specs.Requests.{asked_by, asked_of, form_of, with_one, with_two};
-ghost use Rattle.command_line.specs.Requests.{Check, Run, Bounds, Decode};
-ghost use Rattle.command_line.specs.Requests.{is_given, race_asked, turns_of, within_turns};
+ghost use Rattle.command_line.specs.Found.{form_of, is_given};
+ghost use Rattle.command_line.specs.Requests.{asked_by, asked_of, with_one, with_two};
+ghost use Rattle.command_line.specs.Requests.{Check, Run, Bounds, Decode, race_asked};
 
+use crate::found::{ReportForm, flag_found, form_found, word_found};
+use crate::numbers::decimal_within;
 use clap::ArgMatches;
 
 /// The greatest number of turns of a race.
 pub const GREATEST_TURNS: u32 = 100_000;
-
-/// The form of a report.
-#[derive(Clone, Copy, Debug, PartialEq, Eq)]
-pub enum ReportForm {
-    Text,
-    Json,
-}
 
 /// What a command line asks for. The numbers of `bounds` and `decode` are still the words of the
 /// command line.
@@ -53,24 +46,6 @@ pub enum Request<'a> {
     },
 }
 
-/// The word that was found under this name.
-fn word_found<'a>(found: &ArgMatches<'a>, name: &str) -> Option<&'a str>
-    ensures { option_map (λ word. word.now) result
-        ≡ first_of name.now (rows_of (found_of found.now)) }
-{
-    found.get_str(name)
-}
-
-/// The form that a run is asked for in: JSON where the flag was found.
-fn form_found(found: &ArgMatches<'_>) -> ReportForm
-    ensures { result ≡ form_of (first_of (codes "json") (rows_of (found_of found.now))) }
-{
-    match word_found(found, "json") {
-        Some("true") => ReportForm::Json,
-        _ => ReportForm::Text,
-    }
-}
-
 /// `check` with the word that was found.
 fn check_request<'a>(found: &ArgMatches<'a>) -> Option<Request<'a>>
     ensures { let rows = rows_of (found_of found.now) in
@@ -97,47 +72,6 @@ fn run_request<'a>(found: &ArgMatches<'a>) -> Option<Request<'a>>
     })
 }
 
-/// Whether a word has decimal digits alone.
-fn has_digits_alone(word: &str) -> bool
-    ensures { result ≡ list_all is_ascii_digit word.now }
-{
-    word.as_bytes().iter().all(|byte| byte.is_ascii_digit())
-}
-
-/// A number of turns from 1 to 100,000.
-fn within_turns(turns: u32) -> Option<u32>
-    ensures { result ≡ within_turns turns }
-{
-    if turns >= 1 && turns <= GREATEST_TURNS {
-        Some(turns)
-    } else {
-        None
-    }
-}
-
-/// The number of turns that a word writes: decimal digits alone, from 1 to 100,000.
-fn turns_written(word: &str) -> Option<u32>
-    ensures { result ≡ turns_of word.now }
-{
-    if !has_digits_alone(word) {
-        return None;
-    }
-    match word.parse::<u32>() {
-        Ok(turns) => within_turns(turns),
-        Err(_) => None,
-    }
-}
-
-/// Whether a flag was found.
-fn flag_found(found: &ArgMatches<'_>, name: &str) -> bool
-    ensures { result ≡ is_given (first_of name.now (rows_of (found_of found.now))) }
-{
-    match word_found(found, name) {
-        Some("true") => true,
-        _ => false,
-    }
-}
-
 /// `race` with the words that were found.
 fn race_request<'a>(found: &ArgMatches<'a>) -> Option<Request<'a>>
     ensures { let rows = rows_of (found_of found.now) in
@@ -147,7 +81,7 @@ fn race_request<'a>(found: &ArgMatches<'a>) -> Option<Request<'a>>
 {
     let listing = word_found(found, "listing")?;
     let word = word_found(found, "turns")?;
-    let turns = turns_written(word)?;
+    let turns = decimal_within(1, GREATEST_TURNS, word)?;
     let watch = flag_found(found, "watch");
     Some(Request::Race {
         listing,

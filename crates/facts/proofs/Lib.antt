@@ -4,6 +4,7 @@ pub mod Numbers
 pub mod Tables
 pub mod Placed
 pub mod Stepped
+pub mod Stopped
 pub mod Aligned
 pub mod Reasons
 pub mod Built

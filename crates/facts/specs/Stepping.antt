@@ -2,6 +2,7 @@
 use Rattle.std.specs.Prelude.{◌≡◌, ℕ, ◌+◌, ◌*◌, ◌<◌, true, List, length, Option, Some, None, ⊤}
 use Rattle.std.specs.Option.{option_map}
 use Rattle.cap_model.specs.values.CapValue.{CapValue}
+use Rattle.cap_model.specs.results.Addresses.{address_of}
 use Rattle.cheri_model.specs.steps.Hart.{HartState}
 use Rattle.cheri_model.specs.steps.Memory.{fits}
 use Rattle.cheri_model.specs.steps.Actions.{action}
@@ -16,6 +17,7 @@ use Rattle.origins.specs.Table.{Table, IsPlace, origin_in}
 use Rattle.facts.specs.declared.step_facts.Extent.{Extent}
 use Rattle.facts.specs.declared.stepping.Seen.{Seen}
 use Rattle.facts.specs.Names.{each_of, reads_of, access_of}
+use Rattle.facts.specs.Losses.{clears_of}
 use Rattle.facts.specs.StepFacts.{named_at, fetched_of, granule_accessed}
 
 -- a table of a machine with this hart, and with this many granules
@@ -35,12 +37,18 @@ IsPlaced memory (Some bytes) = fits memory bytes.address bytes.bytes ≡ true
 -- what was seen of an instruction before its step
 pub record IsSeen (seen : Seen) (number : ℕ) (hart : HartState) (memory : List CapValue)
     (origins : Origins) : Type 0 where
+  pub pc : seen.pc ≡ address_of hart.pcc
   pub asked : action_of seen.action ≡ action seen.fetched.instr hart
   pub reads : seen.reads ≡
       each_of (named_at hart memory origins number) (reads_of (form_of seen.fetched.instr))
   pub at : seen.at ≡ access_of (action seen.fetched.instr hart)
   pub found : IsPlaced memory seen.at → seen.found ≡
       option_map (named_at hart memory origins number) (granule_accessed seen.at)
+  pub clears : seen.clears ≡ clears_of seen.fetched.instr hart seen.found
+
+-- a hart that a step stopped: its values are those before the step
+abbrev pub IsStopped : HartState → HartState → Type 0
+IsStopped hart after = after ≡ record hart { status = after.status }
 
 -- an outcome that is no trap
 abbrev pub IsNotTrap : Outcome → Type 0

@@ -87,10 +87,12 @@ fn lost_if(derived: Option<Derived>) -> Option<Cleared>
 }
 
 /// A capability that is found and loaded through a register without Load_Capability.
-fn lost_by_load(cd: Reg, c1: Reg, hart: &Hart, found: Option<NamedValue>) -> Option<Cleared>
-    ensures { result ≡ lost_by_load cd c1 hart.now found }
+fn lost_by_load(cd: Reg, c1: Reg, hart: &Hart, found: &Option<NamedValue>) -> Option<Cleared>
+    ensures { result ≡ lost_by_load cd c1 hart.now found.now }
 {
-    let found = found?;
+    let Some(found) = found else {
+        return None;
+    };
     if cd.number() == 0 {
         return None;
     }
@@ -110,10 +112,12 @@ fn lost_by_load(cd: Reg, c1: Reg, hart: &Hart, found: Option<NamedValue>) -> Opt
 }
 
 /// Data stored over a capability that is found.
-fn lost_by_store(found: Option<NamedValue>) -> Option<Cleared>
-    ensures { result ≡ lost_by_store found }
+fn lost_by_store(found: &Option<NamedValue>) -> Option<Cleared>
+    ensures { result ≡ lost_by_store found.now }
 {
-    let found = found?;
+    let Some(found) = found else {
+        return None;
+    };
     if !found.value.tag() {
         return None;
     }
@@ -129,10 +133,10 @@ pub fn clears_of(
     instr: &Instr,
     asked: &Action,
     hart: &Hart,
-    found: Option<NamedValue>,
+    found: &Option<NamedValue>,
 ) -> Option<Cleared>
     ensures { action_of asked.now ≡ action instr.now hart.now →
-        result ≡ clears_of instr.now hart.now found }
+        result ≡ clears_of instr.now hart.now found.now }
 {
     match *asked {
         Action::Put { .. } => lost_if(form_derived((*instr).form(), hart)),

@@ -4,6 +4,7 @@
 ghost use Rattle.std.specs.Prelude.{◌≡◌, ℕ, ◌+◌, ◌^◌, ◌<◌, List, length};
 ghost use Rattle.cap_model.specs.values.CapValue.{CapValue};
 ghost use Rattle.cheri_model.specs.declared.instr.Instr.{Instr};
+ghost use Rattle.cheri_model.specs.declared.trace.Trap.{Trap};
 ghost use Rattle.cheri_model.specs.steps.Hart.{HartState};
 ghost use Rattle.cheri_model.specs.steps.HartStep.{hart_step};
 ghost use Rattle.cheri_model.specs.steps.Memory.{ram_base, granule_number};
@@ -16,6 +17,7 @@ ghost use Rattle.facts.specs.Stepping.{
   IsPlaced,
   IsSeen,
   IsSeenBefore,
+  IsStopped,
   IsNotTrap,
   address_accessed,
 };
@@ -30,7 +32,6 @@ ghost use Rattle.facts.specs.StepFacts.{
   fetched_of,
 };
 
-use crate::clearing::clears_of;
 use crate::names::{is_store, sets_of};
 use crate::step_facts::{Extent, StepFacts, Trapped, UpToTwo};
 use crate::stepping::{Seen, each_named, found_at};
@@ -60,66 +61,65 @@ fn fetch_trap(outcome: Outcome, hart: &Hart) -> Option<Trapped>
     }
 }
 
-/// The facts of a step whose fetch trapped.
-fn fetch_facts(number: u8, outcome: Outcome, hart: &Hart) -> StepFacts
-    ensures { result ≡ fetch_facts number hart.now outcome }
+/// The facts of a step whose fetch trapped, by the hart after it, which has the values before it.
+fn fetch_facts(number: u8, outcome: Outcome, after: &Hart) -> StepFacts
+    ensures { (hart : HartState) → IsStopped hart after.now →
+        result ≡ fetch_facts number hart outcome }
 {
     StepFacts {
         entry: Entry {
             hart: number,
-            pc: hart.pcc().addr(),
+            pc: after.pcc().addr(),
             outcome,
         },
         fetched: None,
         reads: UpToTwo::Zero,
         at: None,
         finds: None,
-        traps: fetch_trap(outcome, hart),
+        traps: fetch_trap(outcome, after),
         leaves: None,
         sets: UpToTwo::Zero,
         clears: None,
     }
 }
 
-/// The facts of an instruction that trapped.
-fn trapped_facts(seen: &Seen, number: u8, trap: Trap, hart: &Hart) -> StepFacts
-    ensures { (memory : List CapValue) (from : Origins) →
-        IsSeen seen.now number hart.now memory from →
-        result ≡ trapped_facts number hart.now memory from seen.now.fetched trap }
+/// The facts of an instruction that trapped, by the hart after it, which has the values before it.
+fn trapped_facts(seen: &Seen, number: u8, trap: Trap, after: &Hart) -> StepFacts
+    ensures { (hart : HartState) (memory : List CapValue) (from : Origins) →
+        IsSeen seen.now number hart memory from → IsStopped hart after.now →
+        result ≡ trapped_facts number hart memory from seen.now.fetched trap }
 {
     StepFacts {
         entry: Entry {
             hart: number,
-            pc: hart.pcc().addr(),
+            pc: seen.pc,
             outcome: Outcome::Trap(trap),
         },
         fetched: Some(seen.fetched),
         reads: seen.reads,
         at: seen.at,
         finds: None,
-        traps: Some(trapped_by(&Some(seen.fetched.instr), hart, trap)),
+        traps: Some(trapped_by(&Some(seen.fetched.instr), after, trap)),
         leaves: None,
         sets: UpToTwo::Zero,
         clears: None,
     }
 }
 
-/// The facts of an instruction that was done, from this hart to the one after it, with the memory
-/// and the origins after it.
+/// The facts of an instruction that was done, with the hart, the memory and the origins after it.
 fn done_facts(
     seen: &Seen,
     number: u8,
     outcome: Outcome,
-    hart: &Hart,
     after: &Hart,
     ram: &Ram,
     origins: &OriginTable,
 ) -> StepFacts
     requires { IsTableFor origins.now number (length ram.now) }
-    ensures { (memory : List CapValue) (from later : Origins) →
-        IsSeen seen.now number hart.now memory from → Tells origins.now later →
+    ensures { (hart : HartState) (memory : List CapValue) (from later : Origins) →
+        IsSeen seen.now number hart memory from → Tells origins.now later →
         IsPlaced memory seen.now.at → IsPlaced ram.now seen.now.at →
-        result ≡ done_facts number hart.now memory from seen.now.fetched
+        result ≡ done_facts number hart memory from seen.now.fetched
         (record { hart = after.now; memory = ram.now; outcome = outcome }) later }
 {
     let leaves = if is_store(&seen.action) {
@@ -130,7 +130,7 @@ fn done_facts(
     StepFacts {
         entry: Entry {
             hart: number,
-            pc: hart.pcc().addr(),
+            pc: seen.pc,
             outcome,
         },
         fetched: Some(seen.fetched),
@@ -140,7 +140,7 @@ fn done_facts(
         traps: None,
         leaves,
         sets: each_named(sets_of(&seen.action), number, after, ram, origins),
-        clears: clears_of(&seen.fetched.instr, &seen.action, hart, seen.found),
+        clears: seen.clears,
     }
 }
 
@@ -197,23 +197,23 @@ fn instruction_facts(
     seen: &Seen,
     number: u8,
     outcome: Outcome,
-    hart: &Hart,
     after: &Hart,
     ram: &Ram,
     origins: &OriginTable,
 ) -> StepFacts
     requires { IsTableFor origins.now number (length ram.now) }
-    ensures { (memory : List CapValue) (from later : Origins) →
-        IsSeen seen.now number hart.now memory from → Tells origins.now later →
+    ensures { (hart : HartState) (memory : List CapValue) (from later : Origins) →
+        IsSeen seen.now number hart memory from → Tells origins.now later →
         (IsNotTrap outcome → IsPlaced memory seen.now.at) →
         (IsNotTrap outcome → IsPlaced ram.now seen.now.at) →
-        result ≡ instruction_facts outcome number hart.now memory from seen.now.fetched
+        ((trap : Trap) → outcome ≡ Outcome.Trap trap → IsStopped hart after.now) →
+        result ≡ instruction_facts outcome number hart memory from seen.now.fetched
         (record { hart = after.now; memory = ram.now; outcome = outcome }) later }
 {
     match outcome {
-        Outcome::Done => done_facts(seen, number, Outcome::Done, hart, after, ram, origins),
-        Outcome::Halt => done_facts(seen, number, Outcome::Halt, hart, after, ram, origins),
-        Outcome::Trap(trap) => trapped_facts(seen, number, trap, hart),
+        Outcome::Done => done_facts(seen, number, Outcome::Done, after, ram, origins),
+        Outcome::Halt => done_facts(seen, number, Outcome::Halt, after, ram, origins),
+        Outcome::Trap(trap) => trapped_facts(seen, number, trap, after),
     }
 }
 
@@ -223,21 +223,21 @@ pub fn after_step(
     seen: &Option<Seen>,
     number: u8,
     outcome: Outcome,
-    hart: &Hart,
     after: &Hart,
     ram: &Ram,
     origins: &OriginTable,
 ) -> StepFacts
     requires { IsTableFor origins.now number (length ram.now) }
-    ensures { (program : List Instr) (memory : List CapValue) (from later : Origins) →
-        IsSeenBefore seen.now program number hart.now memory from → Tells origins.now later →
-        hart_step program hart.now memory
+    ensures { (program : List Instr) (hart : HartState) (memory : List CapValue)
+        (from later : Origins) →
+        IsSeenBefore seen.now program number hart memory from → Tells origins.now later →
+        hart_step program hart memory
         ≡ record { hart = after.now; memory = ram.now; outcome = outcome } →
-        result ≡ facts_by (fetched_of program hart.now.pcc) number hart.now memory from
+        result ≡ facts_by (fetched_of program hart.pcc) number hart memory from
         (record { hart = after.now; memory = ram.now; outcome = outcome }) later }
 {
     match seen {
-        None => fetch_facts(number, outcome, hart),
-        Some(seen) => instruction_facts(seen, number, outcome, hart, after, ram, origins),
+        None => fetch_facts(number, outcome, after),
+        Some(seen) => instruction_facts(seen, number, outcome, after, ram, origins),
     }
 }

@@ -14,8 +14,9 @@ ghost use Rattle.facts.specs.StepFacts.{
   granule_accessed,
 };
 
+use crate::clearing::clears_of;
 use crate::names::{access_of, granule_at, reads_of};
-use crate::step_facts::{Extent, Fetched, NamedValue, UpToTwo};
+use crate::step_facts::{Cleared, Extent, Fetched, NamedValue, UpToTwo};
 use cap_ops::Cap;
 use cheri_model::{CODE_BASE, INSTRUCTION_BYTES, Instr, Reg};
 use hart::Hart;
@@ -137,10 +138,12 @@ pub fn found_at(
 #[derive(Clone, Copy)]
 pub struct Seen {
     pub fetched: Fetched,
+    pub pc: u64,
     pub action: Action,
     pub reads: UpToTwo<NamedValue>,
     pub at: Option<Extent>,
     pub found: Option<NamedValue>,
+    pub clears: Option<Cleared>,
 }
 
 /// The first half of a step's facts, before it.
@@ -154,12 +157,15 @@ fn seen_before(fetched: &Fetched, number: u8, hart: &Hart, ram: &Ram, origins: &
     let at = access_of(&action);
     let reads = each_named(reads_of(&fetched.instr.form()), number, hart, ram, origins);
     let found = found_at(at, number, hart, ram, origins);
+    let clears = clears_of(&fetched.instr, &action, hart, &found);
     Seen {
         fetched: *fetched,
+        pc: hart.pcc().addr(),
         action,
         reads,
         at,
         found,
+        clears,
     }
 }
 

@@ -66,17 +66,17 @@ fn opening_table(alloc: Global, core: &Core) -> Result<OriginTable, NoMemory>
 }
 
 /// The hart with this number.
-fn hart_in(harts: &[Hart], number: usize) -> Hart
+fn hart_in(harts: &[Hart], number: usize) -> &Hart
     requires { number < length harts.now }
-    ensures { result ≡ slice_index_or harts.now number no_hart }
+    ensures { result.now ≡ slice_index_or harts.now number no_hart }
 {
-    harts[number]
+    &harts[number]
 }
 
 /// A hart of a core.
-fn hart_of(core: &Core, number: u8) -> Hart
+fn hart_of(core: &Core, number: u8) -> &Hart
     requires { number < length core.now.state.harts }
-    ensures { result ≡ hart_at core.now.state number }
+    ensures { result.now ≡ hart_at core.now.state number }
 {
     let view = core.view();
     hart_in(view.harts, usize::from(number))
@@ -106,12 +106,12 @@ fn follow_step(core: &mut Core, origins: &mut OriginTable, number: u8) -> StepFa
 {
     let hart = hart_of(core, number);
     let memory = ram_of(core);
-    let seen = before_step(program_of(core), number, &hart, memory, origins);
+    let seen = before_step(program_of(core), number, hart, memory, origins);
     let outcome = stepped(core, number);
     let after = hart_of(core, number);
     let now = ram_of(core);
     origins.follow(number, flows_of_step(&seen, outcome, now));
-    after_step(&seen, number, outcome, &hart, &after, now, origins)
+    after_step(&seen, number, outcome, after, now, origins)
 }
 
 /// The places whose tag a sweep clears.

@@ -1,3 +1,5 @@
 pub mod LoopLemmas
 pub mod ScanLemmas
+pub mod EdgeLemmas
+pub mod LabelLemmas
 pub mod RouteLemmas

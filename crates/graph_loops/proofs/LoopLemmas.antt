@@ -1,7 +1,7 @@
 -- A loop stays within one number, where numbers never rise.
-use Rattle.std.proofs.Common.{◌≡◌, ◌≢◌, ℕ, ◌+◌, ◌<◌, ◌≤◌, List, [], ◌∷◌, arith, ap, sym, ◌∙◌, refl, inl, inr, ◌⊎◌, subst}
-use Rattle.std.specs.Prelude.{Option, Some, None, Bool, true, false, option_and_then}
-use Rattle.std.proofs.lemmas.Option.{none-some, same_Some, option_and_then_some}
+use Rattle.std.proofs.Common.{◌≡◌, ℕ, ◌<◌, ◌≤◌, List, [], ◌∷◌, arith, ap, sym, ◌∙◌, refl, inl, inr, ◌⊎◌, subst}
+use Rattle.std.specs.Prelude.{Option, Some, None, Bool, true, false}
+use Rattle.std.proofs.lemmas.Option.{option_and_then_some}
 use Rattle.graph_search.specs.Walks.{after, IsWalk}
 use Rattle.graph_search.specs.Searches.{IsEarlier}
 use Rattle.graph_loops.specs.Loops.{Takes, IsLoop, IsFair}

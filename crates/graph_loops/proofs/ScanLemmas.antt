@@ -1,9 +1,9 @@
 -- How a scan goes on.
-use Rattle.std.proofs.Common.{◌≡◌, ◌≢◌, ℕ, suc, ◌+◌, ◌*◌, ◌<◌, ◌≤◌, List, length, get_or, set, arith, ap, sym, ◌∙◌, refl, inl, inr, ◌⊎◌, subst, get_or-set_same, get_or-set_other, length-set}
+use Rattle.std.proofs.Common.{◌≡◌, ℕ, suc, ◌+◌, ◌*◌, ◌<◌, ◌≤◌, List, length, get_or, set, arith, ap, sym, ◌∙◌, refl, inl, inr, subst, get_or-set_same, get_or-set_other, length-set}
 use Rattle.std.specs.Prelude.{Option, Some, None, IsSome, Bool, true, false, option_and_then, slice_get, slice_index}
 use Rattle.std.proofs.Math.Nat.{mul-le-mul_right, suc-mul}
 use Rattle.std.proofs.lemmas.Bool.{cases_lt, cases_eq}
-use Rattle.std.proofs.lemmas.Option.{none-some, same_Some, slice_get_within, option_and_then_some}
+use Rattle.std.proofs.lemmas.Option.{none-some, slice_get_within}
 use Rattle.graph_search.specs.Graphs.{LeadsTo}
 use Rattle.graph_search.specs.Trees.{state_at}
 use Rattle.graph_search.specs.Searches.{IsEarlier}
@@ -64,6 +64,14 @@ scanned_node {S} next at number actors moves runs f l h all beyond =
       ];
       idle = λ i m s earlier low is none. h.idle i m s (before i m earlier (omega arith)) low is none;
     }
+
+-- states are what they were, wherever a scan ended
+pub scans_states : {S : Type 0} (next : S → ℕ → Option S) (meaning meaning' : List ℕ → Option S) (actors : ℕ)
+    (nodes : List (List ℕ)) (numbers : List ℕ) (f l : ℕ) (moves runs : List Bool) (b : Bool) →
+    ScansTo next meaning meaning' actors nodes numbers f l moves runs b →
+    state_at meaning' nodes ≡ state_at meaning nodes
+scans_states {S} next meaning meaning' actors nodes numbers f l moves runs true h = h.0
+scans_states {S} next meaning meaning' actors nodes numbers f l moves runs false h = h
 
 -- a write of a table's own value keeps what has that value
 set_keeps : (table : List Bool) (p : ℕ) (b : Bool) (k : ℕ) → p < length table → get_or table k false ≡ b →

@@ -3,7 +3,9 @@
 use Rattle.std.specs.Prelude.{◌≡◌, ℕ, ◌<◌, List, [], ◌∷◌, Option, Some, ◌⊎◌}
 use Rattle.graph_search.specs.Walks.{IsWalk}
 use Rattle.graph_loops.specs.declared.scans.Loops.{Loops}
-use Rattle.graph_loops.specs.declared.scans.Loops.TheVariants.{NoLoop, Unfair, Unknown}
+use Rattle.graph_loops.specs.declared.scans.Loops.TheVariants as known
+use Rattle.graph_loops.specs.declared.labels.Round.{Round}
+use Rattle.graph_loops.specs.declared.labels.Round.TheVariants as round
 
 -- the walk takes an edge of this label
 abbrev pub Takes : List ℕ → ℕ → Type 0
@@ -20,9 +22,19 @@ IsFair {S} next actors s ls = (m : ℕ) (t : S) → m < actors → next s m ≡ 
 
 -- what is known of the loops of all states that were found
 abbrev pub IsKnown : {S : Type 0} → (S → ℕ → Option S) → ℕ → (ℕ → Option S) → Loops → Type 0
-IsKnown {S} next actors at NoLoop =
+IsKnown {S} next actors at known.NoLoop =
     (i : ℕ) (s : S) (ls : List ℕ) → at i ≡ Some s → ¬ IsLoop next actors s ls
-IsKnown {S} next actors at Unfair =
+IsKnown {S} next actors at known.Unfair =
     (i : ℕ) (s : S) (ls : List ℕ) → at i ≡ Some s → IsLoop next actors s ls →
     ¬ IsFair next actors s ls
-IsKnown next actors at Unknown = Unit {0}
+IsKnown next actors at known.Unknown = Unit {0}
+
+-- what the labels are, followed from s
+abbrev pub IsRound : {S : Type 0} → (S → ℕ → Option S) → ℕ → S → List ℕ → Round → Type 0
+IsRound next actors s ls round.NoLoop = Unit {0}
+IsRound next actors s ls round.Loop = IsLoop next actors s ls
+IsRound next actors s ls round.FairLoop = IsLoop next actors s ls × IsFair next actors s ls
+
+-- so many nodes have a state
+unfoldable pub AreMeant : {S : Type 0} → (ℕ → Option S) → ℕ → Type 0
+AreMeant {S} at count = (i : ℕ) → i < count → (s : S) × (at i ≡ Some s)

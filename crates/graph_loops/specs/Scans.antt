@@ -31,13 +31,14 @@ pub record IsScanning {S : Type 0} (next : S → ℕ → Option S) (meaning : Li
   pub scanned : IsScanned next (state_at meaning nodes) (slice_index numbers) actors
       (entry moves actors) (entry runs actors) node label
 
--- the scan goes on to this node and label, and states are what they were; or numbers rise
+-- states are what they were, and the scan goes on to this node and label or finds a number that rises
 abbrev pub ScansTo : {S : Type 0} → (S → ℕ → Option S) → (List ℕ → Option S) →
     (List ℕ → Option S) → ℕ → List (List ℕ) → List ℕ → ℕ → ℕ → List Bool → List Bool → Bool → Type 0
 ScansTo {S} next meaning meaning' actors nodes numbers node label moves runs true =
     (state_at meaning' nodes ≡ state_at meaning nodes)
     × IsScanning next meaning' actors nodes numbers moves runs node label
-ScansTo next meaning meaning' actors nodes numbers node label moves runs false = Unit {0}
+ScansTo next meaning meaning' actors nodes numbers node label moves runs false =
+    state_at meaning' nodes ≡ state_at meaning nodes
 
 -- nobody moves within the number; or one who has a step in all of its nodes doesn't
 abbrev pub IsStarved : List Bool → List Bool → ℕ → ℕ → Type 0

@@ -59,6 +59,10 @@ pub fn judge_loops<G: Graph>(
         state_at (G.meaning graph.old) found.now.nodes j ≡ Some s → i ≡ j }
     requires labelled { actors ≤ G.label_count graph.old }
     ensures same_graph { G.next graph.new ≡ G.next graph.old }
+    ensures same_labels { G.label_count graph.new ≡ G.label_count graph.old }
+    ensures same_width { G.width graph.new ≡ G.width graph.old }
+    ensures states { IfOk result (λ _. state_at (G.meaning graph.new) found.now.nodes
+        ≡ state_at (G.meaning graph.old) found.now.nodes) }
     ensures known { IfOk result
         (IsKnown (G.next graph.old) actors (state_at (G.meaning graph.old) found.now.nodes)) }
 {
@@ -127,6 +131,8 @@ fn scan<G: Graph>(
     requires before { IsScanning (G.next graph.old) (G.meaning graph.old) actors found.now.nodes
         numbers.now tables.old.moves.items tables.old.runs.items 0 0 }
     ensures same_graph { G.next graph.new ≡ G.next graph.old }
+    ensures same_labels { G.label_count graph.new ≡ G.label_count graph.old }
+    ensures same_width { G.width graph.new ≡ G.width graph.old }
     ensures after { IfOk result (ScansTo (G.next graph.new) (G.meaning graph.old)
         (G.meaning graph.new) actors found.now.nodes numbers.now (length numbers.now) 0
         tables.new.moves.items tables.new.runs.items) }

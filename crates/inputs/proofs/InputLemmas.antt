@@ -1,11 +1,10 @@
 -- Files that were refused, as faults of a program.
-use Rattle.std.proofs.Common.{◌≡◌, refl, subst, sym, ap, ℕ, Bool, List, Option, None, Result, Ok, Err, inl, inr}
-use Rattle.std.specs.Prelude.{OnOk, IfErr, ⊤, ◌⊎◌}
+use Rattle.std.proofs.Common.{◌≡◌, refl, subst, sym, ap, ℕ, Bool, List, Option, Result, Ok, Err, inl, inr}
 use Rattle.cheri_model.specs.runs.Image.{ImageParts}
 use Rattle.grammar.specs.declared.fault.ListingFaultKind.{ListingFaultKind}
 use Rattle.grammar.specs.declared.fault.ListingFaultKind.TheVariants as kinds
 use Rattle.listings.specs.declared.fault.ListingFault.{ListingFault}
-use Rattle.listings.specs.Faults.{Gives, no_memory}
+use Rattle.listings.specs.Faults.{Gives}
 use Rattle.listings.specs.Meaning.{listing_meaning}
 use Rattle.printing.specs.Endings.{Answer, Failure, FailsBy, OutOfMemory}
 use Rattle.printing.proofs.EndingLemmas.{IsEarly, early}

@@ -12,6 +12,13 @@ pub begins_whole : (old now new : Option (List ℕ)) (text : List ℕ) → Appen
 begins_whole old now new text grown kept =
     ([], record { taken = text; grown = Appends-kept old now new text grown kept; parts = rw append-nil refl })
 
+-- a text that was written whole
+pub whole_printed : {End Fault T : Type 0} (IsAnswer : Answer End Fault → Type 0) (text : List ℕ) (end : End) (old new : Option (List ℕ))
+    (result : Result (Unit {0}) T) → IsAnswer (Ok (text, end)) → OnOk result (Appends old new text) →
+    OnOk result (HasWhole IsAnswer end old new)
+whole_printed IsAnswer text end old new (Ok done) answer grown = (text, answer, grown)
+whole_printed IsAnswer text end old new (Err fault) answer grown = tt
+
 -- a failure before anything is printed
 abbrev pub IsEarly : {End : Type 0} → Failure End → Type 0
 IsEarly Refused = ⊤

@@ -1,5 +1,5 @@
 -- How a command ends, and what standard output then has of its answer.
-use Rattle.std.specs.Prelude.{◌≡◌, ℕ, List, Option, Result, Ok, Err, ◌⊎◌, Bool, true}
+use Rattle.std.specs.Prelude.{◌≡◌, ℕ, List, [], ◌∷◌, ◌++◌, Option, Result, Ok, Err, ◌⊎◌, Bool, true}
 use Rattle.std.specs.Io.KnownBytes.{Appends}
 use Rattle.sinks.specs.Sinks.{TakesBeginning}
 
@@ -36,3 +36,12 @@ FailsBy Unwritten IsAnswer fault old new = HasPrefix IsAnswer old new
 FailsBy (OutOfMemory in_pieces) IsAnswer fault old new =
     (new ≡ old) ⊎ ((in_pieces ≡ true) × HasPrefix IsAnswer old new)
 FailsBy (Stopped end) IsAnswer fault old new = HasWhole IsAnswer end old new
+
+-- A program ends with a status by a fault of which this is so; standard error got the fault's line,
+-- or a prefix of it.
+pub record EndsBy {Fault : Type 0} (status_of : Fault → ℕ) (text_of : Fault → List ℕ)
+    (IsSo : Fault → Type 0) (status : ℕ) (old new : Option (List ℕ)) : Type 0 where
+  pub fault : Fault
+  pub status_is : status ≡ status_of fault
+  pub is_so : IsSo fault
+  pub told : TakesBeginning old new (text_of fault ++ 10 ∷ [])

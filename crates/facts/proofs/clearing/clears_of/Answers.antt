@@ -9,6 +9,6 @@ use Rattle.facts.proofs.clearing.clears_of.Goals as goal
 pub returns-in-Put : goal.returns-in-Put
 returns-in-Put c same =
     c.lost_if.ensures
-    ∙ put_clears c.args.instr.now c.args.hart.now c.args.found c.in-Put.cd c.in-Put.value _
+    ∙ put_clears c.args.instr.now c.args.hart.now c.args.found.now c.in-Put.cd c.in-Put.value _
     (sym (ap (λ asked. action_of asked) c.in-Put.is) ∙ same)
     (c.form_derived.ensures ∙ ap (λ i. derivation_of i c.args.hart.now) (ap (λ form. instr_of form) c.form.ensures ∙ instr_of-form_of c.args.instr.now))

@@ -51,17 +51,17 @@ returns-clause-facts c =
     let there = hart_there core number c.requires.accepted in
     let hart = c.hart_of-hart.ensures in
     let seen = rw (c.program_of.ensures, c.ram_of-memory.ensures) at (c.before_step-seen.ensures from c.requires.followed.tells) in
-    let parts = step_parts core number c.stepped-outcome.new.core c.hart_of-after.result c.ram_of-now.result.now c.stepped-outcome.result
+    let parts = step_parts core number c.stepped-outcome.new.core c.hart_of-after.result.now c.ram_of-now.result.now c.stepped-outcome.result
     c.stepped-outcome.ensures.after there c.hart_of-after.ensures c.ram_of-now.ensures c.stepped-outcome.ensures.outcome in
-    let stepped : Stepped = record { hart = c.hart_of-after.result; memory = c.ram_of-now.result.now; outcome = c.stepped-outcome.result } in
-    let is : hart_step program c.hart_of-hart.result memory ≡ stepped = ap (λ h. hart_step program h memory) hart ∙ parts in
-    let flows : list_of c.flows_of_step.result ≡ step_flows program c.hart_of-hart.result memory =
-    c.flows_of_step.ensures.value program number c.hart_of-hart.result c.hart_of-after.result memory from seen is in
+    let stepped : Stepped = record { hart = c.hart_of-after.result.now; memory = c.ram_of-now.result.now; outcome = c.stepped-outcome.result } in
+    let is : hart_step program c.hart_of-hart.result.now memory ≡ stepped = ap (λ h. hart_step program h memory) hart ∙ parts in
+    let flows : list_of c.flows_of_step.result ≡ step_flows program c.hart_of-hart.result.now memory =
+    c.flows_of_step.ensures.value program number c.hart_of-hart.result.now c.hart_of-after.result.now memory from seen is in
     let for = table_for_after core number c.args.origins.now c.stepped-outcome.new.core c.requires.followed there c.stepped-outcome.ensures.after in
     let are = spots_are_flows c.args.origins.now number (length c.ram_of-now.result.now) (list_of c.flows_of_step.result) (rw c.ram_of-now.ensures for) c.flows_of_step.ensures.spots in
-    let tells = tells_after number (step_flows program c.hart_of-hart.result memory) from c.args.origins.now c.follow.new.self
+    let tells = tells_after number (step_flows program c.hart_of-hart.result.now memory) from c.args.origins.now c.follow.new.self
     (subst (λ f. AreFlows c.args.origins.now number f) flows are) (subst (λ f. IsAfter number f c.args.origins.now c.follow.new.self) flows c.follow.ensures) c.requires.followed.tells in
-    facts_joined program number c.hart_of-hart.result memory from stepped _ is (c.after_step.ensures program memory from _ seen tells is)
+    facts_joined program number c.hart_of-hart.result.now memory from stepped _ is (c.after_step.ensures program c.hart_of-hart.result.now memory from _ seen tells is)
     ∙ ap (λ h. hart_facts program number h memory from) hart
 
 pub returns-clause-followed_on : goal.returns-clause-followed_on
@@ -74,12 +74,12 @@ returns-clause-followed_on c =
     let there = hart_there core number c.requires.accepted in
     let hart = c.hart_of-hart.ensures in
     let seen = rw (c.program_of.ensures, c.ram_of-memory.ensures) at (c.before_step-seen.ensures from c.requires.followed.tells) in
-    let parts = step_parts core number c.stepped-outcome.new.core c.hart_of-after.result c.ram_of-now.result.now c.stepped-outcome.result
+    let parts = step_parts core number c.stepped-outcome.new.core c.hart_of-after.result.now c.ram_of-now.result.now c.stepped-outcome.result
     c.stepped-outcome.ensures.after there c.hart_of-after.ensures c.ram_of-now.ensures c.stepped-outcome.ensures.outcome in
-    let stepped : Stepped = record { hart = c.hart_of-after.result; memory = c.ram_of-now.result.now; outcome = c.stepped-outcome.result } in
-    let is : hart_step program c.hart_of-hart.result memory ≡ stepped = ap (λ h. hart_step program h memory) hart ∙ parts in
+    let stepped : Stepped = record { hart = c.hart_of-after.result.now; memory = c.ram_of-now.result.now; outcome = c.stepped-outcome.result } in
+    let is : hart_step program c.hart_of-hart.result.now memory ≡ stepped = ap (λ h. hart_step program h memory) hart ∙ parts in
     let flows : list_of c.flows_of_step.result ≡ step_flows program (hart_at core.state number) memory =
-    c.flows_of_step.ensures.value program number c.hart_of-hart.result c.hart_of-after.result memory from seen is ∙ ap (λ h. step_flows program h memory) hart in
+    c.flows_of_step.ensures.value program number c.hart_of-hart.result.now c.hart_of-after.result.now memory from seen is ∙ ap (λ h. step_flows program h memory) hart in
     let for = table_for_after core number c.args.origins.now c.stepped-outcome.new.core c.requires.followed there c.stepped-outcome.ensures.after in
     let are = spots_are_flows c.args.origins.now number (length c.ram_of-now.result.now) (list_of c.flows_of_step.result) (rw c.ram_of-now.ensures for) c.flows_of_step.ensures.spots in
     let kept : IsCore (core_after core (operation.Step number)) = subst (λ core. IsCore core) c.stepped-outcome.ensures.after c.stepped-outcome.ensures.core in

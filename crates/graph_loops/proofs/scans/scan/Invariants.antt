@@ -6,6 +6,8 @@ use Rattle.graph_loops.proofs.scans.scan.Given as goal
 abbrev pub invariant-loop-node : goal.invariant-loop-node
 invariant-loop-node g l = record {
   same_graph : g.G.Graph.next l.graph ≡ g.G.Graph.next l.fn.graph;
+  same_labels : g.G.Graph.label_count l.graph ≡ g.G.Graph.label_count l.fn.graph;
+  same_width : g.G.Graph.width l.graph ≡ g.G.Graph.width l.fn.graph;
   room : length l.row ≡ g.G.Graph.width l.graph;
   labelled : l.actors ≤ g.G.Graph.label_count l.graph;
   ending : l.node-end ≡ length l.found.nodes;

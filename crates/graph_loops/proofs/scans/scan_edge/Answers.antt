@@ -1,5 +1,6 @@
-use Rattle.std.proofs.Common.{◌≡◌, ◌≤◌, ◌<◌, ◌*◌, ◌+◌, true, false, length, slice_index, arith, rules, sym}
+use Rattle.std.proofs.Common.{◌≡◌, ◌≤◌, ◌<◌, true, false, length, slice_index, arith, rules, sym}
 use Rattle.std.proofs.lemmas.Option.{slice_get_within}
+use Rattle.graph_search.proofs.TreeLemmas.{same_states}
 use Rattle.graph_loops.proofs.ScanLemmas.{meant_node, rests, rests_nobody, leaves, stays}
 use Rattle.graph_loops.proofs.scans.scan_edge.Goals as goal
 
@@ -67,3 +68,13 @@ returns-else-edge-actors-2-clause-after g c =
     c.args.edge.from c.args.edge.label c.requires.before c.step.ensures.same_graph c.step.ensures.kept
     c.requires.there c.in-Some.node.now c.step.new.to (sym c.in-Some.ensures)
     c.in_ok-step.field-0 c.in_ok-step.ensures.value leading c.in-Some-find.to c.in-Some-find.ensures.found (omega arith) (λ same. nobody)
+
+pub returns-in_default-find-clause-after : goal.returns-in_default-find-clause-after
+returns-in_default-find-clause-after g c =
+    sym (same_states (g.G.Graph.meaning c.args.graph.now) (g.G.Graph.meaning c.step.new.self) c.args.found.now.nodes
+    c.step.ensures.kept c.requires.before.meant)
+
+pub returns-then-next-number-clause-after : goal.returns-then-next-number-clause-after
+returns-then-next-number-clause-after g c =
+    sym (same_states (g.G.Graph.meaning c.args.graph.now) (g.G.Graph.meaning c.step.new.self) c.args.found.now.nodes
+    c.step.ensures.kept c.requires.before.meant)

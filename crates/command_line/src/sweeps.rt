@@ -1,0 +1,80 @@
+//! The sweeps of a search.
+
+ghost use Rattle.std.specs.Prelude.{◌≡◌, ◌<◌, ◌≤◌, ◌==◌, ◌+◌, Err, IfOk, IfSome, None, Some, drop, length, map};
+ghost use Rattle.std.specs.List.{position};
+ghost use Rattle.command_line.specs.ExploreWords.{few_sweeps_of, sweep_of, sweep_within};
+
+use crate::faults::CommandFault;
+use crate::numbers::number_written;
+use std::alloc::Global;
+
+/// The most sweeps that a search may take.
+pub const MAX_SWEEPS: usize = 8;
+
+/// A sweep of the addresses from `lo` up to, not including, `hi`.
+#[derive(Clone, Copy, Debug, PartialEq, Eq)]
+pub struct Sweep {
+    pub lo: u64,
+    pub hi: u128,
+}
+
+/// The sweep of a range, where `lo` is no greater than `hi`, and both lie in the address space.
+fn sweep_within(lo: u128, hi: u128) -> Option<Sweep>
+    ensures { result ≡ sweep_within lo hi }
+{
+    let end = 1 << 64;
+    if lo <= hi && hi <= end && lo < end {
+        Some(Sweep { lo: lo as u64, hi })
+    } else {
+        None
+    }
+}
+
+/// Where the first comma of a word is.
+fn comma_at(bytes: &[u8]) -> Option<usize>
+    ensures place { result ≡ position (λ b. b == 0x2C) bytes.now }
+    ensures inside { IfSome result (λ place. place < length bytes.now) }
+{
+    bytes.iter().position(|byte| *byte == b',')
+}
+
+/// The bytes of a text after the one at a place.
+fn after(bytes: &[u8], place: usize) -> &[u8]
+    requires { place < length bytes.now }
+    ensures { result.now ≡ drop (place + 1) bytes.now }
+{
+    &bytes[place + 1..]
+}
+
+/// The sweep that a word writes, `LO,HI`.
+#[tactic(auto, using(crate::proofs::SweepLemmas::sweep_parts))]
+fn sweep_written(word: &str) -> Option<Sweep>
+    ensures { result ≡ sweep_of word.now }
+{
+    let bytes = word.as_bytes();
+    let comma = comma_at(bytes)?;
+    let lo = number_written(&bytes[..comma])?;
+    let hi = number_written(after(bytes, comma))?;
+    sweep_within(lo, hi)
+}
+
+/// The sweeps that words write, at most eight.
+pub(crate) fn sweeps_written(alloc: Global, words: &[&str]) -> Result<Vec<Sweep>, CommandFault>
+    ensures sweeps { IfOk result (λ sweeps.
+        few_sweeps_of (map (λ word. word.now) words.now) ≡ Some sweeps.items) }
+    ensures usage { result ≡ Err CommandFault.Usage
+        → few_sweeps_of (map (λ word. word.now) words.now) ≡ None }
+    ensures few { IfOk result (λ sweeps. length sweeps.items ≤ MAX_SWEEPS) }
+{
+    if words.len() > MAX_SWEEPS {
+        return Err(CommandFault::Usage);
+    }
+    let mut sweeps = Vec::new(alloc);
+    for word in words {
+        let sweep = sweep_written(word).ok_or(CommandFault::Usage)?;
+        let Ok(()) = sweeps.push(sweep) else {
+            return Err(CommandFault::NoMemory);
+        };
+    }
+    Ok(sweeps)
+}

@@ -1,0 +1,3 @@
+pub mod LoadLemmas
+pub mod MeantLemmas
+pub mod PartLemmas

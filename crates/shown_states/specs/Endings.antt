@@ -1,0 +1,24 @@
+-- How an answer ends, and what a sink then has of it.
+use Rattle.std.specs.Prelude.{◌≡◌, ℕ, List, Option, ◌⊎◌}
+use Rattle.std.specs.Io.KnownBytes.{Appends}
+use Rattle.shown_states.specs.declared.form.Ending.{Ending}
+use Rattle.shown_states.specs.declared.form.Ending.TheVariants.{Done, Unfinished, Nowhere}
+use Rattle.sinks.specs.Sinks.{TakesBeginning}
+use Rattle.sinks.specs.declared.fault.WriteFault.{WriteFault}
+use Rattle.sinks.specs.declared.fault.WriteFault.TheVariants.{NoMemory}
+
+-- the exit status
+abbrev pub status_of : Ending → ℕ
+status_of Done = 0
+status_of Unfinished = 4
+status_of Nowhere = 5
+
+-- a sink took a whole text that is so
+abbrev pub IsWritten : (List ℕ → Type 0) → Option (List ℕ) → Option (List ℕ) → Type 0
+IsWritten IsSo old new = (text : List ℕ) × IsSo text × Appends old new text
+
+-- it took nothing before memory ran out, or a beginning of a text that is so
+abbrev pub IsUnwritten : (List ℕ → Type 0) → Option (List ℕ) → Option (List ℕ) → WriteFault → Type 0
+IsUnwritten IsSo old new fault =
+    ((new ≡ old) × (fault ≡ NoMemory))
+    ⊎ ((text : List ℕ) × IsSo text × TakesBeginning old new text)

@@ -1,0 +1,37 @@
+//! How an answer is written, and how it ends.
+
+ghost use Rattle.std.specs.Prelude.{◌≡◌};
+ghost use Rattle.shown_states.specs.Endings.{status_of};
+
+/// How an answer is written.
+#[derive(Clone, Copy, Debug, PartialEq, Eq)]
+pub enum Format {
+    /// Lines for a reader.
+    Text,
+    /// One object, for scripts.
+    Json,
+}
+
+/// How an answer ends.
+#[derive(Clone, Copy, Debug, PartialEq, Eq)]
+pub enum Ending {
+    /// It speaks of all states, or it is the state that was looked for.
+    Done,
+    /// It speaks of the states that were kept, and there are more.
+    Unfinished,
+    /// No state is one that was looked for.
+    Nowhere,
+}
+
+impl Ending {
+    /// The exit status of a program that answers so.
+    pub fn status(self) -> u8
+        ensures { result ≡ status_of self }
+    {
+        match self {
+            Ending::Done => 0,
+            Ending::Unfinished => 4,
+            Ending::Nowhere => 5,
+        }
+    }
+}
