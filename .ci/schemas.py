@@ -1,5 +1,6 @@
-"""schemas.py SCHEMA FOLDER: FOLDER has pairs NAME.json and NAME.report of one run each. Every JSON report must keep the
-schema and say the same as the text, every broken one must be refused. The last line is 'N passed, M failed'."""
+"""schemas.py SCHEMAS FOLDER: FOLDER has a folder for each kind of answer (report, explanation), with pairs NAME.json
+and NAME.KIND of one run each. Every JSON answer must keep the schema SCHEMAS/KIND.json and say the same as the text,
+every broken one must be refused. The last line is 'N passed, M failed'."""
 import copy
 import json
 import pathlib
@@ -12,7 +13,7 @@ def value_text(value):
     text = f"{int(value['tag'])} {value['word']}"
     if value["tag"]:
         text += f" {value['base']} {value['top']} {value['perms']} {value['type']}"
-    return text
+    return text + (f" from {value['from']}" if "from" in value else "")
 
 
 def trap_text(trap):
@@ -25,20 +26,88 @@ def event_text(number, event):
     return f"{number} hart={event['hart']} pc={event['pc']} {event['outcome']}{trap_text(event)}"
 
 
-def report_text(report):
-    """The text report that a JSON report stands for."""
-    image = report["image"]
-    lines = [f"cheri-sim report {report['report']}"]
-    lines.append(f"image harts={image['harts']} ram={image['ram']} code={image['code']}")
-    lines.append(f"entries {len(report['entries'])}")
-    lines += [event_text(number, event) for number, event in enumerate(report["entries"])]
-    for number, hart in enumerate(report["harts"]):
+def image_text(image):
+    return f"image harts={image['harts']} ram={image['ram']} code={image['code']}"
+
+
+def state_lines(state):
+    """The lines for the harts and for memory."""
+    lines = []
+    for number, hart in enumerate(state["harts"]):
         lines.append(f"hart {number} {hart['status']}{trap_text(hart)}")
         lines.append(f"pcc {value_text(hart['pcc'])}")
         names = sorted(hart["regs"], key=lambda name: int(name[1:]))
         lines += [f"{name} {value_text(hart['regs'][name])}" for name in names]
-    lines += [f"mem {address} {value_text(value)}" for address, value in sorted(report["mem"].items())]
+    return lines + [f"mem {address} {value_text(value)}" for address, value in sorted(state["mem"].items())]
+
+
+def report_text(report):
+    """The text report that a JSON report stands for."""
+    lines = [f"cheri-sim report {report['report']}", image_text(report["image"])]
+    lines.append(f"entries {len(report['entries'])}")
+    lines += [event_text(number, event) for number, event in enumerate(report["entries"])]
+    return "\n".join(lines + state_lines(report)) + "\nend\n"
+
+
+CAUSES = ["Tag", "Seal", "Execute", "Load", "Store", "StoreCap", "StoreLocal", "Length", "Align", "Place", "Fetch",
+          "Type", "CInvoke"]
+# the instructions whose first operand is a source
+SOURCES_FIRST = {"sb", "sh", "sw", "sd", "sc", "beq", "bne", "blt", "bge", "bltu", "bgeu", "cinvoke"}
+
+
+def sources(instruction):
+    """The names of what an instruction reads, in the order in which its facts have them."""
+    name, _, rest = instruction.partition(" ")
+    operands = [word for word in rest.replace("(", ", ").replace(")", "").split(", ") if word[:1] == "c"]
+    return ["pcc"] + (operands if name in SOURCES_FIRST else operands[1:])
+
+
+def place_order(name):
+    """Harts in order, PCC first, then c1 to c31, then granules."""
+    if name.startswith("mem "):
+        return (8, 0, name)
+    hart, _, register = name.rpartition(":")
+    return (int(hart or 0), 0 if register == "pcc" else int(register[1:]), "")
+
+
+def fact_lines(event):
+    lines = []
+    if "reads" in event:
+        order = sources(event["instruction"])
+        lines += [f"reads {name} {value_text(event['reads'][name])}" for name in sorted(event["reads"], key=order.index)]
+    if "at" in event:
+        lines.append(f"at {event['at']['address']} {event['at']['bytes']}")
+    lines += [f"finds mem {address} {value_text(value)}" for address, value in event.get("finds", {}).items()]
+    if "why" in event:
+        lines.append(f"traps {CAUSES[event['cause'] - 1]}: {event['why']}")
+    lines += [f"leaves mem {address} {value_text(value)}" for address, value in event.get("leaves", {}).items()]
+    lines += [f"sets {name} {value_text(value)}" for name, value in sorted(event.get("sets", {}).items())]
+    clears = event.get("clears", {})
+    return lines + [f"clears {name}: {clears[name]}" for name in sorted(clears, key=place_order)]
+
+
+def explanation_text(explanation):
+    """The text that a JSON explanation stands for."""
+    lines = [f"cheri-sim explanation {explanation['explanation']}", image_text(explanation["image"])]
+    lines.append(f"entries {explanation['entries']}")
+    for event in explanation["events"]:
+        place = f" | line {event['line']}: {event['instruction']}" if "line" in event else ""
+        lines.append(event_text(event["number"], event) + place)
+        lines += ["  " + line for line in fact_lines(event)]
     return "\n".join(lines) + "\nend\n"
+
+
+# what each kind of answer stands for; the members that may be left out; runs whose answers are broken in each place:
+# they have sweeps, traps, sealed and untagged values; how the answer's version is changed
+KINDS = {
+    "report": (report_text, (), ("use_after_free.2", "sealed.1", "traps_01.1"),
+               lambda report: {**report, "report": 3 - report["report"]}),
+    "explanation": (explanation_text, ("at", "clears", "leaves", "reads", "sets"),
+                    ("use_after_free.2", "traps_01.1", "overwrite.1"),
+                    lambda explanation: {**explanation, "explanation": 2}),
+}
+# objects whose members are named by places
+MAPS = ("regs", "mem", "reads", "finds", "leaves", "sets", "clears")
 
 
 def places(content, path=()):
@@ -49,12 +118,13 @@ def places(content, path=()):
         yield from places(inner, path + (key,))
 
 
-def broken(report):
-    """Reports with one fault: a key taken out or added, a value of another type."""
-    for path in list(places(report)):
-        named = isinstance(path[-1], str) and path[-2:-1] not in (("regs",), ("mem",))
-        for change in ("taken out", "added", "null") if named else ("null",):
-            other = copy.deepcopy(report)
+def broken(answer, optional):
+    """Answers with one fault: a key taken out or added, a value of another type."""
+    for path in list(places(answer)):
+        named = isinstance(path[-1], str) and path[-2:-1] not in [(name,) for name in MAPS]
+        changes = ["null"] + ["added"] * named + ["taken out"] * (named and path[-1] not in optional)
+        for change in changes:
+            other = copy.deepcopy(answer)
             inner = other
             for key in path[:-1]:
                 inner = inner[key]
@@ -67,7 +137,7 @@ def broken(report):
             yield f"{'.'.join(map(str, path))} {change}", other
 
 
-def main(schema_name, folder):
+def main(schemas, folder):
     passed, failed = 0, 0
 
     def result(name, passes):
@@ -76,26 +146,31 @@ def main(schema_name, folder):
         if not passes:
             print(f"schemas: FAILED: {name}")
 
-    schema = json.loads(pathlib.Path(schema_name).read_text())
-    jsonschema.Draft202012Validator.check_schema(schema)
-    judge = jsonschema.Draft202012Validator(schema)
-    reports = sorted(pathlib.Path(folder).glob("*.json"))
-    result("there are reports", reports)
-    for path in reports:
-        content = path.read_text()
-        report = json.loads(content)
-        result(f"{path.name} keeps the schema", judge.is_valid(report))
-        compact = json.dumps(report, sort_keys=True, separators=(",", ":"))
-        result(f"{path.name} is compact, with its keys in order", content == compact + "\n")
-        result(f"{path.name} says what the text says", report_text(report) == path.with_suffix(".report").read_text())
-    # each place of a report with sweeps, traps, sealed and untagged values
-    for path in reports:
-        if path.stem in ("use_after_free.2", "sealed.1", "traps_01.1"):
-            report = json.loads(path.read_text())
-            other = 3 - report["report"]
-            result(f"{path.name} of version {other} is refused", not judge.is_valid({**report, "report": other}))
-            for name, fault in broken(report):
-                result(f"{path.name}: {name} is refused", not judge.is_valid(fault))
+    kinds = sorted(path.name for path in pathlib.Path(folder).iterdir())
+    result("there are answers", kinds)
+    for kind in kinds:
+        text_of, optional, broken_runs, with_other_version = KINDS[kind]
+        schema = json.loads((pathlib.Path(schemas) / f"{kind}.json").read_text())
+        jsonschema.Draft202012Validator.check_schema(schema)
+        judge = jsonschema.Draft202012Validator(schema)
+        for path in sorted((pathlib.Path(folder) / kind).glob("*.json")):
+            content = path.read_text()
+            name = f"the {kind} {path.stem}"
+            try:
+                answer = json.loads(content)
+            except ValueError:
+                result(f"{name} is JSON", False)
+                continue
+            is_good = judge.is_valid(answer)
+            result(f"{name} keeps the schema", is_good)
+            compact = json.dumps(answer, sort_keys=True, separators=(",", ":"))
+            result(f"{name} is compact, with its keys in order", content == compact + "\n")
+            text = path.with_suffix("." + kind).read_text()
+            result(f"{name} says what the text says", is_good and text_of(answer) == text)
+            if path.stem in broken_runs:
+                result(f"{name} of another version is refused", not judge.is_valid(with_other_version(answer)))
+                for fault, other in broken(answer, optional):
+                    result(f"{name}: {fault} is refused", not judge.is_valid(other))
     print(f"{passed} passed, {failed} failed")
     return failed > 0
 

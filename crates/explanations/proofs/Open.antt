@@ -1,5 +1,9 @@
 -- Names for `unfolding(..)` that open what their own line names.
 use Rattle.std.specs.Prelude.{ℕ, Bool, List}
+use Rattle.cheri_model.specs.declared.form.Form.{Form}
+use Rattle.cheri_model.specs.declared.names.Mnemonic.{Mnemonic}
+use Rattle.cheri_model.specs.instructions.Names.{mnemonic_table, name_among, name_of}
+use Rattle.notation.specs.Instructions.{form_text}
 use Rattle.explanations.specs.declared.selection.Selection.{Selection}
 use Rattle.explanations.specs.Explanation.{Explained, is_shown, shown_lines}
 use Rattle.explanations.specs.JsonText.{shown_item}
@@ -11,3 +15,11 @@ shown lines selection number facts = shown_lines lines selection number facts
 unfoldable pub item : List ℕ → Selection → Bool → ℕ → Explained → List ℕ
 unfolding is_shown shown_item
 item lines selection later number facts = shown_item lines selection later number facts
+
+unfoldable pub names : Mnemonic → List ℕ
+unfolding name_of name_among mnemonic_table
+names mnemonic = name_of mnemonic
+
+unfoldable pub forms : Form → List ℕ
+unfolding form_text names
+forms form = form_text form

@@ -20,66 +20,53 @@ ghost use Rattle.explanations.specs.FactLines.{
   step_lines,
 };
 
-use crate::names::{OriginName, SpotName, SweptName};
+use crate::forms::write_form;
+use crate::names::{SpotName, SweptName, write_origin, write_spot};
 use crate::reasons::{write_trap_why, write_why};
 use cheri_model::{Event, NoMemory};
 use facts::{Cleared, Extent, Fetched, NamedValue, StepFacts, Trapped, UpToTwo};
-use notation::InstructionText;
+use itoa::Buffer;
 use origins::Place;
-use report_lines::{CauseName, HexWord, ValueText, write_event};
-use std::fmt;
+use report_lines::{CauseName, HexWord, write_event, write_value};
 
-/// The origin of a value, if it has one.
-#[derive(Clone, Copy)]
-struct FromOrigin(Option<Place>);
-
-impl fmt::Display for FromOrigin {
-    ghost output = { λ from. Some (if_any from_text from.0) };
-
-    fn fmt<W: fmt::Write>(&self, f: &mut fmt::Formatter<W>) -> fmt::Result {
-        match self.0 {
-            Some(place) => write!(f, " from {}", OriginName(place)),
-            None => Ok(()),
+/// Appends the origin of a value, if it has one.
+fn write_from(out: &mut String, origin: &Option<Place>) -> Result<(), NoMemory>
+    ensures { OnOk result (string_bytes out.new
+        ≡ string_bytes out.old ++ if_any from_text origin.now) }
+{
+    match origin {
+        Some(place) => {
+            out.push_str(" from ")?;
+            write_origin(out, *place)
         }
+        None => Ok(()),
     }
 }
 
-/// A place, its value, and the value's origin.
-#[derive(Clone, Copy)]
-struct NamedText(NamedValue);
-
-impl fmt::Display for NamedText {
-    ghost output = { λ named. Some (named_text named.0) };
-
-    fn fmt<W: fmt::Write>(&self, f: &mut fmt::Formatter<W>) -> fmt::Result {
-        let NamedValue {
-            name,
-            value,
-            origin,
-        } = self.0;
-        write!(
-            f,
-            "{} {}{}",
-            SpotName(name),
-            ValueText(value),
-            FromOrigin(origin)
-        )
-    }
+/// Appends a place, its value, and the value's origin.
+fn write_named(out: &mut String, named: &NamedValue) -> Result<(), NoMemory>
+    ensures { OnOk result (string_bytes out.new ≡ string_bytes out.old ++ named_text named.now) }
+{
+    write_spot(out, named.name)?;
+    out.push_str(" ")?;
+    write_value(out, named.value)?;
+    write_from(out, &named.origin)
 }
 
 /// Appends what was read.
 #[tactic(auto, unfolding(crate::specs::FactLines::reads_line))]
-fn write_read(out: &mut String, named: NamedValue) -> Result<(), NoMemory>
-    ensures { OnOk result (string_bytes out.new ≡ string_bytes out.old ++ reads_line named) }
+fn write_read(out: &mut String, named: &NamedValue) -> Result<(), NoMemory>
+    ensures { OnOk result (string_bytes out.new ≡ string_bytes out.old ++ reads_line named.now) }
 {
-    writeln!(out, "  reads {}", NamedText(named))?;
-    Ok(())
+    out.push_str("  reads ")?;
+    write_named(out, named)?;
+    out.push_str("\n")
 }
 
 /// Appends all that was read.
-fn write_reads(out: &mut String, reads: UpToTwo<NamedValue>) -> Result<(), NoMemory>
+fn write_reads(out: &mut String, reads: &UpToTwo<NamedValue>) -> Result<(), NoMemory>
     ensures { OnOk result (string_bytes out.new
-        ≡ string_bytes out.old ++ up_to_two reads_line reads) }
+        ≡ string_bytes out.old ++ up_to_two reads_line reads.now) }
 {
     match reads {
         UpToTwo::Zero => Ok(()),
@@ -93,17 +80,18 @@ fn write_reads(out: &mut String, reads: UpToTwo<NamedValue>) -> Result<(), NoMem
 
 /// Appends what was set.
 #[tactic(auto, unfolding(crate::specs::FactLines::sets_line))]
-fn write_set(out: &mut String, named: NamedValue) -> Result<(), NoMemory>
-    ensures { OnOk result (string_bytes out.new ≡ string_bytes out.old ++ sets_line named) }
+fn write_set(out: &mut String, named: &NamedValue) -> Result<(), NoMemory>
+    ensures { OnOk result (string_bytes out.new ≡ string_bytes out.old ++ sets_line named.now) }
 {
-    writeln!(out, "  sets {}", NamedText(named))?;
-    Ok(())
+    out.push_str("  sets ")?;
+    write_named(out, named)?;
+    out.push_str("\n")
 }
 
 /// Appends all that was set.
-fn write_sets(out: &mut String, sets: UpToTwo<NamedValue>) -> Result<(), NoMemory>
+fn write_sets(out: &mut String, sets: &UpToTwo<NamedValue>) -> Result<(), NoMemory>
     ensures { OnOk result (string_bytes out.new
-        ≡ string_bytes out.old ++ up_to_two sets_line sets) }
+        ≡ string_bytes out.old ++ up_to_two sets_line sets.now) }
 {
     match sets {
         UpToTwo::Zero => Ok(()),
@@ -117,25 +105,35 @@ fn write_sets(out: &mut String, sets: UpToTwo<NamedValue>) -> Result<(), NoMemor
 
 /// Appends where an access of memory was, if there was one.
 #[tactic(auto, unfolding(crate::specs::FactLines::at_line))]
-fn write_at(out: &mut String, at: Option<Extent>) -> Result<(), NoMemory>
-    ensures { OnOk result (string_bytes out.new ≡ string_bytes out.old ++ if_any at_line at) }
+fn write_at(out: &mut String, at: &Option<Extent>) -> Result<(), NoMemory>
+    ensures { OnOk result (string_bytes out.new ≡ string_bytes out.old ++ if_any at_line at.now) }
 {
-    if let Some(Extent { address, bytes }) = at {
-        writeln!(out, "  at {} {bytes}", HexWord(address))?;
+    match at {
+        Some(extent) => {
+            out.push_str("  at ")?;
+            out.push_str(Buffer::new().format(HexWord(extent.address)))?;
+            out.push_str(" ")?;
+            out.push_str(Buffer::new().format(extent.bytes))?;
+            out.push_str("\n")
+        }
+        None => Ok(()),
     }
-    Ok(())
 }
 
 /// Appends the granule that an access found, if it was done.
 #[tactic(auto, unfolding(crate::specs::FactLines::finds_line))]
-fn write_finds(out: &mut String, finds: Option<NamedValue>) -> Result<(), NoMemory>
+fn write_finds(out: &mut String, finds: &Option<NamedValue>) -> Result<(), NoMemory>
     ensures { OnOk result (string_bytes out.new
-        ≡ string_bytes out.old ++ if_any finds_line finds) }
+        ≡ string_bytes out.old ++ if_any finds_line finds.now) }
 {
-    if let Some(named) = finds {
-        writeln!(out, "  finds {}", NamedText(named))?;
+    match finds {
+        Some(named) => {
+            out.push_str("  finds ")?;
+            write_named(out, named)?;
+            out.push_str("\n")
+        }
+        None => Ok(()),
     }
-    Ok(())
 }
 
 /// Appends why a step trapped.
@@ -161,14 +159,18 @@ fn write_traps(out: &mut String, traps: Option<Trapped>) -> Result<(), NoMemory>
 
 /// Appends the granule that a store left, if it was done.
 #[tactic(auto, unfolding(crate::specs::FactLines::leaves_line))]
-fn write_leaves(out: &mut String, leaves: Option<NamedValue>) -> Result<(), NoMemory>
+fn write_leaves(out: &mut String, leaves: &Option<NamedValue>) -> Result<(), NoMemory>
     ensures { OnOk result (string_bytes out.new
-        ≡ string_bytes out.old ++ if_any leaves_line leaves) }
+        ≡ string_bytes out.old ++ if_any leaves_line leaves.now) }
 {
-    if let Some(named) = leaves {
-        writeln!(out, "  leaves {}", NamedText(named))?;
+    match leaves {
+        Some(named) => {
+            out.push_str("  leaves ")?;
+            write_named(out, named)?;
+            out.push_str("\n")
+        }
+        None => Ok(()),
     }
-    Ok(())
 }
 
 /// Appends what lost its tag, and why.
@@ -219,7 +221,10 @@ fn write_fetched(out: &mut String, lines: &[u32], fetched: Option<Fetched>) -> R
 {
     if let Some(Fetched { number, instr }) = fetched {
         let line = line_of(lines, number);
-        write!(out, " | line {line}: {}", InstructionText(instr.form()))?;
+        out.push_str(" | line ")?;
+        out.push_str(Buffer::new().format(line))?;
+        out.push_str(": ")?;
+        write_form(out, instr.form())?;
     }
     Ok(())
 }
@@ -251,12 +256,12 @@ pub(crate) fn write_step(
         ≡ string_bytes out.old ++ step_lines lines.now number facts.now) }
 {
     write_head(out, lines, number, facts)?;
-    write_reads(out, facts.reads)?;
-    write_at(out, facts.at)?;
-    write_finds(out, facts.finds)?;
+    write_reads(out, &facts.reads)?;
+    write_at(out, &facts.at)?;
+    write_finds(out, &facts.finds)?;
     write_traps(out, facts.traps)?;
-    write_leaves(out, facts.leaves)?;
-    write_sets(out, facts.sets)?;
+    write_leaves(out, &facts.leaves)?;
+    write_sets(out, &facts.sets)?;
     write_clears(out, facts.clears)?;
     Ok(())
 }

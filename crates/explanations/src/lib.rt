@@ -5,7 +5,9 @@
 mod fact_data;
 mod fact_lines;
 mod followed;
+mod forms;
 mod json;
+mod mnemonics;
 mod names;
 mod reasons;
 mod runs;

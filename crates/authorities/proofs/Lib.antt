@@ -1,0 +1,7 @@
+pub mod Open
+pub mod RightsLemmas
+pub mod ListLemmas
+pub mod AddLemmas
+pub mod HolderLemmas
+pub mod GatherLemmas
+pub mod KeptLemmas

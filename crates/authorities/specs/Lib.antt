@@ -1,0 +1,3 @@
+pub mod Authorities
+pub mod Holders
+pub mod Gathering

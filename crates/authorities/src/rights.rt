@@ -1,0 +1,73 @@
+//! Bounds and permissions.
+#![tactic(auto, unfolding(crate::proofs::Open::rights))]
+
+ghost use Rattle.std.specs.Prelude.{◌≡◌};
+ghost use Rattle.authorities.specs.Authorities.{rights_of, is_within, is_before};
+ghost use Rattle.authorities.specs.Gathering.{stays_beside};
+
+use bitflags::Flags;
+use cap_ops::Cap;
+use cheri_model::Perms;
+
+/// Bounds and permissions: the base, the top, which is the first address above, and a set.
+#[derive(Clone, Copy, Debug, PartialEq, Eq)]
+pub struct Rights {
+    pub base: u64,
+    pub top: u128,
+    pub perms: Perms,
+}
+
+/// Rights that are held, and the number of the first kept state in which just these are held.
+#[derive(Clone, Copy, Debug, PartialEq, Eq)]
+pub struct Authority {
+    pub rights: Rights,
+    pub first: u32,
+}
+
+impl Rights {
+    /// The bounds and permissions of a value.
+    pub(crate) fn of(cap: Cap) -> Rights
+        ensures { result ≡ rights_of cap }
+    {
+        let (base, top) = cap.bounds();
+        Rights {
+            base,
+            top,
+            perms: cap.perm(),
+        }
+    }
+
+    /// Whether these lie within others.
+    pub(crate) fn is_within(self, outer: Rights) -> bool
+        ensures { result ≡ is_within self outer }
+    {
+        if self.base < outer.base || outer.top < self.top {
+            return false;
+        }
+        self.perms.bits() & outer.perms.bits() == self.perms.bits()
+    }
+
+    /// Whether these come before others: ascending by base, then by top descending, then by
+    /// permissions as a number.
+    pub(crate) fn is_before(self, other: Rights) -> bool
+        ensures { result ≡ is_before self other }
+    {
+        if self.base != other.base {
+            return self.base < other.base;
+        }
+        if self.top != other.top {
+            return other.top < self.top;
+        }
+        self.perms.bits() < other.perms.bits()
+    }
+
+    /// Whether these stay beside new ones: before these, or after them.
+    pub(crate) fn stays(self, new: Rights, before: bool) -> bool
+        ensures { result ≡ stays_beside new before self }
+    {
+        if self.is_within(new) {
+            return false;
+        }
+        self.is_before(new) == before
+    }
+}

@@ -1,0 +1,2 @@
+-- Lemmas on the buffers of a bump allocator.
+pub mod BufferLemmas

@@ -1,0 +1,2 @@
+-- Where the buffers of a bump allocator lie.
+pub mod Buffers

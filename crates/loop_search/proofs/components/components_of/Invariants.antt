@@ -1,0 +1,18 @@
+use Rattle.std.proofs.Common.{◌≡◌, ℕ, ◌<◌, ◌≤◌, length}
+use Rattle.graph_search.specs.Trees.{state_at}
+use Rattle.graph_loops.specs.Loops.{AreMeant}
+use Rattle.loop_search.proofs.components.components_of.Given as goal
+
+abbrev pub invariant-loop-node : goal.invariant-loop-node
+invariant-loop-node g l = record {
+  same_graph : g.G.Graph.next l.graph ≡ g.G.Graph.next l.fn.graph;
+  same_labels : g.G.Graph.label_count l.graph ≡ g.G.Graph.label_count l.fn.graph;
+  same_width : g.G.Graph.width l.graph ≡ g.G.Graph.width l.fn.graph;
+  states : state_at (g.G.Graph.meaning l.graph) l.found.nodes ≡ state_at (g.G.Graph.meaning l.fn.graph) l.found.nodes;
+  meant : AreMeant (state_at (g.G.Graph.meaning l.graph) l.found.nodes) (length l.found.nodes);
+  room : length l.row ≡ g.G.Graph.width l.graph;
+  even : length l.visits.items ≡ length l.found.nodes;
+}
+
+abbrev pub invariant-loop-visit : goal.invariant-loop-visit
+invariant-loop-visit g l = length l.numbers.items ≡ l.visit-index

@@ -1,0 +1,2 @@
+-- Lemmas on two steps of a core.
+pub mod StepLemmas

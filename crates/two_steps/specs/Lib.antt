@@ -1,0 +1,2 @@
+-- Two steps of a core.
+pub mod TwoSteps
