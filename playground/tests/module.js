@@ -56,6 +56,7 @@ function nextOf(state, listing) {
 function checkLooks() {
   const { replay } = scriptsOf(["page/draw.js", "page/view.js", "page/replay.js"], ["replay"]);
   const looked = cases.filter((one) => one.look);
+  if (!cases.some((one) => one.explain)) return;
   const wrong = [];
   let positions = 0;
   for (const one of looked) {
