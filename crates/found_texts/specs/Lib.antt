@@ -1,0 +1,3 @@
+pub mod FoundTexts
+pub mod FoundParts
+pub mod Find

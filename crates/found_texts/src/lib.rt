@@ -1,0 +1,8 @@
+//! The search for a state in which a condition holds, and what is said of it.
+#![tactic(auto)]
+
+mod absent;
+mod finding;
+mod shown;
+
+pub use finding::{find, opened};
