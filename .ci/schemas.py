@@ -1,5 +1,5 @@
-"""schemas.py SCHEMAS FOLDER: FOLDER has a folder for each kind of answer (report, explanation), with pairs NAME.json
-and NAME.KIND of one run each. Every JSON answer must keep the schema SCHEMAS/KIND.json and say the same as the text,
+"""schemas.py SCHEMAS FOLDER: FOLDER has a folder for each kind of answer (report, explanation, outcomes), with pairs
+NAME.json and NAME.KIND of one answer each. Every JSON answer must keep the schema SCHEMAS/KIND.json and say the same as the text,
 every broken one must be refused. The last line is 'N passed, M failed'."""
 import copy
 import json
@@ -97,6 +97,42 @@ def explanation_text(explanation):
     return "\n".join(lines) + "\nend\n"
 
 
+def held_lines(held):
+    return [f"{one['base']} {one['top']} {one['perms']} first={one['first']}" for one in held]
+
+
+def endless_text(endless):
+    return f"endless {endless['answer']}" + (
+        f" order={endless['order']} loop={endless['loop']}" if "order" in endless else "")
+
+
+def outcomes_text(answer):
+    """The text that a JSON answer of cheri_explore stands for."""
+    if answer.get("answer") in ("none", "unknown"):
+        return f"{answer['answer']} {'in' if answer['answer'] == 'none' else 'after'} {answer['states']} states\n"
+    if "answer" in answer:
+        lines = [f"found order={answer['order']}", *state_lines(answer["state"])]
+        return "\n".join(lines) + "\nend\n"
+    kind = "authority" if "memory" in answer else "outcomes"
+    lines = [f"cheri-sim {kind} {answer['explore']}", image_text(answer["image"])]
+    lines.append(f"states {answer['states']} {'complete' if answer['complete'] else 'unfinished'}")
+    if kind == "authority":
+        for number, held in enumerate(answer["harts"]):
+            lines += [f"hart {number}", *held_lines(held)]
+        lines += ["memory", *held_lines(answer["memory"])]
+    elif "shown" in answer:
+        lines += [endless_text(answer["endless"]), f"outcomes {sum(row['states'] for row in answer['shown'])}"]
+        lines.append(f"shown {len(answer['shown'])}")
+        for number, row in enumerate(answer["shown"]):
+            values = " ".join(f"{item}={value}" for item, value in row["values"].items())
+            lines.append(f"{number} states={row['states']} {values} order={row['order']}")
+    else:
+        lines += [endless_text(answer["endless"]), f"outcomes {len(answer['outcomes'])}"]
+        for number, outcome in enumerate(answer["outcomes"]):
+            lines += [f"outcome {number} order={outcome['order']}", *state_lines(outcome)]
+    return "\n".join(lines) + "\nend\n"
+
+
 # what each kind of answer stands for; the members that may be left out; runs whose answers are broken in each place:
 # they have sweeps, traps, sealed and untagged values; how the answer's version is changed
 KINDS = {
@@ -105,9 +141,11 @@ KINDS = {
     "explanation": (explanation_text, ("at", "clears", "leaves", "reads", "sets"),
                     ("use_after_free.2", "traps_01.1", "overwrite.1"),
                     lambda explanation: {**explanation, "explanation": 2}),
+    "outcomes": (outcomes_text, (), ("lock", "lost_update.shown", "leak.found", "lock.none", "leak.authority"),
+                 lambda answer: {**answer, "explore": 2}),
 }
 # objects whose members are named by places
-MAPS = ("regs", "mem", "reads", "finds", "leaves", "sets", "clears")
+MAPS = ("regs", "mem", "reads", "finds", "leaves", "sets", "clears", "values")
 
 
 def places(content, path=()):
