@@ -2,6 +2,9 @@
 
 ghost use Rattle.std.specs.Prelude.{◌≡◌, []};
 ghost use Rattle.simulation.specs.Simulation.{report_of};
+ghost use Rattle.explanations.specs.ExplainedRuns.{explained};
+ghost use Rattle.explanations.specs.declared.runs.Format.TheVariants as formats;
+ghost use Rattle.explanations.specs.declared.selection.Filter.TheVariants as filters;
 ghost use Rattle.cheri_page.specs.Answers.{Answers, IsTold};
 ghost use Rattle.cheri_page.specs.Runs.{IsCheckTold, IsRunTold, json_of, told_by};
 
@@ -9,6 +12,7 @@ use crate::answer::{Answer, tell};
 use crate::fault::Fault;
 use crate::json::simulate_json;
 use cores::{GREATEST_TRACE_LIMIT, StepFault};
+use explanations::{Filter, Format, Selection, explain};
 use listings::read_listing;
 use simulation::{SimFault, simulate};
 use sinks::MemSink;
@@ -80,5 +84,31 @@ pub extern "C" fn cheri_json(
 {
     let mut sink = keeper(alloc);
     let ran = simulate_json(alloc, listing, order, &mut sink);
+    tell_run(alloc, ran, sink.bytes(), out, answer);
+}
+
+/// The explanation as text of the events of a run that are numbered from `from` to `to`, which are
+/// counted from 0 over the whole run.
+#[unsafe(no_mangle)]
+pub extern "C" fn cheri_explain(
+    alloc: Global,
+    listing: &[u8],
+    order: &[u8],
+    from: u32,
+    to: u32,
+    out: &mut [u8],
+    answer: &mut Answer,
+)
+    ensures { Answers (IsRunTold
+        (explained formats.Text listing.now (record { first = from; last = to; filter = filters.All }))
+        listing.now order.now) out.old out.new answer.new }
+{
+    let selection = Selection {
+        first: from,
+        last: to,
+        filter: Filter::All,
+    };
+    let mut sink = keeper(alloc);
+    let ran = explain(alloc, listing, order, selection, Format::Text, &mut sink);
     tell_run(alloc, ran, sink.bytes(), out, answer);
 }
