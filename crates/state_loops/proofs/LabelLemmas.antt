@@ -1,0 +1,116 @@
+-- Loops as labels and as operations.
+use Rattle.std.proofs.Common.{◌≡◌, ℕ, ◌-◌, ◌<◌, ◌≤◌, List, [], ◌∷◌, length, arith, ap, sym, ◌∙◌, refl, inl, inr, ◌⊎◌, subst, nat_lt}
+use Rattle.std.specs.Prelude.{Option, Some, None, Bool, true, false, option_map, slice_get, if◌then◌else◌}
+use Rattle.std.proofs.lemmas.Bool.{cases_Bool}
+use Rattle.std.proofs.lemmas.Bool.Decides.{nat_tests}
+use Rattle.std.proofs.lemmas.Option.{none-some, same_Some}
+use Rattle.cheri_model.specs.declared.operation.Op.{Op}
+use Rattle.cheri_model.specs.declared.operation.Op.TheVariants as operation
+use Rattle.cheri_model.specs.runs.Image.{ImageParts}
+use Rattle.cheri_model.specs.runs.Machine.{MachineState, may_take, state_after_one}
+use Rattle.cheri_model.specs.runs.Replay.{is_legal, state_after}
+use Rattle.graph_search.specs.Walks.{IsWalk}
+use Rattle.graph_loops.specs.Loops.{Takes}
+use Rattle.graph_loops.specs.Loops as graphs
+use Rattle.schedules.specs.declared.ranges.SweepRange.{SweepRange}
+use Rattle.schedules.specs.Schedules.{sweep_of, operation_of_label, next, AreLabelsOf}
+use Rattle.schedules.proofs.WalkLemmas.{walk_legal, legal_walk, legal_labels}
+use Rattle.state_loops.proofs.OperationLemmas.{next_some, some_next, step_hart, label_of_step, allowed_labels}
+use Rattle.state_loops.specs.Endless.{Steps, IsLoop, IsFair}
+
+-- labels have one order
+same_order : (image : ImageParts) (sweeps : List SweepRange) (ls : List ℕ) (order other : List Op) →
+    AreLabelsOf image sweeps ls order → AreLabelsOf image sweeps ls other → order ≡ other
+same_order image sweeps [] [] [] are also = refl
+same_order image sweeps [] [] (y ∷ other) are also = absurd also
+same_order image sweeps [] (x ∷ order) other are also = absurd are
+same_order image sweeps (l ∷ ls) [] other are also = absurd are
+same_order image sweeps (l ∷ ls) (x ∷ order) [] are also = absurd also
+same_order image sweeps (l ∷ ls) (x ∷ order) (y ∷ other) are also =
+    ap (λ (o : Op). o ∷ order) (same_Some x y (sym are.0 ∙ also.0))
+    ∙ ap (λ (os : List Op). y ∷ os) (same_order image sweeps ls order other are.1 also.1)
+
+-- the label of a step is its hart
+sweeps_no_step : (o : Option SweepRange) (hart : ℕ) → option_map sweep_of o ≡ Some (operation.Step hart) → ⊥
+sweeps_no_step None hart is = none-some (operation.Step hart) is
+sweeps_no_step (Some range) hart is =
+    let e : operation.Sweep range.lo range.hi ≡ operation.Step hart = same_Some (sweep_of range) (operation.Step hart) is in
+    absurd (cc)
+
+step_label : (image : ImageParts) (sweeps : List SweepRange) (l hart : ℕ) →
+    operation_of_label image sweeps l ≡ Some (operation.Step hart) → (l ≡ hart) × (l < length image.harts)
+unfolding operation_of_label
+step_label image sweeps l hart is = elim (cases_Bool (nat_lt l (length image.harts))) [
+  | inl low ↦
+      let e : operation.Step l ≡ operation.Step hart = same_Some (operation.Step l) (operation.Step hart) (rw low at is) in
+      let same : l ≡ hart = cc in
+      (same, grind (arith, nat_tests))
+  | inr high ↦
+      absurd (sweeps_no_step (slice_get sweeps (l - length image.harts)) hart (rw high at is))
+]
+
+pub takes_steps : (image : ImageParts) (sweeps : List SweepRange) (ls : List ℕ) (order : List Op) (m : ℕ) →
+    AreLabelsOf image sweeps ls order → m < length image.harts → Takes ls m → Steps order m
+takes_steps image sweeps [] order m are low takes = absurd takes
+takes_steps image sweeps (l ∷ ls) [] m are low takes = absurd are
+takes_steps image sweeps (l ∷ ls) (op ∷ order) m are low takes = elim takes [
+  | inl here ↦ inl (same_Some op (operation.Step m)
+      (sym are.0 ∙ (ap (operation_of_label image sweeps) here ∙ label_of_step image sweeps m low)))
+  | inr later ↦ inr (takes_steps image sweeps ls order m are.1 low later)
+]
+
+pub steps_takes : (image : ImageParts) (sweeps : List SweepRange) (ls : List ℕ) (order : List Op) (hart : ℕ) →
+    AreLabelsOf image sweeps ls order → Steps order hart → Takes ls hart × (hart < length image.harts)
+steps_takes image sweeps [] [] hart are steps = absurd steps
+steps_takes image sweeps [] (op ∷ order) hart are steps = absurd are
+steps_takes image sweeps (l ∷ ls) [] hart are steps = absurd are
+steps_takes image sweeps (l ∷ ls) (op ∷ order) hart are steps = elim steps [
+  | inl here ↦
+      let s = step_label image sweeps l hart (are.0 ∙ ap (λ (o : Op). Some o) here) in
+      (inl s.0, subst (λ (k : ℕ). k < length image.harts) s.0 s.1)
+  | inr later ↦ let s = steps_takes image sweeps ls order hart are.1 later in (inr s.0, s.1)
+]
+
+module _ (image : ImageParts) (sweeps : List SweepRange) (s : MachineState) (size : length s.harts ≡ length image.harts) where
+  -- the operations of a loop's labels
+  pub loop_of_labels : (ls : List ℕ) (cycle : List Op) → AreLabelsOf image sweeps ls cycle →
+      graphs.IsLoop (next image sweeps) (length image.harts) s ls → IsLoop image sweeps s cycle
+  loop_of_labels ls cycle are loop =
+      let walk = walk_legal image sweeps s s ls loop.0 in
+      let same = same_order image sweeps ls walk.0 cycle walk.1 are in
+      let actor = loop.1 in
+      record {
+        allowed = allowed_labels image sweeps ls cycle are;
+        legal = subst (λ (o : List Op). is_legal image s o ≡ true) same walk.2;
+        back = subst (λ (o : List Op). state_after image s o ≡ s) same walk.3;
+        steps = (actor.0, takes_steps image sweeps ls cycle actor.0 are actor.1 actor.2);
+      }
+
+  pub fair_of_labels : (ls : List ℕ) (cycle : List Op) → AreLabelsOf image sweeps ls cycle →
+      graphs.IsFair (next image sweeps) (length image.harts) s ls → IsFair s cycle
+  fair_of_labels ls cycle are fair hart may =
+      let own = step_hart s hart may in
+      let low : hart < length image.harts = omega arith in
+      takes_steps image sweeps ls cycle hart are low
+      (fair hart (state_after_one image s (operation.Step hart)) low
+      (some_next image sweeps s hart (operation.Step hart) (label_of_step image sweeps hart low) may))
+
+  -- the labels of a loop's operations
+  pub labels_of_loop : (cycle : List Op) → IsLoop image sweeps s cycle →
+      (ls : List ℕ) × AreLabelsOf image sweeps ls cycle
+      × graphs.IsLoop (next image sweeps) (length image.harts) s ls
+  labels_of_loop cycle loop =
+      let ls = legal_labels image sweeps s cycle size loop.allowed loop.legal in
+      let walk = legal_walk image sweeps s ls.0 cycle ls.1 loop.legal in
+      let hart = loop.steps in
+      let takes = steps_takes image sweeps ls.0 cycle hart.0 ls.1 hart.1 in
+      (ls.0, ls.1, (walk ∙ ap (λ (t : MachineState). Some t) loop.back, (hart.0, takes.1, takes.0)))
+
+  pub labels_of_fair : (ls : List ℕ) (cycle : List Op) → AreLabelsOf image sweeps ls cycle → IsFair s cycle →
+      graphs.IsFair (next image sweeps) (length image.harts) s ls
+  labels_of_fair ls cycle are fair m t low goes =
+      let step = next_some image sweeps s t m goes in
+      let same : step.0 ≡ operation.Step m =
+      same_Some step.0 (operation.Step m) (sym step.1 ∙ label_of_step image sweeps m low) in
+      (steps_takes image sweeps ls cycle m are
+      (fair m (subst (λ (o : Op). may_take s o ≡ true) same step.2))).0

@@ -1,0 +1,4 @@
+pub mod OperationLemmas
+pub mod LabelLemmas
+pub mod EndlessLemmas
+pub mod KeptLemmas

@@ -1,0 +1,79 @@
+-- Runs that go on for ever: an order leads from a state back to it, and can be taken again and
+-- again. All of it is said of the machine's own replay.
+use Rattle.std.specs.Prelude.{◌≡◌, ℕ, List, [], ◌∷◌, Some, true, ◌⊎◌}
+use Rattle.cheri_model.specs.declared.operation.Op.{Op}
+use Rattle.cheri_model.specs.declared.operation.Op.TheVariants as operation
+use Rattle.cheri_model.specs.runs.Image.{ImageParts}
+use Rattle.cheri_model.specs.runs.Machine.{MachineState, opening_state, may_take}
+use Rattle.cheri_model.specs.runs.Replay.{is_legal, state_after, replayed_state}
+use Rattle.schedules.specs.declared.ranges.SweepRange.{SweepRange}
+use Rattle.schedules.specs.Schedules.{AreAllowed, AreLabelsOf}
+use Rattle.states.specs.Kept.{KeptParts, at, IsWitnessOrder}
+use Rattle.loop_search.specs.declared.judging.FoundLoop.{FoundLoop}
+use Rattle.state_loops.specs.declared.endless.Lasso.{Lasso}
+use Rattle.state_loops.specs.declared.endless.Endless.{Endless}
+use Rattle.state_loops.specs.declared.endless.Endless.TheVariants.{Yes, Unknown, Unfair, No}
+
+-- the hart with this number takes a step in the order
+abbrev pub Steps : List Op → ℕ → Type 0
+Steps [] hart = ⊥
+Steps (op ∷ order) hart = (op ≡ operation.Step hart) ⊎ Steps order hart
+
+-- A loop of a state: an order of steps and of these sweeps that is legal there and leads back to the
+-- state, with at least one step.
+pub record IsLoop (image : ImageParts) (sweeps : List SweepRange) (state : MachineState)
+    (cycle : List Op) : Type 0 where
+  pub allowed : AreAllowed sweeps cycle
+  pub legal : is_legal image state cycle ≡ true
+  pub back : state_after image state cycle ≡ state
+  pub steps : (hart : ℕ) × Steps cycle hart
+
+-- each hart that runs in the state takes a step
+abbrev pub IsFair : MachineState → List Op → Type 0
+IsFair state cycle = (hart : ℕ) → may_take state (operation.Step hart) ≡ true → Steps cycle hart
+
+-- no state that a legal order of steps and of these sweeps leaves has a loop; or a fair one
+abbrev pub HasNoLoop : ImageParts → List SweepRange → Type 0
+HasNoLoop image sweeps = (order cycle : List Op) → AreAllowed sweeps order →
+    is_legal image (opening_state image) order ≡ true →
+    ¬ IsLoop image sweeps (replayed_state image order) cycle
+
+abbrev pub HasNoFairLoop : ImageParts → List SweepRange → Type 0
+HasNoFairLoop image sweeps = (order cycle : List Op) → AreAllowed sweeps order →
+    is_legal image (opening_state image) order ≡ true →
+    IsLoop image sweeps (replayed_state image order) cycle →
+    ¬ IsFair (replayed_state image order) cycle
+
+-- the order is the witness of a kept state, and the cycle a loop of it
+pub record IsLasso (kept : KeptParts) (lasso : Lasso) (state : MachineState) : Type 0 where
+  pub number : ℕ
+  pub there : at kept number ≡ Some state
+  pub witness : IsWitnessOrder kept.image kept.sweeps state lasso.order.items
+  pub loops : IsLoop kept.image kept.sweeps state lasso.cycle.items
+
+-- what is made of a loop that was found: its node's witness, and the operations of its labels
+abbrev pub IsLassoOf : KeptParts → FoundLoop → Lasso → Type 0
+IsLassoOf kept found lasso =
+    ((state : MachineState) → at kept found.node ≡ Some state →
+    IsWitnessOrder kept.image kept.sweeps state lasso.order.items)
+    × AreLabelsOf kept.image kept.sweeps found.labels.items lasso.cycle.items
+
+-- what an answer says of the kept states
+abbrev pub IsEndless : KeptParts → Endless → Type 0
+IsEndless kept (Yes lasso) =
+    (state : MachineState) × IsLasso kept lasso state × IsFair state lasso.cycle.items
+IsEndless kept Unknown = Unit {0}
+IsEndless kept (Unfair lasso) =
+    (kept.complete ≡ true) × HasNoFairLoop kept.image kept.sweeps
+    × ((state : MachineState) × IsLasso kept lasso state)
+IsEndless kept No = (kept.complete ≡ true) × HasNoLoop kept.image kept.sweeps
+
+-- the same search, whose states have the same numbers and witnesses
+pub record IsSame (old new : KeptParts) : Type 0 where
+  pub image : new.image ≡ old.image
+  pub sweeps : new.sweeps ≡ old.sweeps
+  pub edges : new.edges ≡ old.edges
+  pub limit : new.limit ≡ old.limit
+  pub complete : new.complete ≡ old.complete
+  pub nodes : new.nodes ≡ old.nodes
+  pub states : at new ≡ at old
