@@ -2,5 +2,8 @@ pub mod FactLemmas
 pub mod JsonParts
 pub mod Open
 pub mod Parts
+pub mod PlainTexts
 pub mod RunLemmas
+pub mod StepTexts
 pub mod SweptLemmas
+pub mod ValueTexts

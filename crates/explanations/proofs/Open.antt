@@ -7,6 +7,10 @@ use Rattle.notation.specs.Instructions.{form_text}
 use Rattle.explanations.specs.declared.selection.Selection.{Selection}
 use Rattle.explanations.specs.Explanation.{Explained, is_shown, shown_lines}
 use Rattle.explanations.specs.JsonText.{shown_item}
+use Rattle.report_lines.specs.ValueData.{value_members}
+use Rattle.facts.specs.declared.step_facts.NamedValue.{NamedValue}
+use Rattle.serde_json.specs.Data.{Data}
+use Rattle.explanations.specs.FactData.{named_data}
 
 unfoldable pub shown : List ℕ → Selection → ℕ → Explained → List ℕ
 unfolding is_shown shown_lines
@@ -23,3 +27,7 @@ names mnemonic = name_of mnemonic
 unfoldable pub forms : Form → List ℕ
 unfolding form_text names
 forms form = form_text form
+
+unfoldable pub values : NamedValue → Data
+unfolding named_data value_members
+values named = named_data named

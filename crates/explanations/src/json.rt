@@ -16,9 +16,10 @@ ghost use Rattle.explanations.specs.Explanation.{
 ghost use Rattle.explanations.specs.JsonText.{json_head, shown_item, events_from, json_end};
 ghost use Rattle.explanations.specs.NextFacts.{next_facts};
 
-use crate::fact_data::{step_json, sweep_json};
+use crate::fact_data::sweep_json;
 use crate::followed::follow;
 use crate::selection::Selection;
+use crate::step_json::write_step_json;
 use cheri_model::{Entry, Event, Image, NoMemory};
 use cores::Core;
 use facts::StepFacts;
@@ -51,7 +52,7 @@ fn write_shown_step(
         return Ok(later);
     }
     write_comma(out, later)?;
-    write_json_value(alloc, out, step_json(alloc, lines, number, facts)?)?;
+    write_step_json(alloc, out, lines, number, facts)?;
     Ok(true)
 }
 

@@ -8,10 +8,12 @@ mod followed;
 mod forms;
 mod json;
 mod mnemonics;
+mod named_json;
 mod names;
 mod reasons;
 mod runs;
 mod selection;
+mod step_json;
 mod text;
 
 pub use runs::{Format, explain};

@@ -1,0 +1,5 @@
+-- The program: what it is asked for, what it prints, and how it ends.
+pub mod Progress
+pub mod Faults
+pub mod Questions
+pub mod Program

@@ -1,0 +1,62 @@
+-- What the program answers to its command line, and how it ends.
+use Rattle.std.specs.Prelude.{◌≡◌, ℕ, List, map, codes, Option, Some, None, Result, Ok, Err}
+use Rattle.std.specs.Prelude.{String}
+use Rattle.std.specs.Global.{Global}
+use Rattle.cheri_model.specs.runs.Image.{ImageParts}
+use Rattle.command_line.specs.ExploreWords.{ExploreAsked, AskedQuestion, Find, Outcomes, Authority}
+use Rattle.command_line.specs.declared.found.ReportForm.{ReportForm}
+use Rattle.command_line.specs.declared.found.ReportForm.TheVariants as forms
+use Rattle.conditions.specs.Conditions.{condition_of}
+use Rattle.inputs.specs.Arguments.{command_words}
+use Rattle.inputs.specs.Files.{KnownFiles}
+use Rattle.inputs.specs.Reading.{OfImage}
+use Rattle.printing.specs.Endings.{Answer, FailsBy, HasWhole}
+use Rattle.report_lines.specs.Texts.{line}
+use Rattle.shown_states.specs.Endings as endings
+use Rattle.shown_states.specs.declared.form.Ending.{Ending}
+use Rattle.shown_states.specs.declared.form.Format.{Format}
+use Rattle.shown_states.specs.declared.form.Format.TheVariants.{Text, Json}
+use Rattle.sinks.specs.Sinks.{TakesBeginning}
+use Rattle.cheri_explore.specs.declared.faults.Fault.{Fault}
+use Rattle.cheri_explore.specs.declared.faults.Fault.TheVariants as fault
+use Rattle.cheri_explore.specs.Faults.{failure_of, fault_text, status_of}
+use Rattle.cheri_explore.specs.Questions.{IsFindSaid, range_of}
+
+-- the command line of the words that are given after the program's name
+abbrev pub command_line : List (String Global) → List (List ℕ)
+command_line words = command_words (codes "cheri_explore") words
+
+abbrev pub format_of : ReportForm → Format
+format_of forms.Text = Text
+format_of forms.Json = Json
+
+-- the answers to a question about an image
+abbrev pub IsQuestionAnswer : ImageParts → ExploreAsked → AskedQuestion → Answer Ending Fault → Type 0
+IsQuestionAnswer image asked (Find condition) answer =
+    IsFindSaid image (condition_of image condition) (map range_of asked.sweeps) asked.states
+    (format_of asked.form) answer
+IsQuestionAnswer image asked (Outcomes show) answer = answer ≡ Err fault.Usage
+IsQuestionAnswer image asked Authority answer = answer ≡ Err fault.Usage
+
+-- the answers to a request; `usage` where the words ask for nothing
+abbrev pub IsAnswer : KnownFiles → Option ExploreAsked → Answer Ending Fault → Type 0
+IsAnswer files None answer = answer ≡ Err fault.Usage
+IsAnswer files (Some asked) answer =
+    OfImage (files asked.listing) (λ refused. Err (fault.Input refused))
+    (λ image. IsQuestionAnswer image asked asked.question answer) answer
+
+-- it ends with an answer that was printed whole, and says nothing else
+pub record Done (files : KnownFiles) (request : Option ExploreAsked) (status : ℕ)
+    (old new err_old err_new : Option (List ℕ)) : Type 0 where
+  pub ending : Ending
+  pub status_is : status ≡ endings.status_of ending
+  pub printed : HasWhole (IsAnswer files request) ending old new
+  pub quiet : err_new ≡ err_old
+
+-- it fails; standard error got the fault's line, or a prefix of it
+pub record Failed (files : KnownFiles) (request : Option ExploreAsked) (status : ℕ)
+    (old new err_old err_new : Option (List ℕ)) : Type 0 where
+  pub fault : Fault
+  pub status_is : status ≡ status_of fault
+  pub fails : FailsBy (failure_of fault) (IsAnswer files request) fault old new
+  pub told : TakesBeginning err_old err_new (line (fault_text fault))

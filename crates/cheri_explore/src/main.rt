@@ -1,0 +1,35 @@
+//! `cheri_explore`: what the harts of a CHERI-RISC-V capability machine can do, under every order
+//! of their steps.
+#![tactic(auto)]
+
+mod faults;
+mod program;
+mod progress;
+mod questions;
+
+use crate::faults::Fault;
+use crate::program::{perform, report_fault};
+use crate::progress::TerminalProgress;
+use inputs::{SystemFiles, words_given};
+use std::io::{self, IsTerminal};
+use std::process::ExitCode;
+
+fn main(rt: HostRuntime) -> ExitCode {
+    let mut err = rt.stderr();
+    let is_terminal = err.is_terminal();
+    let status = match words_given(&rt) {
+        Ok(words) => perform(
+            rt.alloc(),
+            words.as_slice(),
+            &mut SystemFiles(&rt),
+            &mut TerminalProgress::new(&rt, rt.stderr(), is_terminal),
+            &mut rt.stdout(),
+            &mut err,
+        ),
+        Err(error) if error.kind() == io::ErrorKind::OutOfMemory => {
+            report_fault(&mut err, Fault::NoMemory)
+        }
+        Err(_) => report_fault(&mut err, Fault::Usage),
+    };
+    ExitCode::from(status)
+}
