@@ -351,6 +351,7 @@ async function checkBanner(tab) {
   await tab.send("Page.addScriptToEvaluateOnNewDocument", { source: "delete globalThis.WebAssembly" });
   await tab.send("Page.navigate", { url: "about:blank" });
   await tab.go(url);
+  await until(tab, () => document.getElementById("banner")?.hidden === false);
   const banner = await tab.ask(() => [document.getElementById("banner").hidden,
     document.getElementById("banner").textContent, document.getElementById("banner").getAttribute("role")]);
   check("a banner says what is missing", !banner[0] && banner[1].includes("WebAssembly") && banner[2] === "alert",
