@@ -1,6 +1,6 @@
 -- What the program prints, and how it ends.
 pub mod FaultLemmas
-pub mod PrintLemmas
+pub mod ReportLemmas
 pub mod RunLemmas
 pub mod RaceLemmas
 pub mod ProgramLemmas

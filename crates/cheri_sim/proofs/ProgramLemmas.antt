@@ -2,9 +2,6 @@
 use Rattle.std.proofs.Common.{◌≡◌, ◌≢◌, ◌∙◌, subst, sym, ap, ℕ, Bool, true, false, List, Option, Some, None, Ok, Err, Result, refl, inl, inr}
 use Rattle.std.specs.Prelude.{◌⊎◌, OnOk, IfErr}
 use Rattle.std.specs.Io.KnownBytes.{Appends}
-use Rattle.listings.specs.declared.fault.ListingFault.{ListingFault}
-use Rattle.listings.specs.Faults.{Gives, no_memory}
-use Rattle.listings.specs.Meaning.{listing_meaning}
 use Rattle.cheri_model.specs.runs.Image.{ImageParts}
 use Rattle.cap_model.specs.declared.encoding.TheConstants.{ADDRESS_SPACE}
 use Rattle.report_lines.specs.Texts.{line}
@@ -15,113 +12,74 @@ use Rattle.command_line.specs.Requests.{Asked, Check, Run, Race, Bounds, Decode}
 use Rattle.command_line.specs.declared.found.ReportForm.{ReportForm}
 use Rattle.command_line.specs.declared.faults.CommandFault.{CommandFault}
 use Rattle.command_line.specs.declared.faults.CommandFault.TheVariants as commands
+use Rattle.inputs.specs.Files.{KnownFiles, AreBytesOf}
+use Rattle.inputs.specs.Reading.{AreTextsUnread, IsImageRefused, MeansImage}
+use Rattle.inputs.specs.declared.fault.InputFault.{InputFault}
+use Rattle.inputs.proofs.InputLemmas.{image_fails, of_image, texts_fail}
+use Rattle.printing.specs.Endings.{HasWhole}
+use Rattle.printing.proofs.EndingLemmas.{fails_more, whole_more, whole_printed}
 use Rattle.cheri_sim.specs.declared.faults.Fault.{Fault}
 use Rattle.cheri_sim.specs.declared.faults.Fault.TheVariants as faults
 use Rattle.cheri_sim.specs.declared.program.TheConstants.{GREATEST_ADDRESS, GREATEST_WORD}
 use Rattle.cheri_sim.specs.Answers.{number_given, bounds_line, check_line, decode_line}
-use Rattle.cheri_sim.specs.Endings.{Answer, Fails, HasPrefix, HasWhole}
-use Rattle.cheri_sim.specs.Faults.{fault_text, status_of, command_fault, listing_fault}
-use Rattle.cheri_sim.specs.Files.{KnownFiles, AreBytesOf}
-use Rattle.cheri_sim.specs.Program.{FailsWith, IsAnswer, IsBoundsAnswer, IsDecodeAnswer, IsQuiet, OfFile}
-use Rattle.cheri_sim.specs.Program.{answer_of_image, answer_of_range, answer_of_word, is_in_pieces}
+use Rattle.cheri_sim.specs.Endings.{Answer, Fails}
+use Rattle.cheri_sim.specs.Faults.{command_fault, failure_of, fault_text, status_of}
+use Rattle.cheri_sim.specs.Program.{FailsWith, IsAnswer, IsBoundsAnswer, IsDecodeAnswer, IsQuiet}
+use Rattle.cheri_sim.specs.Program.{answer_of_range, answer_of_word, is_in_pieces, unread}
 use Rattle.cheri_sim.specs.Races.{IsRaceAnswer, TellsLooks}
 use Rattle.cheri_sim.specs.Runs.{IsRunAnswer}
-use Rattle.cheri_sim.proofs.FaultLemmas.{IsEarly, early, listing_fails, unwritten_fails, whole_printed}
+use Rattle.cheri_sim.proofs.FaultLemmas.{reported, unwritten_fails}
 
--- what ends with some answers ends so with more of them
-module _ (IsSome IsMore : Answer → Type 0) (more : (answer : Answer) → IsSome answer → IsMore answer) (in_pieces : Bool)
-    (old new : Option (List ℕ)) where
-  pub whole_more : (stop : Option Stop) → HasWhole IsSome stop old new → HasWhole IsMore stop old new
-  whole_more stop printed = (printed.0, more (Ok (printed.0, stop)) printed.1, printed.2)
+-- a listing whose line is printed
+abbrev IsLineOf : Answer → ImageParts → Type 0
+IsLineOf answer image = answer ≡ Ok (check_line image, None)
 
-  prefix_more : HasPrefix IsSome old new → HasPrefix IsMore old new
-  prefix_more begun = (begun.0, begun.1, more (Ok (begun.0, begun.1)) begun.2, begun.3)
+pub check_unread : (files : KnownFiles) (listing : List ℕ) (fault : InputFault) (old new : Option (List ℕ)) →
+    IsImageRefused (files listing) fault → new ≡ old →
+    Fails (IsAnswer files (Some (Check listing))) false (faults.Input fault) old new
+check_unread files listing fault old new is same =
+    image_fails faults.Input (failure_of false) false (reported false) old new IsLineOf (files listing) fault is same
 
-  pub fails_more : (fault : Fault) → Fails IsSome in_pieces fault old new → Fails IsMore in_pieces fault old new
-  fails_more faults.NoMemory (inl same) = inl same
-  fails_more faults.NoMemory (inr begun) = inr (begun.0, prefix_more begun.1)
-  fails_more faults.CannotWrite begun = prefix_more begun
-  fails_more (faults.Step place fault) printed = whole_more (Some (place, fault)) printed
-  fails_more faults.Usage is = (more (Err faults.Usage) is.0, is.1)
-  fails_more faults.BadNumber is = (more (Err faults.BadNumber) is.0, is.1)
-  fails_more faults.CannotReadListing is = (more (Err faults.CannotReadListing) is.0, is.1)
-  fails_more faults.CannotReadOrder is = (more (Err faults.CannotReadOrder) is.0, is.1)
-  fails_more faults.CannotStart is = (more (Err faults.CannotStart) is.0, is.1)
-  fails_more faults.ImageDiffers is = (more (Err faults.ImageDiffers) is.0, is.1)
-  fails_more (faults.Listing fault) is = (more (Err (faults.Listing fault)) is.0, is.1)
-  fails_more (faults.Order fault) is = (more (Err (faults.Order fault)) is.0, is.1)
-
--- a file that was not read
-pub unread : (IsAnswer : Answer → Type 0) (in_pieces : Bool) (files : KnownFiles) (name : List ℕ) (cannot fault : Fault)
-    (old new : Option (List ℕ)) → IsEarly cannot → (files name ≡ None → IsAnswer (Err cannot)) → new ≡ old →
-    (fault ≡ faults.NoMemory) ⊎ ((fault ≡ cannot) × (files name ≡ None)) → Fails IsAnswer in_pieces fault old new
-unread IsAnswer in_pieces files name cannot fault old new is answer same (inl none) =
-    subst (λ (f : Fault). Fails IsAnswer in_pieces f old new) (sym none) (inl same)
-unread IsAnswer in_pieces files name cannot fault old new is answer same (inr refused) =
-    subst (λ (f : Fault). Fails IsAnswer in_pieces f old new) (sym refused.0)
-    (early IsAnswer in_pieces old new cannot is (answer refused.1) same)
-
--- a listing, or an order, that was not read
-abbrev IsUnread : KnownFiles → List ℕ → Fault → Fault → Type 0
-IsUnread files name cannot fault = (fault ≡ faults.NoMemory) ⊎ ((fault ≡ cannot) × (files name ≡ None))
-
-pub check_unread : (files : KnownFiles) (listing : List ℕ) (fault : Fault) (old new : Option (List ℕ)) → new ≡ old →
-    IsUnread files listing faults.CannotReadListing fault → Fails (IsAnswer files (Some (Check listing))) false fault old new
-check_unread files listing fault old new same is =
-    unread (IsAnswer files (Some (Check listing))) false files listing faults.CannotReadListing fault old new tt
-    (λ unknown. inl (unknown, refl)) same is
-
-pub run_unread : (files : KnownFiles) (listing order : List ℕ) (form : ReportForm) (fault : Fault) (old new : Option (List ℕ)) → new ≡ old →
-    IsUnread files listing faults.CannotReadListing fault → Fails (IsAnswer files (Some (Run listing order form))) true fault old new
-run_unread files listing order form fault old new same is =
-    unread (IsAnswer files (Some (Run listing order form))) true files listing faults.CannotReadListing fault old new tt
-    (λ unknown. inl (unknown, refl)) same is
-
-pub order_unread : (files : KnownFiles) (listing order : List ℕ) (form : ReportForm) (first : List ℕ) (fault : Fault)
-    (old new : Option (List ℕ)) → AreBytesOf (files listing) first → new ≡ old →
-    IsUnread files order faults.CannotReadOrder fault → Fails (IsAnswer files (Some (Run listing order form))) true fault old new
-order_unread files listing order form first fault old new are same is =
-    unread (IsAnswer files (Some (Run listing order form))) true files order faults.CannotReadOrder fault old new tt
-    (λ unknown. inr (first, are, inl (unknown, refl))) same is
-
-pub race_unread : (files : KnownFiles) (listing : List ℕ) (turns : ℕ) (watch : Bool) (fault : Fault) (old new : Option (List ℕ)) →
-    new ≡ old → IsUnread files listing faults.CannotReadListing fault →
-    Fails (IsAnswer files (Some (Race listing turns watch))) true fault old new
-race_unread files listing turns watch fault old new same is =
-    unread (IsAnswer files (Some (Race listing turns watch))) true files listing faults.CannotReadListing fault old new tt
-    (λ unknown. inl (unknown, refl)) same is
-
--- the line of a listing
-pub check_answer : (files : KnownFiles) (listing bytes : List ℕ) (image : ImageParts) (text : List ℕ) → AreBytesOf (files listing) bytes →
-    listing_meaning bytes ≡ Ok image → text ≡ check_line image → IsAnswer files (Some (Check listing)) (Ok (text, None))
-check_answer files listing bytes image text are meaning same =
-    inr (bytes, are, ap shown same ∙ sym (ap answer_of_image meaning))
+pub check_answer : (files : KnownFiles) (listing : List ℕ) (image : ImageParts) (text : List ℕ) → MeansImage (files listing) image →
+    text ≡ check_line image → IsAnswer files (Some (Check listing)) (Ok (text, None))
+check_answer files listing image text means same =
+    of_image (files listing) unread (IsLineOf (shown text)) (shown text) image means (ap shown same)
   where
     shown : List ℕ → Answer
     shown line = Ok (line, None)
 
--- and the fault of one
-pub check_fails : (files : KnownFiles) (listing bytes : List ℕ) (fault : ListingFault) (old new : Option (List ℕ)) →
-    AreBytesOf (files listing) bytes → Gives {X = ImageParts} (Err fault) (listing_meaning bytes) → new ≡ old →
-    Fails (IsAnswer files (Some (Check listing))) false (listing_fault fault) old new
-check_fails files listing bytes fault old new are gives same =
-    listing_fails (IsAnswer files (Some (Check listing))) false old new fault (by gives) same
-  where
-    by : Gives {X = ImageParts} (Err fault) (listing_meaning bytes) → (fault ≡ no_memory) ⊎ IsAnswer files (Some (Check listing)) (Err (listing_fault fault))
-    by (inl none) = inl none
-    by (inr meaning) = inr (inr (bytes, are, sym (ap answer_of_image meaning)))
+pub check_printed : {T : Type 0} (files : KnownFiles) (listing : List ℕ) (image : ImageParts) (text : List ℕ)
+    (result : Result (Unit {0}) T) (old new : Option (List ℕ)) → MeansImage (files listing) image → text ≡ check_line image →
+    OnOk result (Appends old new text) → OnOk result (HasWhole (IsAnswer files (Some (Check listing))) None old new)
+check_printed files listing image text result old new means same grown =
+    whole_printed (IsAnswer files (Some (Check listing))) text None old new result (check_answer files listing image text means same) grown
 
-pub ruleset check_answers = (check_unread, check_fails)
+pub check_unwritten : (files : KnownFiles) (listing : List ℕ) (image : ImageParts) (text : List ℕ) (old new : Option (List ℕ)) →
+    MeansImage (files listing) image → text ≡ check_line image → TakesBeginning old new text →
+    Fails (IsAnswer files (Some (Check listing))) false faults.CannotWrite old new
+check_unwritten files listing image text old new means same begun =
+    unwritten_fails (IsAnswer files (Some (Check listing))) false old new text None (check_answer files listing image text means same) begun
 
--- the answers of a listing's bytes are those of its file
-pub runs_files : (files : KnownFiles) (listing order : List ℕ) (form : ReportForm) (first second : List ℕ) →
+pub ruleset check_answers = (check_unread, check_printed, check_unwritten)
+
+-- what is so of the files' texts, and of the image that a file's text means
+runs_files : (files : KnownFiles) (listing order : List ℕ) (form : ReportForm) (first second : List ℕ) →
     AreBytesOf (files listing) first → AreBytesOf (files order) second → (answer : Answer) → IsRunAnswer form first second answer →
     IsAnswer files (Some (Run listing order form)) answer
 runs_files files listing order form first second first_are second_are answer is = inr (first, first_are, inr (second, second_are, is))
 
-pub races_file : (files : KnownFiles) (listing : List ℕ) (turns : ℕ) (watch : Bool) (bytes : List ℕ) → AreBytesOf (files listing) bytes →
-    (answer : Answer) → IsRaceAnswer bytes turns answer → IsAnswer files (Some (Race listing turns watch)) answer
-races_file files listing turns watch bytes are answer is = inr (bytes, are, is)
+races_image : (files : KnownFiles) (listing : List ℕ) (turns : ℕ) (watch : Bool) (image : ImageParts) → MeansImage (files listing) image →
+    (answer : Answer) → IsRaceAnswer image turns answer → IsAnswer files (Some (Race listing turns watch)) answer
+races_image files listing turns watch image means answer is =
+    of_image (files listing) unread (λ image. IsRaceAnswer image turns answer) answer image means is
+
+-- texts that were not read
+pub run_unread : (files : KnownFiles) (listing order : List ℕ) (form : ReportForm) (fault : InputFault) (old new : Option (List ℕ)) →
+    AreTextsUnread (files listing) (files order) fault → new ≡ old →
+    Fails (IsAnswer files (Some (Run listing order form))) true (faults.Input fault) old new
+run_unread files listing order form fault old new is same =
+    texts_fail faults.Input (failure_of true) true (reported true) old new (λ answer first second. IsRunAnswer form first second answer)
+    (files listing) (files order) fault is same
 
 -- a run that was printed, up to a refused step or to the end, or was not printed whole
 pub run_printed : (files : KnownFiles) (listing order : List ℕ) (form : ReportForm) (stop : Option Stop) (first second : List ℕ)
@@ -129,7 +87,7 @@ pub run_printed : (files : KnownFiles) (listing order : List ℕ) (form : Report
     HasWhole (IsRunAnswer form first second) stop old new → HasWhole (IsAnswer files (Some (Run listing order form))) stop old new
 run_printed files listing order form stop first second old new first_are second_are printed =
     whole_more (IsRunAnswer form first second) (IsAnswer files (Some (Run listing order form)))
-    (runs_files files listing order form first second first_are second_are) true old new stop printed
+    (runs_files files listing order form first second first_are second_are) old new stop printed
 
 pub run_stops : (files : KnownFiles) (listing order : List ℕ) (form : ReportForm) (place : ℕ) (fault : StepFault) (first second : List ℕ)
     (old new : Option (List ℕ)) → AreBytesOf (files listing) first → AreBytesOf (files order) second →
@@ -143,27 +101,35 @@ pub run_fails : (files : KnownFiles) (listing order : List ℕ) (form : ReportFo
     Fails (IsRunAnswer form first second) true fault old new → Fails (IsAnswer files (Some (Run listing order form))) true fault old new
 run_fails files listing order form first second fault old new first_are second_are fails =
     fails_more (IsRunAnswer form first second) (IsAnswer files (Some (Run listing order form)))
-    (runs_files files listing order form first second first_are second_are) true old new fault fails
+    (runs_files files listing order form first second first_are second_are) old new (failure_of true fault) fault fails
 
-pub ruleset run_answers = (run_unread, order_unread, run_printed, run_stops, run_fails)
+pub ruleset run_answers = (run_unread, run_printed, run_stops, run_fails)
+
+-- a listing whose harts are not raced
+pub race_unread : (files : KnownFiles) (listing : List ℕ) (turns : ℕ) (watch : Bool) (fault : InputFault) (old new : Option (List ℕ)) →
+    IsImageRefused (files listing) fault → new ≡ old →
+    Fails (IsAnswer files (Some (Race listing turns watch))) true (faults.Input fault) old new
+race_unread files listing turns watch fault old new is same =
+    image_fails faults.Input (failure_of true) true (reported true) old new (λ answer image. IsRaceAnswer image turns answer)
+    (files listing) fault is same
 
 -- a race that was printed, or was not printed whole
-pub race_printed : {T : Type 0} (files : KnownFiles) (listing : List ℕ) (turns : ℕ) (watch : Bool) (bytes : List ℕ) (result : Result (Unit {0}) T)
-    (old new : Option (List ℕ)) → AreBytesOf (files listing) bytes → OnOk result (HasWhole (IsRaceAnswer bytes turns) None old new) →
+pub race_printed : {T : Type 0} (files : KnownFiles) (listing : List ℕ) (turns : ℕ) (watch : Bool) (image : ImageParts) (result : Result (Unit {0}) T)
+    (old new : Option (List ℕ)) → MeansImage (files listing) image → OnOk result (HasWhole (IsRaceAnswer image turns) None old new) →
     OnOk result (HasWhole (IsAnswer files (Some (Race listing turns watch))) None old new)
-race_printed files listing turns watch bytes (Ok done) old new are printed =
-    whole_more (IsRaceAnswer bytes turns) (IsAnswer files (Some (Race listing turns watch)))
-    (races_file files listing turns watch bytes are) true old new None printed
-race_printed files listing turns watch bytes (Err fault) old new are printed = tt
+race_printed files listing turns watch image (Ok done) old new means printed =
+    whole_more (IsRaceAnswer image turns) (IsAnswer files (Some (Race listing turns watch)))
+    (races_image files listing turns watch image means) old new None printed
+race_printed files listing turns watch image (Err fault) old new means printed = tt
 
-pub race_fails : {T : Type 0} (files : KnownFiles) (listing : List ℕ) (turns : ℕ) (watch : Bool) (bytes : List ℕ) (result : Result T Fault)
-    (old new : Option (List ℕ)) → AreBytesOf (files listing) bytes →
-    IfErr result (λ fault. Fails (IsRaceAnswer bytes turns) true fault old new) →
+pub race_fails : {T : Type 0} (files : KnownFiles) (listing : List ℕ) (turns : ℕ) (watch : Bool) (image : ImageParts) (result : Result T Fault)
+    (old new : Option (List ℕ)) → MeansImage (files listing) image →
+    IfErr result (λ fault. Fails (IsRaceAnswer image turns) true fault old new) →
     IfErr result (λ fault. Fails (IsAnswer files (Some (Race listing turns watch))) true fault old new)
-race_fails files listing turns watch bytes (Ok done) old new are is = tt
-race_fails files listing turns watch bytes (Err fault) old new are is =
-    fails_more (IsRaceAnswer bytes turns) (IsAnswer files (Some (Race listing turns watch)))
-    (races_file files listing turns watch bytes are) true old new fault is
+race_fails files listing turns watch image (Ok done) old new means is = tt
+race_fails files listing turns watch image (Err fault) old new means is =
+    fails_more (IsRaceAnswer image turns) (IsAnswer files (Some (Race listing turns watch)))
+    (races_image files listing turns watch image means) old new (failure_of true fault) fault is
 
 -- what standard error got of a race that was printed
 pub race_is_quiet : {T : Type 0} (listing : List ℕ) (turns : ℕ) (watch : Bool) (result : Result T Fault) (old new : Option (List ℕ)) →
@@ -202,49 +168,52 @@ decode_answer word number text word_is same = ap shown same ∙ sym (ap answer_o
     shown bytes = Ok (bytes, None)
 
 -- a number that is none
+bad_number_fails : (IsSo : Answer → Type 0) (old new : Option (List ℕ)) (fault : Fault) → fault ≡ faults.BadNumber → IsSo (Err fault) →
+    new ≡ old → Fails IsSo false fault old new
+bad_number_fails IsSo old new fault bad answer same =
+    subst (λ (f : Fault). Fails IsSo false f old new) (sym bad) (subst (λ (f : Fault). IsSo (Err f)) bad answer, same)
+
 pub bounds_base_fails : (base len : List ℕ) (fault : Fault) (old new : Option (List ℕ)) → number_given GREATEST_ADDRESS base ≡ Err fault →
     fault ≡ faults.BadNumber → new ≡ old → Fails (IsBoundsAnswer base len) false fault old new
 bounds_base_fails base len fault old new base_is bad same =
-    early (IsBoundsAnswer base len) false old new fault (subst IsEarly (sym bad) tt)
+    bad_number_fails (IsBoundsAnswer base len) old new fault bad
     (sym (ap (λ n. answer_of_range n (number_given ADDRESS_SPACE len)) base_is)) same
 
 pub bounds_len_fails : (base len : List ℕ) (first : ℕ) (fault : Fault) (old new : Option (List ℕ)) →
     number_given GREATEST_ADDRESS base ≡ Ok first → number_given ADDRESS_SPACE len ≡ Err fault →
     fault ≡ faults.BadNumber → new ≡ old → Fails (IsBoundsAnswer base len) false fault old new
 bounds_len_fails base len first fault old new base_is len_is bad same =
-    early (IsBoundsAnswer base len) false old new fault (subst IsEarly (sym bad) tt)
+    bad_number_fails (IsBoundsAnswer base len) old new fault bad
     (sym (ap (λ n. answer_of_range (Ok first) n) len_is) ∙ sym (ap (λ n. answer_of_range n (number_given ADDRESS_SPACE len)) base_is)) same
 
 pub decode_fails : (word : List ℕ) (fault : Fault) (old new : Option (List ℕ)) → number_given GREATEST_WORD word ≡ Err fault →
     fault ≡ faults.BadNumber → new ≡ old → Fails (IsDecodeAnswer word) false fault old new
 decode_fails word fault old new word_is bad same =
-    early (IsDecodeAnswer word) false old new fault (subst IsEarly (sym bad) tt) (sym (ap answer_of_word word_is)) same
+    bad_number_fails (IsDecodeAnswer word) old new fault bad (sym (ap answer_of_word word_is)) same
 
-pub bounds_unwritten : {T : Type 0} (base len : List ℕ) (first span : ℕ) (text : List ℕ) (result : Result T Fault) (old new : Option (List ℕ)) →
+pub bounds_unwritten : (base len : List ℕ) (first span : ℕ) (text : List ℕ) (old new : Option (List ℕ)) →
     number_given GREATEST_ADDRESS base ≡ Ok first → number_given ADDRESS_SPACE len ≡ Ok span → text ≡ bounds_line first span →
-    TakesBeginning old new text → IfErr result (λ fault. fault ≡ faults.CannotWrite) →
-    IfErr result (λ fault. Fails (IsBoundsAnswer base len) false fault old new)
-bounds_unwritten base len first span text result old new base_is len_is same begun is =
-    unwritten_fails (IsBoundsAnswer base len) false old new text None result (bounds_answer base len first span text base_is len_is same) begun is
+    TakesBeginning old new text → Fails (IsBoundsAnswer base len) false faults.CannotWrite old new
+bounds_unwritten base len first span text old new base_is len_is same begun =
+    unwritten_fails (IsBoundsAnswer base len) false old new text None (bounds_answer base len first span text base_is len_is same) begun
 
-pub bounds_printed : (base len : List ℕ) (first span : ℕ) (text : List ℕ) (result : Result (Unit {0}) Fault) (old new : Option (List ℕ)) →
+pub bounds_printed : {T : Type 0} (base len : List ℕ) (first span : ℕ) (text : List ℕ) (result : Result (Unit {0}) T) (old new : Option (List ℕ)) →
     number_given GREATEST_ADDRESS base ≡ Ok first → number_given ADDRESS_SPACE len ≡ Ok span → text ≡ bounds_line first span →
     OnOk result (Appends old new text) → OnOk result (HasWhole (IsBoundsAnswer base len) None old new)
 bounds_printed base len first span text result old new base_is len_is same grown =
-    whole_printed (IsBoundsAnswer base len) false old new text None result (bounds_answer base len first span text base_is len_is same) grown
+    whole_printed (IsBoundsAnswer base len) text None old new result (bounds_answer base len first span text base_is len_is same) grown
 
-pub decode_unwritten : {T : Type 0} (word : List ℕ) (number : ℕ) (text : List ℕ) (result : Result T Fault) (old new : Option (List ℕ)) →
+pub decode_unwritten : (word : List ℕ) (number : ℕ) (text : List ℕ) (old new : Option (List ℕ)) →
     number_given GREATEST_WORD word ≡ Ok number → text ≡ decode_line number →
-    TakesBeginning old new text → IfErr result (λ fault. fault ≡ faults.CannotWrite) →
-    IfErr result (λ fault. Fails (IsDecodeAnswer word) false fault old new)
-decode_unwritten word number text result old new word_is same begun is =
-    unwritten_fails (IsDecodeAnswer word) false old new text None result (decode_answer word number text word_is same) begun is
+    TakesBeginning old new text → Fails (IsDecodeAnswer word) false faults.CannotWrite old new
+decode_unwritten word number text old new word_is same begun =
+    unwritten_fails (IsDecodeAnswer word) false old new text None (decode_answer word number text word_is same) begun
 
-pub decode_printed : (word : List ℕ) (number : ℕ) (text : List ℕ) (result : Result (Unit {0}) Fault) (old new : Option (List ℕ)) →
+pub decode_printed : {T : Type 0} (word : List ℕ) (number : ℕ) (text : List ℕ) (result : Result (Unit {0}) T) (old new : Option (List ℕ)) →
     number_given GREATEST_WORD word ≡ Ok number → text ≡ decode_line number →
     OnOk result (Appends old new text) → OnOk result (HasWhole (IsDecodeAnswer word) None old new)
 decode_printed word number text result old new word_is same grown =
-    whole_printed (IsDecodeAnswer word) false old new text None result (decode_answer word number text word_is same) grown
+    whole_printed (IsDecodeAnswer word) text None old new result (decode_answer word number text word_is same) grown
 
 pub ruleset bounds_answers = (bounds_base_fails, bounds_len_fails, bounds_printed, bounds_unwritten)
 
@@ -255,4 +224,4 @@ pub fails_with : (files : KnownFiles) (request : Option Asked) (fault : Fault) (
     status ≡ status_of fault → Fails (IsAnswer files request) (is_in_pieces request) fault old new → err_now ≡ err_old →
     TakesBeginning err_now err_new (line (fault_text fault)) → FailsWith files request status old new err_old err_new
 fails_with files request fault status old new err_old err_now err_new is fails same told =
-    record { fault = fault; status_is = is; fails = fails; told = rw same at told }
+    record { fault = fault; status_is = is; is_so = fails; told = rw same at told }

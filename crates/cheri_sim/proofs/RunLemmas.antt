@@ -18,13 +18,15 @@ use Rattle.cores.specs.Runs.{IsConfinedRun, Run, Stop}
 use Rattle.simulation.specs.Simulation.{IsRefusedRun, IsRunAnd, is_reported, report_of}
 use Rattle.command_line.specs.declared.found.ReportForm.{ReportForm}
 use Rattle.command_line.specs.declared.found.ReportForm.TheVariants as forms
+use Rattle.inputs.specs.Faults.{listing_fault, order_fault}
+use Rattle.printing.specs.Endings.{HasPrefix, HasWhole}
+use Rattle.printing.proofs.EndingLemmas.{begins_whole}
 use Rattle.cheri_sim.specs.declared.faults.Fault.{Fault}
 use Rattle.cheri_sim.specs.declared.faults.Fault.TheVariants as faults
-use Rattle.cheri_sim.specs.Endings.{Answer, Fails, HasPrefix, HasWhole}
-use Rattle.cheri_sim.specs.Faults.{listing_fault, sim_fault, written_fault}
+use Rattle.cheri_sim.specs.Endings.{Answer, Fails}
+use Rattle.cheri_sim.specs.Faults.{sim_fault, written_fault}
 use Rattle.cheri_sim.specs.Runs.{IsRunAnswer, answer_of_run, json_of, longest_run, report_in}
-use Rattle.cheri_sim.proofs.FaultLemmas.{listing_fails, order_fails}
-use Rattle.cheri_sim.proofs.PrintLemmas.{begins_whole}
+use Rattle.cheri_sim.proofs.FaultLemmas.{file_fails, listing_fails}
 
 -- the report of a run answers for it
 pub run_answer : (form : ReportForm) (listing order : List ℕ) (run : Run) (stop : Option Stop) →
@@ -112,11 +114,11 @@ unprinted form listing order IsSo (sim.Listing fault) old new is same reported =
     listing_fails (IsRunAnswer form listing order) true old new fault (by is) (same refl)
   where
     by : (fault ≡ no_memory) ⊎ (longest_run listing order ≡ Err (sim.Listing fault)) →
-        (fault ≡ no_memory) ⊎ IsRunAnswer form listing order (Err (listing_fault fault))
+        (fault ≡ no_memory) ⊎ IsRunAnswer form listing order (Err (faults.Input (listing_fault fault)))
     by (inl none) = inl none
     by (inr meant) = inr (refused_answer form listing order (sim.Listing fault) meant)
 unprinted form listing order IsSo (sim.Order fault) old new is same reported =
-    order_fails (IsRunAnswer form listing order) true old new fault (refused_answer form listing order (sim.Order fault) is) (same refl)
+    file_fails (IsRunAnswer form listing order) true old new (order_fault fault) (refused_answer form listing order (sim.Order fault) is) (same refl)
 unprinted form listing order IsSo (sim.Boot fault) old new is same reported = inl (same refl)
 unprinted form listing order IsSo (sim.Report fault) old new is same reported = reported fault refl
 

@@ -1,8 +1,7 @@
 -- The program: what it is asked for, what it prints, and how it ends.
 pub mod Answers
 pub mod Faults
-pub mod Files
-pub mod Printing
+pub mod Reporting
 pub mod Endings
 pub mod Runs
 pub mod Races

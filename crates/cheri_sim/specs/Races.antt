@@ -3,25 +3,22 @@ use Rattle.std.specs.Prelude.{◌≡◌, ℕ, ◌≤◌, List, ◌++◌, codes, 
 use Rattle.std.specs.Prelude.{Ok, Err, ⊤}
 use Rattle.cheri_model.specs.runs.Image.{ImageParts}
 use Rattle.cheri_model.specs.runs.Replay.{IsReplay}
-use Rattle.listings.specs.Meaning.{listing_meaning}
 use Rattle.report_lines.specs.Texts.{line}
 use Rattle.reports.specs.Report.{report}
 use Rattle.sinks.specs.Sinks.{TakesBeginning}
 use Rattle.cores.specs.Cores.{CoreParts}
 use Rattle.harts.specs.declared.workers.HartReport.{HartReport}
 use Rattle.harts.specs.Reports.{AreReports}
-use Rattle.cheri_sim.specs.declared.faults.Fault.TheVariants.{CannotStart, ImageDiffers, Listing}
+use Rattle.cheri_sim.specs.declared.faults.Fault.TheVariants.{CannotStart, ImageDiffers}
 use Rattle.cheri_sim.specs.declared.races.TheConstants.{LOOKS}
 use Rattle.cheri_sim.specs.Endings.{Answer}
 
--- A text shows a race: it is the report of a machine that began as the image which the listing
--- means, and whose state is the replay of its trace, in which each hart's steps are those that its
--- worker reported, and at most these turns.
-pub record IsRace (listing : List ℕ) (turns : ℕ) (text : List ℕ) : Type 0 where
-  pub image : ImageParts
+-- A text shows a race of an image: it is the report of a machine that began as the image, and whose
+-- state is the replay of its trace, in which each hart's steps are those that its worker reported,
+-- and at most these turns.
+pub record IsRace (image : ImageParts) (turns : ℕ) (text : List ℕ) : Type 0 where
   pub core : CoreParts
   pub reports : List HartReport
-  pub listing_is : listing_meaning listing ≡ Ok image
   pub image_is : core.image ≡ image
   pub replay : IsReplay core.image core.trace core.state
   pub reports_are : AreReports turns core.trace (length image.harts) reports
@@ -38,11 +35,10 @@ pub record TellsLooks (old new : Option (List ℕ)) : Type 0 where
   pub most : looks ≤ LOOKS
   pub told : TakesBeginning old new (line (looks_text looks))
 
--- The answers to a race: its report, or its listing's fault. A worker may not start; and only tests
--- show that a race leaves the image that it was given.
-abbrev pub IsRaceAnswer : List ℕ → ℕ → Answer → Type 0
-IsRaceAnswer listing turns (Ok shown) = (shown.1 ≡ None) × IsRace listing turns shown.0
-IsRaceAnswer listing turns (Err (Listing fault)) = listing_meaning listing ≡ Err fault
-IsRaceAnswer listing turns (Err CannotStart) = ⊤
-IsRaceAnswer listing turns (Err ImageDiffers) = ⊤
-IsRaceAnswer listing turns (Err _) = ⊥
+-- The answers to a race of an image: its report. A worker may not start; and only tests show that a
+-- race leaves the image that it was given.
+abbrev pub IsRaceAnswer : ImageParts → ℕ → Answer → Type 0
+IsRaceAnswer image turns (Ok shown) = (shown.1 ≡ None) × IsRace image turns shown.0
+IsRaceAnswer image turns (Err CannotStart) = ⊤
+IsRaceAnswer image turns (Err ImageDiffers) = ⊤
+IsRaceAnswer image turns (Err _) = ⊥

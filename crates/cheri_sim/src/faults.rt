@@ -4,12 +4,10 @@ ghost use Rattle.std.specs.Prelude.{◌≡◌};
 ghost use Rattle.cheri_sim.specs.Faults.{fault_text, status_of};
 
 use command_line::CommandFault;
-use grammar::fault::ListingFaultKind;
 use harts::RunFault;
-use listings::ListingFault;
+use inputs::InputFault;
 use machine::{SimFault, StepFault};
-use orders::{OrderFault, OrderFaultKind};
-use reports::ReportFault;
+use reports::{ReportFault, SinkFailed};
 use std::alloc::AllocError;
 use std::fmt;
 
@@ -18,24 +16,16 @@ use std::fmt;
 pub enum Fault {
     /// The words are no command of this program.
     Usage,
-    /// An allocation failed.
-    NoMemory,
+    /// A file was refused, or an allocation failed.
+    Input(InputFault),
     /// An argument is no number, or none in its range.
     BadNumber,
-    /// The listing's file cannot be read.
-    CannotReadListing,
-    /// The order's file cannot be read.
-    CannotReadOrder,
     /// Standard output takes no more.
     CannotWrite,
     /// The thread of a hart cannot be started.
     CannotStart,
     /// A race left another image than the one that it was given.
     ImageDiffers,
-    /// The listing was refused.
-    Listing(ListingFault),
-    /// The order was refused.
-    Order(OrderFault),
     /// The step at this place of the order, counted from 0, was refused.
     Step(usize, StepFault),
 }
@@ -47,13 +37,9 @@ impl Fault {
     {
         match self {
             Fault::Usage => 2,
-            Fault::BadNumber | Fault::Listing(_) | Fault::Order(_) | Fault::Step(_, _) => 1,
-            Fault::NoMemory
-            | Fault::CannotReadListing
-            | Fault::CannotReadOrder
-            | Fault::CannotWrite
-            | Fault::CannotStart
-            | Fault::ImageDiffers => 3,
+            Fault::Input(fault) => fault.status(),
+            Fault::BadNumber | Fault::Step(_, _) => 1,
+            Fault::CannotWrite | Fault::CannotStart | Fault::ImageDiffers => 3,
         }
     }
 }
@@ -66,27 +52,33 @@ impl fmt::Display for Fault {
     fn fmt<W: fmt::Write>(&self, f: &mut fmt::Formatter<W>) -> fmt::Result {
         match *self {
             Fault::Usage => f.write_str("usage"),
-            Fault::NoMemory => f.write_str("memory"),
+            Fault::Input(fault) => write!(f, "{fault}"),
             Fault::BadNumber => f.write_str("bad number"),
-            Fault::CannotReadListing => f.write_str("cannot read listing"),
-            Fault::CannotReadOrder => f.write_str("cannot read order"),
             Fault::CannotWrite => f.write_str("cannot write"),
             Fault::CannotStart => f.write_str("cannot start a worker"),
             Fault::ImageDiffers => f.write_str("image differs"),
-            Fault::Listing(ListingFault { line, kind }) => write!(f, "listing line {line}: {kind}"),
-            Fault::Order(OrderFault { offset, kind }) => write!(f, "order byte {offset}: {kind}"),
             Fault::Step(place, fault) => write!(f, "order step {place}: {fault}"),
         }
     }
 }
 
 impl From<AllocError> for Fault {
-    ghost use Rattle.cheri_sim.specs.declared.faults.Fault.TheVariants.{NoMemory};
+    ghost use Rattle.cheri_sim.specs.Faults.{no_memory};
 
-    ghost from_gives = { λ _ fault. fault ≡ NoMemory };
+    ghost from_gives = { λ _ fault. fault ≡ no_memory };
 
     fn from(_: AllocError) -> Fault {
-        Fault::NoMemory
+        Fault::Input(InputFault::NoMemory)
+    }
+}
+
+impl From<SinkFailed> for Fault {
+    ghost use Rattle.cheri_sim.specs.declared.faults.Fault.TheVariants.{CannotWrite};
+
+    ghost from_gives = { λ _ fault. fault ≡ CannotWrite };
+
+    fn from(_: SinkFailed) -> Fault {
+        Fault::CannotWrite
     }
 }
 
@@ -98,34 +90,18 @@ impl From<CommandFault> for Fault {
     fn from(refused: CommandFault) -> Fault {
         match refused {
             CommandFault::Usage => Fault::Usage,
-            CommandFault::NoMemory => Fault::NoMemory,
+            CommandFault::NoMemory => Fault::Input(InputFault::NoMemory),
         }
     }
 }
 
-impl From<ListingFault> for Fault {
-    ghost use Rattle.cheri_sim.specs.Faults.{listing_fault};
+impl From<InputFault> for Fault {
+    ghost use Rattle.cheri_sim.specs.declared.faults.Fault.TheVariants.{Input};
 
-    ghost from_gives = { λ refused fault. fault ≡ listing_fault refused };
+    ghost from_gives = { λ refused fault. fault ≡ Input refused };
 
-    fn from(refused: ListingFault) -> Fault {
-        match refused.kind {
-            ListingFaultKind::NoMemory => Fault::NoMemory,
-            _ => Fault::Listing(refused),
-        }
-    }
-}
-
-impl From<OrderFault> for Fault {
-    ghost use Rattle.cheri_sim.specs.Faults.{order_fault};
-
-    ghost from_gives = { λ refused fault. fault ≡ order_fault refused };
-
-    fn from(refused: OrderFault) -> Fault {
-        match refused.kind {
-            OrderFaultKind::NoMemory => Fault::NoMemory,
-            _ => Fault::Order(refused),
-        }
+    fn from(refused: InputFault) -> Fault {
+        Fault::Input(refused)
     }
 }
 
@@ -137,7 +113,7 @@ impl From<ReportFault> for Fault {
     fn from(refused: ReportFault) -> Fault {
         match refused {
             ReportFault::Write => Fault::CannotWrite,
-            ReportFault::NoMemory => Fault::NoMemory,
+            ReportFault::NoMemory => Fault::Input(InputFault::NoMemory),
         }
     }
 }
@@ -149,9 +125,9 @@ impl From<SimFault> for Fault {
 
     fn from(refused: SimFault) -> Fault {
         match refused {
-            SimFault::Listing(fault) => Fault::from(fault),
-            SimFault::Order(fault) => Fault::from(fault),
-            SimFault::Boot(_) => Fault::NoMemory,
+            SimFault::Listing(fault) => Fault::Input(InputFault::from(fault)),
+            SimFault::Order(fault) => Fault::Input(InputFault::from(fault)),
+            SimFault::Boot(_) => Fault::Input(InputFault::NoMemory),
             SimFault::Report(fault) => Fault::from(fault),
         }
     }
@@ -164,7 +140,7 @@ impl From<RunFault> for Fault {
 
     fn from(refused: RunFault) -> Fault {
         match refused {
-            RunFault::Boot(_) | RunFault::NoMemory => Fault::NoMemory,
+            RunFault::Boot(_) | RunFault::NoMemory => Fault::Input(InputFault::NoMemory),
             RunFault::Spawn => Fault::CannotStart,
             RunFault::ImageDiffers => Fault::ImageDiffers,
         }

@@ -4,14 +4,11 @@
 
 ghost use Rattle.std.specs.Prelude.{◌≡◌, ◌+◌, ◌^◌};
 ghost use Rattle.cheri_sim.specs.declared.program.TheConstants.{GREATEST_ADDRESS, GREATEST_WORD};
-ghost use Rattle.cheri_sim.specs.declared.program.TheConstants.{LISTING_READ};
 ghost use Rattle.cheri_sim.specs.declared.races.TheConstants.{LOOKS};
 
-/// The greatest arguments of `bounds` and `decode`, how much of a listing is read, and how often a
-/// watched race is looked at.
+/// The greatest arguments of `bounds` and `decode`, and how often a watched race is looked at.
 pub fn limits()
     ensures address { GREATEST_ADDRESS + 1 ≡ 2 ^ 64 }
     ensures word { GREATEST_WORD + 1 ≡ 2 ^ 128 }
-    ensures listing { LISTING_READ ≡ 1048577 }
     ensures looks { LOOKS ≡ 100 }
 {}

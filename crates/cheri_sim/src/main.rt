@@ -3,23 +3,17 @@
 
 mod answers;
 mod faults;
-mod files;
 mod laws;
-mod printing;
 mod program;
 mod races;
+mod reporting;
 mod runs;
 
 use crate::faults::Fault;
-use crate::files::SystemFiles;
 use crate::program::{perform, report_fault};
+use inputs::{InputFault, SystemFiles, words_given};
+use std::io;
 use std::process::ExitCode;
-use std::{env, io, rt};
-
-/// The words after the program's name.
-fn words_given<R: rt::Env + AllocGlobal>(rt: &R) -> io::Result<Vec<String>> {
-    Ok(env::args(rt)?.skip(1).collect(rt.alloc())?)
-}
 
 fn main(rt: HostRuntime) -> ExitCode {
     let mut err = rt.stderr();
@@ -34,7 +28,7 @@ fn main(rt: HostRuntime) -> ExitCode {
         ),
         Err(error) if error.kind() == io::ErrorKind::OutOfMemory => report_fault(
             &mut err,
-            Fault::NoMemory,
+            Fault::Input(InputFault::NoMemory),
         ),
         Err(_) => report_fault(&mut err, Fault::Usage),
     };

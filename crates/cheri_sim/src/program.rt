@@ -1,28 +1,27 @@
 //! The program: runs one command, or reports why it failed.
 
 ghost use Rattle.std.specs.Prelude.{None, ◌≡◌, ◌≢◌, ◌≤◌, ◌⊎◌, IfOk, IfErr, OnErr, OnOk, Err, Some, false, true};
-ghost use Rattle.command_line.specs.Requests.{Asked, asked, Check, Run, Race, Bounds, Decode};
+ghost use Rattle.command_line.specs.Requests.{asked, Check, Run, Race};
 ghost use Rattle.grammar.specs.Tokens.{texts};
-ghost use Rattle.cheri_sim.specs.Answers.{number_given};
-ghost use Rattle.cheri_sim.specs.Faults.{fault_text, status_of};
-ghost use Rattle.cheri_sim.specs.Files.{AreBytesOf};
+ghost use Rattle.printing.specs.Endings.{HasWhole};
 ghost use Rattle.report_lines.specs.Texts.{line};
 ghost use Rattle.sinks.specs.Sinks.{TakesBeginning};
-ghost use Rattle.cheri_sim.specs.Endings.{Fails, HasWhole};
+ghost use Rattle.cheri_sim.specs.Answers.{number_given};
+ghost use Rattle.cheri_sim.specs.Endings.{Fails};
+ghost use Rattle.cheri_sim.specs.Faults.{fault_text, no_memory, status_of};
 ghost use Rattle.cheri_sim.specs.Program.{command_line, IsAnswer, IsBoundsAnswer, IsDecodeAnswer};
 ghost use Rattle.cheri_sim.specs.Program.{FailsWith, IsQuiet, is_in_pieces};
 
 use crate::answers::{bounds_text, check_text, decode_text};
 use crate::faults::Fault;
-use crate::files::{FileFault, Files};
-use crate::printing::{print, write_fault};
 use crate::races::print_race;
 use crate::runs::print_run;
-use cheri_model::{ADDRESS_SPACE, NoMemory};
+use cheri_model::ADDRESS_SPACE;
 use command_line::{ReportForm, Request, parse};
 use grammar::numerals::number_of;
-use listings::{LISTING_LIMIT, read_listing};
-use std::alloc::Global;
+use inputs::{Files, command_words, read_image, read_texts};
+use printing::{print, write_line};
+use std::alloc::{AllocError, Global};
 use std::io::Write;
 use std::sync::Wait;
 use std::thread::Threads;
@@ -32,31 +31,6 @@ const GREATEST_ADDRESS: u128 = ADDRESS_SPACE - 1;
 
 /// The greatest word of a value.
 const GREATEST_WORD: u128 = u128::MAX;
-
-/// One byte more than a listing has at most: where a file has more, its first bytes say so.
-const LISTING_READ: u64 = LISTING_LIMIT as u64 + 1;
-
-/// An order may have any number of bytes.
-const ORDER_READ: u64 = u64::MAX;
-
-/// A file's bytes, of which the first `most` are wanted, or this fault where it cannot be read.
-fn read<F: Files>(
-    files: &mut F,
-    name: &str,
-    most: u64,
-    cannot_read: Fault,
-) -> Result<Vec<u8>, Fault>
-    ensures bytes { IfOk result (λ bytes. AreBytesOf (F.bytes_of files.old name.now) bytes.items) }
-    ensures kept { F.bytes_of files.new ≡ F.bytes_of files.old }
-    ensures refused { IfErr result (λ fault. (fault ≡ Fault.NoMemory)
-        ⊎ ((fault ≡ cannot_read) × (F.bytes_of files.old name.now ≡ None))) }
-{
-    match files.read(name, most) {
-        Ok(bytes) => Ok(bytes),
-        Err(FileFault::CannotRead) => Err(cannot_read),
-        Err(FileFault::NoMemory) => Err(Fault::NoMemory),
-    }
-}
 
 /// `check LISTING`.
 #[tactic(auto, using(crate::proofs::ProgramLemmas::check_answers))]
@@ -73,9 +47,9 @@ fn check<F: Files, O: Write>(
         (IsAnswer (F.bytes_of files.old) (Some (Check listing.now))) false fault
         (O.contents out.old) (O.contents out.new)) }
 {
-    let bytes = read(files, listing, LISTING_READ, Fault::CannotReadListing)?;
-    let image = read_listing(alloc, bytes.as_slice())?;
-    print(out, check_text(alloc, &image)?.as_str())
+    let image = read_image(alloc, files, listing)?;
+    print(out, check_text(alloc, &image)?.as_str())?;
+    Ok(())
 }
 
 /// `run LISTING --order FILE [--json]`: both files are read before either is judged.
@@ -95,13 +69,12 @@ fn run<F: Files, O: Write>(
         (IsAnswer (F.bytes_of files.old) (Some (Run listing.now order.now form))) true fault
         (O.contents out.old) (O.contents out.new)) }
 {
-    let listing_bytes = read(files, listing, LISTING_READ, Fault::CannotReadListing)?;
-    let order_bytes = read(files, order, ORDER_READ, Fault::CannotReadOrder)?;
+    let texts = read_texts(files, listing, order)?;
     let refused = print_run(
         alloc,
         form,
-        listing_bytes.as_slice(),
-        order_bytes.as_slice(),
+        texts.listing.as_slice(),
+        texts.order.as_slice(),
         out,
     )?;
     match refused {
@@ -133,8 +106,8 @@ fn race<F: Files, O: Write, E: Write, R: Threads + Wait + Sync>(
         (E.contents err.old) (E.contents err.new)) }
     ensures spared { OnErr result (E.contents err.new ≡ E.contents err.old) }
 {
-    let text = read(files, listing, LISTING_READ, Fault::CannotReadListing)?;
-    print_race(rt, alloc, text.as_slice(), turns, watch, out, err)
+    let image = read_image(alloc, files, listing)?;
+    print_race(rt, alloc, image, turns, watch, out, err)
 }
 
 /// The number that an argument writes as in a listing, which is at most the limit.
@@ -160,7 +133,8 @@ fn bounds<O: Write>(alloc: Global, base: &str, len: &str, out: &mut O) -> Result
 {
     let base = number_given(GREATEST_ADDRESS, base)?;
     let len = number_given(ADDRESS_SPACE, len)?;
-    print(out, bounds_text(alloc, base as u64, len)?.as_str())
+    print(out, bounds_text(alloc, base as u64, len)?.as_str())?;
+    Ok(())
 }
 
 /// `decode WORD`.
@@ -172,19 +146,15 @@ fn decode<O: Write>(alloc: Global, word: &str, out: &mut O) -> Result<(), Fault>
         (O.contents out.old) (O.contents out.new)) }
 {
     let word = number_given(GREATEST_WORD, word)?;
-    print(out, decode_text(alloc, word)?.as_str())
+    print(out, decode_text(alloc, word)?.as_str())?;
+    Ok(())
 }
 
-/// The words of a command line, after the program's name.
-fn with_program_name<'a>(alloc: Global, words: &'a [String]) -> Result<Vec<&'a str>, NoMemory>
+/// The words of the command line, of which the program's name is the first.
+fn words_of<'a>(alloc: Global, words: &'a [String]) -> Result<Vec<&'a str>, AllocError>
     ensures { IfOk result (λ all. texts all.items ≡ command_line words.now) }
 {
-    let mut all = Vec::new(alloc);
-    all.push("cheri_sim")?;
-    for word in words {
-        all.push(word.as_str())?;
-    }
-    Ok(all)
+    command_words(alloc, "cheri_sim", words)
 }
 
 /// Does what the words ask for. The command line is judged first.
@@ -205,12 +175,12 @@ fn answer<F: Files, O: Write, E: Write, R: Threads + Wait + Sync>(
         (is_in_pieces (asked (command_line words.now))) fault
         (O.contents out.old) (O.contents out.new)) }
     ensures nothing { asked (command_line words.now) ≡ None
-        → (result ≡ Err Fault.Usage) ⊎ (result ≡ Err Fault.NoMemory) }
+        → (result ≡ Err Fault.Usage) ⊎ (result ≡ Err no_memory) }
     ensures quiet { OnOk result (IsQuiet (asked (command_line words.now))
         (E.contents err.old) (E.contents err.new)) }
     ensures spared { OnErr result (E.contents err.new ≡ E.contents err.old) }
 {
-    let words = with_program_name(alloc, words)?;
+    let words = words_of(alloc, words)?;
     match parse(alloc, words.as_slice())? {
         Request::Check { listing } => check(alloc, listing, files, out),
         Request::Run {
@@ -234,7 +204,7 @@ pub fn report_fault<E: Write>(err: &mut E, fault: Fault) -> u8
     ensures told { TakesBeginning (E.contents err.old) (E.contents err.new)
         (line (fault_text fault)) }
 {
-    let _ = write_fault(err, fault);
+    let _ = write_line(err, fault);
     fault.status()
 }
 

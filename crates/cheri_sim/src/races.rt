@@ -1,29 +1,28 @@
 //! The race of a listing's harts, printed.
 
-ghost use Rattle.std.specs.Prelude.{◌≡◌, ◌≤◌, ◌↔◌, length, OnOk, OnErr, IfOk, IfErr, IfSome, Err, None};
+ghost use Rattle.std.specs.Prelude.{◌≡◌, ◌≤◌, ◌↔◌, length, OnOk, OnErr, IfOk, IfErr, Err, None};
 ghost use Rattle.std.specs.Prelude.{false, true};
 ghost use Rattle.cheri_model.specs.runs.Replay.{IsReplay};
 ghost use Rattle.cores.specs.Cores.{is_limit};
 ghost use Rattle.harts.specs.Reports.{AreReports};
 ghost use Rattle.report_lines.specs.Texts.{line};
+ghost use Rattle.printing.specs.Endings.{HasWhole};
 ghost use Rattle.sinks.specs.Sinks.{TakesBeginning};
-ghost use Rattle.cheri_sim.specs.Endings.{Fails, HasWhole};
+ghost use Rattle.cheri_sim.specs.Endings.{Fails};
 ghost use Rattle.cheri_sim.specs.Races.{IsRaceAnswer, TellsLooks, looks_text};
 
 use crate::faults::Fault;
-use crate::printing::{print_report, write_text};
-use arrayvec::ArrayString;
+use crate::reporting::print_report;
 use cheri_model::Image;
 use harts::{Gate, HartReport, RunFault, Turn, Viewer, run_harts, run_watched};
-use listings::read_listing;
 use machine::{BootFault, Core, GREATEST_TRACE_LIMIT, Naming, Watch};
+use printing::write_line;
 use std::alloc::Global;
-use std::fmt::Write as _;
 use std::io::Write;
 use std::marker::Model;
 use std::sync::Wait;
-use std::thread;
 use std::thread::Threads;
+use std::{fmt, thread};
 
 /// A gate that every hart goes through in each of its turns.
 #[derive(Clone, Copy)]
@@ -101,17 +100,17 @@ pub(crate) fn look_often<J: Naming>(watch: Watch<J>) -> (Watch<J>, u32)
     (watch, looks)
 }
 
-/// More bytes than the line of the looks has.
-const LOOKS_ROOM: usize = 32;
+/// How many looks a viewer got, as it is told.
+#[derive(Clone, Copy)]
+struct Looks(u32);
 
-/// The line of a number of looks, which takes no memory.
-fn looks_line(looks: u32) -> Option<ArrayString<LOOKS_ROOM>>
-    ensures { IfSome result (λ text. text.bytes ≡ line (looks_text looks)) }
-{
-    let mut text = ArrayString::new();
-    match writeln!(text, "watch looks={looks}") {
-        Ok(()) => Some(text),
-        Err(_) => None,
+impl fmt::Display for Looks {
+    ghost use Rattle.std.specs.Prelude.{Some};
+
+    ghost output = { λ looks. Some (looks_text looks.0) };
+
+    fn fmt<W: fmt::Write>(&self, f: &mut fmt::Formatter<W>) -> fmt::Result {
+        write!(f, "watch looks={}", self.0)
     }
 }
 
@@ -120,9 +119,7 @@ fn write_looks<E: Write>(err: &mut E, looks: u32)
     ensures { TakesBeginning
         (E.contents err.old) (E.contents err.new) (line (looks_text looks)) }
 {
-    if let Some(text) = looks_line(looks) {
-        let _ = write_text(err, text.as_str());
-    }
+    let _ = write_line(err, Looks(looks));
 }
 
 /// Tells how many looks the viewer of a watched race got, whether the line is taken or not.
@@ -167,29 +164,28 @@ fn raced<R: Threads + Wait + Sync>(
     }
 }
 
-/// Races the harts of a listing, each in up to this many turns, and prints the report of what they
+/// Races the harts of an image, each in up to this many turns, and prints the report of what they
 /// left. Where the race is watched, a viewer looks on, and then its looks are printed to `err`,
 /// whether the line is taken or not.
 #[tactic(auto, using(crate::proofs::RaceLemmas::races))]
 pub fn print_race<O: Write, E: Write, R: Threads + Wait + Sync>(
     rt: &R,
     alloc: Global,
-    listing: &[u8],
+    image: Image,
     turns: u32,
     watch: bool,
     out: &mut O,
     err: &mut E,
 ) -> Result<(), Fault>
-    ensures printed { OnOk result (HasWhole (IsRaceAnswer listing.now turns) None
+    ensures printed { OnOk result (HasWhole (IsRaceAnswer image turns) None
         (O.contents out.old) (O.contents out.new)) }
-    ensures failed { IfErr result (λ fault. Fails (IsRaceAnswer listing.now turns) true fault
+    ensures failed { IfErr result (λ fault. Fails (IsRaceAnswer image turns) true fault
         (O.contents out.old) (O.contents out.new)) }
     ensures quiet { watch ≡ false → E.contents err.new ≡ E.contents err.old }
     ensures told { watch ≡ true
         → OnOk result (TellsLooks (E.contents err.old) (E.contents err.new)) }
     ensures spared { OnErr result (E.contents err.new ≡ E.contents err.old) }
 {
-    let image = read_listing(alloc, listing)?;
     let mut looker = Looker::new();
     let (core, _reports) = raced(rt, alloc, image, turns, watch, &mut looker)?;
     print_report(alloc, core.view(), out)?;

@@ -2,8 +2,8 @@
 
 ghost use Rattle.std.specs.Prelude.{◌≤◌, IfOk, length};
 
-use crate::files::{FileFault, Files};
 use crate::program::perform;
+use inputs::{FileFault, Files};
 use std::alloc::Global;
 use std::io::Write;
 use std::process::Abort;

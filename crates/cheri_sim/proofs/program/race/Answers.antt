@@ -1,11 +1,12 @@
-use Rattle.std.proofs.Common.{subst, sym, ℕ, List}
-use Rattle.cheri_sim.specs.Files.{AreBytesOf}
-use Rattle.cheri_sim.proofs.ProgramLemmas.{race_fails}
+use Rattle.cheri_sim.proofs.ProgramLemmas.{race_fails, race_printed}
 use Rattle.cheri_sim.proofs.program.race.Goals as goal
+
+pub returns-clause-printed : goal.returns-clause-printed
+returns-clause-printed g c =
+    race_printed (g.F.Files.bytes_of c.args.files.now) c.args.listing.now c.args.turns c.args.watch c.in_ok-image.image c.print_race.result _ _
+    c.in_ok-image.ensures.meaning c.print_race.ensures.printed
 
 pub returns-clause-failed : goal.returns-clause-failed
 returns-clause-failed g c =
-    let files = g.F.Files.bytes_of c.args.files.now in
-    race_fails files c.args.listing.now c.args.turns c.args.watch c.as_slice.result.now c.print_race.result _ _
-    (subst (λ (bytes : List ℕ). AreBytesOf (files c.args.listing.now) bytes) (sym c.as_slice.ensures.value) c.in_ok-text.ensures.bytes)
-    c.print_race.ensures.failed
+    race_fails (g.F.Files.bytes_of c.args.files.now) c.args.listing.now c.args.turns c.args.watch c.in_ok-image.image c.print_race.result _ _
+    c.in_ok-image.ensures.meaning c.print_race.ensures.failed

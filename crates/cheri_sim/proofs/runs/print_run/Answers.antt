@@ -1,4 +1,3 @@
-use Rattle.std.proofs.Common.{◌∙◌}
 use Rattle.std.proofs.lemmas.Result.{err_from_is_err_and}
 use Rattle.cheri_sim.proofs.RunLemmas.{text_printed, text_unflushed, text_unprinted}
 use Rattle.cheri_sim.proofs.RunLemmas.{json_unprinted, json_unflushed}
@@ -22,7 +21,7 @@ returns-in_err-flush-in-Text-clause-failed g c =
     let p = err_from_is_err_and c.from_residual-in_err-flush-in-Text.result c.from_residual-in_err-flush-in-Text.ensures.1 in
     rw (p.1, c.in-Text.is)
     (text_unflushed c.args.listing.now c.args.order.now c.in_ok-refused-in-Text.refused _ _ _ p.0
-    c.in_ok-refused-in-Text.ensures.shown c.flush.ensures.kept (p.2 ∙ c.in_err-flush-in-Text.ensures.refused))
+    c.in_ok-refused-in-Text.ensures.shown c.flush.ensures.kept p.2)
 
 pub returns-in_err-refused-in-Json-clause-failed : goal.returns-in_err-refused-in-Json-clause-failed
 returns-in_err-refused-in-Json-clause-failed g c =
@@ -36,4 +35,4 @@ returns-in_err-flush-in-Json-clause-failed g c =
     let p = err_from_is_err_and c.from_residual-in_err-flush-in-Json.result c.from_residual-in_err-flush-in-Json.ensures.1 in
     rw (p.1, c.in-Json.is)
     (json_unflushed c.args.listing.now c.args.order.now c.in_ok-refused-in-Json.refused _ _ _ p.0
-    c.in_ok-refused-in-Json.ensures.shown c.flush-in-Json.ensures.kept (p.2 ∙ c.in_err-flush-in-Json.ensures.refused))
+    c.in_ok-refused-in-Json.ensures.shown c.flush-in-Json.ensures.kept p.2)

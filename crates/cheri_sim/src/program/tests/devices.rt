@@ -1,10 +1,10 @@
 //! Files that cannot be read, and output that is not taken.
 
 use crate::faults::Fault;
-use crate::files::{FileFault, fault_of};
 use crate::program::tests::{FIRST, Folder, Full, RUN, Unflushed, answer, compare, owned};
 use crate::program::{perform, report_fault};
 use grammar::fault::ListingFaultKind;
+use inputs::{FileFault, InputFault, fault_of};
 use listings::ListingFault;
 use machine::StepFault;
 use orders::{OrderFault, OrderFaultKind};
@@ -118,14 +118,14 @@ fn full_answers(rt: HostRuntime) -> Result<(), Fail> {
 /// a listing can have, and the greatest places of an order.
 #[test]
 fn long_lines_of_faults(rt: HostRuntime) -> Result<(), Fail> {
-    let listing = Fault::Listing(ListingFault {
+    let listing = Fault::Input(InputFault::Listing(ListingFault {
         line: 1_048_576,
         kind: ListingFaultKind::Capability,
-    });
-    let order = Fault::Order(OrderFault {
+    }));
+    let order = Fault::Input(InputFault::Order(OrderFault {
         offset: usize::MAX,
         kind: OrderFaultKind::NoMemory,
-    });
+    }));
     for (fault, status, line) in [
         (listing, 1, "listing line 1048576: 7 Capability\n"),
         (order, 1, "order byte 18446744073709551615: 3 NoMemory\n"),
