@@ -6,7 +6,6 @@ mod fact_data;
 mod fact_lines;
 mod followed;
 mod forms;
-mod json;
 mod mnemonics;
 mod named_json;
 mod names;
@@ -15,6 +14,7 @@ mod runs;
 mod selection;
 mod step_json;
 mod text;
+mod whole_json;
 
 pub use runs::{Format, explain};
 pub use selection::{Filter, Selection};

@@ -10,9 +10,9 @@ ghost use Rattle.simulation.specs.Simulation.{is_reported, failures_of_run};
 ghost use Rattle.cores.specs.declared.cores.TheConstants.{GREATEST_TRACE_LIMIT};
 ghost use Rattle.explanations.specs.ExplainedRuns.{explained, explained_core};
 
-use crate::json::write_json;
 use crate::selection::Selection;
 use crate::text::write_text;
+use crate::whole_json::write_json;
 use cores::{Core, GREATEST_TRACE_LIMIT, StepFault, run_judged};
 use listings::{instruction_lines, read_listing};
 use orders::judge_order;

@@ -10,7 +10,7 @@ use Rattle.explanations.specs.Explanation.{explained_events, explanation_json}
 use Rattle.explanations.specs.JsonText.{json_head, events_from, json_end}
 use Rattle.explanations.proofs.JsonParts.{json_parts}
 use Rattle.explanations.proofs.Parts.{parts_begin, parts_stop, parts_end}
-use Rattle.explanations.proofs.json.write_json.Goals as goal
+use Rattle.explanations.proofs.whole_json.write_json.Goals as goal
 
 counted : (trace : List Event) → length (operations_of trace) ≡ length trace
 unfolding operations_of

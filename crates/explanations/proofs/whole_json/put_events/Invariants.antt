@@ -6,7 +6,7 @@ use Rattle.sinks.specs.Sinks.{TakesAllBut}
 use Rattle.explanations.specs.Explanation.{explained_events}
 use Rattle.explanations.specs.JsonText.{events_from}
 use Rattle.explanations.proofs.RunLemmas.{IsAt}
-use Rattle.explanations.proofs.json.put_events.Given as goal
+use Rattle.explanations.proofs.whole_json.put_events.Given as goal
 
 abbrev pub invariant-loop-number : goal.invariant-loop-number
 invariant-loop-number g l =

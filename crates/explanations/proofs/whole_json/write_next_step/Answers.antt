@@ -7,7 +7,7 @@ use Rattle.explanations.specs.Explanation.{is_shown}
 use Rattle.explanations.specs.JsonText.{shown_item}
 use Rattle.explanations.specs.NextFacts.{next_facts}
 use Rattle.explanations.proofs.RunLemmas.{step_answered, step_applied, on_ok, if_ok}
-use Rattle.explanations.proofs.json.write_next_step.Goals as goal
+use Rattle.explanations.proofs.whole_json.write_next_step.Goals as goal
 
 pub returns-in-Ok-clause-item : goal.returns-in-Ok-clause-item
 returns-in-Ok-clause-item c =

@@ -1,6 +1,6 @@
 use Rattle.std.proofs.Common.{append_assoc}
 use Rattle.explanations.specs.JsonText.{json_end}
-use Rattle.explanations.proofs.json.write_end.Goals as goal
+use Rattle.explanations.proofs.whole_json.write_end.Goals as goal
 
 pub returns : goal.returns
 unfolding json_end

@@ -5,7 +5,7 @@ use Rattle.facts.specs.EventFacts.{sweep}
 use Rattle.cheri_model.specs.runs.Replay.{operations_of}
 use Rattle.explanations.specs.Explanation.{explained_events}
 use Rattle.explanations.proofs.RunLemmas.{at_opening, replayed, turn, explained_length}
-use Rattle.explanations.proofs.json.put_events.Goals as goal
+use Rattle.explanations.proofs.whole_json.put_events.Goals as goal
 
 pub loop-number-init : goal.loop-number-init
 loop-number-init g c = record {
