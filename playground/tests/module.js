@@ -34,7 +34,8 @@ function checkCases() {
     }
   }
   for (const [name, names] of Object.entries(differ)) {
-    if (name === "explain" && !hasExplain) continue;
+    // without cheri_explain there is nothing to compare with, which playground/test names as skipped
+    if (name === "explain" && !(hasExplain && cases.some((one) => one.explain))) continue;
     const count = cases.filter((one) => one[name]).length;
     check(`${name} answers ${count} cases as the program does`, names.length === 0 && count > 400, names);
   }
