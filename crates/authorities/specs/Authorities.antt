@@ -45,7 +45,8 @@ is_before a b =
     else nat_lt a.base b.base
 
 -- these rights are held in this state
-unfoldable pub IsHeld : (ℕ → Option MachineState) → (MachineState → List CapValue) → ℕ → Rights → Type 0
+unfoldable pub IsHeld : (ℕ → Option MachineState) → (MachineState → List CapValue) → ℕ → Rights
+    → Type 0
 IsHeld at values i rights = (s : MachineState) × (at i ≡ Some s) × Holds (values s) rights
 
 -- the state is the first in which just these rights are held

@@ -76,7 +76,8 @@ pub record Gathers (values : List CapValue) (ids : List ℕ) (state : ℕ) (old 
     : Type 0 where
   pub covered : (k id : ℕ) → slice_get ids k ≡ Some id → IsValueCovered values new id
   pub kept : (r : Rights) → IsCovered old r → IsCovered new r
-  pub from : (a : Authority) → IsIn a new → IsIn a old ⊎ ((a.first ≡ state) × ¬ IsCovered old a.rights
+  pub from : (a : Authority) → IsIn a new →
+      IsIn a old ⊎ ((a.first ≡ state) × ¬ IsCovered old a.rights
       × HoldsNumbered values ids a.rights)
   pub apart : AreApart new
 

@@ -35,7 +35,8 @@ HoldsNumbered values ids rights =
     × (tag_of v ≡ true) × (rights_of v ≡ rights)
 
 -- the numbers are those of what is held
-pub record AreNumbersOf (values : List CapValue) (ids : List ℕ) (held : List CapValue) : Type 0 where
+pub record AreNumbersOf (values : List CapValue) (ids : List ℕ) (held : List CapValue)
+    : Type 0 where
   pub numbered : (r : Rights) → Holds held r → HoldsNumbered values ids r
   pub holding : (r : Rights) → HoldsNumbered values ids r → Holds held r
   pub known : (k id : ℕ) → slice_get ids k ≡ Some id → id < length values

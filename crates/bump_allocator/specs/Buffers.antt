@@ -51,8 +51,8 @@ buffer a len =
 unfoldable pub after : Allocator → ℕ → Allocator
 after a len = if fits a len then record a { next = end_of a len } else a
 
--- what a caller relies on: the buffer has at least the bytes that were asked for, lies in the region, and
--- in what was free before and is not free after
+-- what a caller relies on: the buffer has at least the bytes that were asked for, lies in the
+-- region, and in what was free before and is not free after
 pub record IsBuffer (old new : Allocator) (len : ℕ) (v : CapValue) : Type 0 where
   pub enough : (parts_of v).base + len ≤ (parts_of v).top
   pub from_free : old.next ≤ (parts_of v).base

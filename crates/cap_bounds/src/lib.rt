@@ -16,4 +16,4 @@ pub use decoding::{decode, decode_base};
 pub use parts::Fields;
 pub use representability::representable;
 pub use rounding::{Rounded, set_bounds};
-pub use word::fields;
+pub use word::{exclusive_or_null, fields};

@@ -39,8 +39,9 @@ pub fn fields(upper: u64) -> Fields
     }
 }
 
-/// The fields without the exclusive-or.
-fn plain_fields(upper: u64) -> u64
+/// The fields of an upper half, or the upper half with these fields: both ways the exclusive-or with
+/// the null capability's fields (CHERI ISA v9, "capability encoding").
+pub fn exclusive_or_null(upper: u64) -> u64
     ensures { result ≡ with_null_fields upper }
 {
     upper ^ NULL_FIELDS
@@ -49,33 +50,33 @@ fn plain_fields(upper: u64) -> u64
 fn perms_field(upper: u64) -> u32
     ensures { result ≡ word_perms upper }
 {
-    let field = (plain_fields(upper) >> 48) as u32;
+    let field = (exclusive_or_null(upper) >> 48) as u32;
     (field >> 12 << 15) | (field & 0xfff)
 }
 
 fn otype_field(upper: u64) -> u32
     ensures { result ≡ word_otype upper }
 {
-    ((plain_fields(upper) >> 27) & 0x3_ffff) as u32
+    ((exclusive_or_null(upper) >> 27) & 0x3_ffff) as u32
 }
 
 fn flag_field(upper: u64) -> u8
     ensures { result ≡ word_flag upper }
 {
-    ((plain_fields(upper) >> 45) & 1) as u8
+    ((exclusive_or_null(upper) >> 45) & 1) as u8
 }
 
 fn reserved_field(upper: u64) -> u8
     ensures { result ≡ word_reserved upper }
 {
-    ((plain_fields(upper) >> 46) & 3) as u8
+    ((exclusive_or_null(upper) >> 46) & 3) as u8
 }
 
 fn ie_field(upper: u64) -> u8
     ensures value { result ≡ word_ie upper }
     ensures below { result < 2 }
 {
-    ((plain_fields(upper) >> 26) & 1) as u8
+    ((exclusive_or_null(upper) >> 26) & 1) as u8
 }
 
 /// T as stored: with IE 1 its low three bits are the exponent's high ones.
@@ -83,7 +84,7 @@ fn stored_t_field(upper: u64) -> u16
     ensures value { result ≡ stored_t upper }
     ensures below { result < 2 ^ 12 }
 {
-    ((plain_fields(upper) >> 14) & 0xfff) as u16
+    ((exclusive_or_null(upper) >> 14) & 0xfff) as u16
 }
 
 /// B as stored: with IE 1 its low three bits are the exponent's low ones.
@@ -91,7 +92,7 @@ fn stored_b_field(upper: u64) -> u16
     ensures value { result ≡ stored_b upper }
     ensures below { result < 2 ^ 14 }
 {
-    (plain_fields(upper) & 0x3fff) as u16
+    (exclusive_or_null(upper) & 0x3fff) as u16
 }
 
 /// The exponent E, at most 52.

@@ -12,15 +12,7 @@ ghost use Rattle.cap_model.specs.results.EditedWords.{
 };
 ghost use Rattle.cap_model.specs.results.Addresses.{is_exact};
 
-use cap_bounds::set_bounds;
-use cap_model::NULL_FIELDS;
-
-/// The fields of an upper half, or the upper half with these fields.
-pub(crate) fn exclusive_or_null(upper: u64) -> u64
-    ensures { result ≡ with_null_fields upper }
-{
-    upper ^ NULL_FIELDS
-}
+use cap_bounds::{exclusive_or_null, set_bounds};
 
 /// The permissions as the upper half has them, which are its high 16 bits.
 pub(crate) fn permission_field(upper: u64) -> u16

@@ -19,8 +19,8 @@ use Rattle.cheri_caps.specs.declared.structs.CheriRounded.{CheriRounded}
 use Rattle.cheri_caps.specs.declared.structs.CheriParts.{CheriParts}
 use Rattle.cheri_caps.specs.declared.structs.CheriMade.{CheriMade}
 
--- The value that a struct means: the tagged capability where the tag is set and the word is that of a lawful
--- capability, else the untagged word.
+-- The value that a struct means: the tagged capability where the tag is set and the word is that of
+-- a lawful capability, else the untagged word.
 unfoldable pub value_of : CheriCap → CapValue
 value_of c = value_from c.tag (word_of_halves c.upper c.addr)
 
@@ -79,7 +79,8 @@ unfoldable pub made_struct : Result CapValue MakeFault → CheriMade
 made_struct (Ok v) = record { cap = struct_of v; status = 0 }
 made_struct (Err fault) = refused (make_fault_number fault)
 
--- the answer to the parts of a capability: status 4 for a type that none has, else the first refusal that holds
+-- the answer to the parts of a capability: status 4 for a type that none has, else the first
+-- refusal that holds
 unfoldable pub make_answer : ℕ → ℕ → ℕ → ℕ → ℕ → CheriMade
 make_answer base len addr perms otype =
     if is_lawful_type otype then made_struct (made base len addr perms otype) else refused 4

@@ -31,7 +31,8 @@ format_of forms.Text = Text
 format_of forms.Json = Json
 
 -- the answers to a question about an image
-abbrev pub IsQuestionAnswer : ImageParts → ExploreAsked → AskedQuestion → Answer Ending Fault → Type 0
+abbrev pub IsQuestionAnswer : ImageParts → ExploreAsked → AskedQuestion → Answer Ending Fault
+    → Type 0
 IsQuestionAnswer image asked (Find condition) answer =
     IsFindSaid image (condition_of image condition) (map range_of asked.sweeps) asked.states
     (format_of asked.form) answer

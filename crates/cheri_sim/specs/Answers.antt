@@ -1,4 +1,5 @@
--- The lines that the program answers about a listing, a range and a word, and the numbers that ask for them.
+-- The lines that the program answers about a listing, a range and a word, and the numbers that ask
+-- for them.
 use Rattle.std.specs.Prelude.{ℕ, nat_le, Bool, if◌then◌else◌, List, ◌++◌, codes, decimal, Option, Some, Result, Ok, Err, length}
 use Rattle.cap_model.specs.words.Fields.{word_ie, word_exponent}
 use Rattle.cap_model.specs.bounds.Lengths.{internal_exponent}
@@ -42,7 +43,8 @@ bounds_line base len =
     line (codes "ie=" +++ decimal ie +++ codes " e=" +++ decimal e
     +++ codes " t=" +++ hex_text 3 (t_field ie e (rounded_top base len))
     +++ codes " b=" +++ hex_text 4 (b_field ie e (rounded_base base len))
-    +++ codes " base=" +++ hex_text 16 (rounded_base base len) +++ codes " top=" +++ hex_text 17 (rounded_top base len)
+    +++ codes " base=" +++ hex_text 16 (rounded_base base len)
+    +++ codes " top=" +++ hex_text 17 (rounded_top base len)
     +++ codes " exact=" +++ yes_or_no (is_exact base len))
 
 -- the permissions, the flag, the object type and the exponent of a value
@@ -50,13 +52,15 @@ unfoldable pub fields_part : CapValue → List ℕ
 fields_part v =
     codes "perms=" +++ hex_text 5 (permissions_of v) +++ codes " flag=" +++ decimal (flags_of v)
     +++ codes " type=" +++ type_text (object_type_of v)
-    +++ codes " ie=" +++ decimal (word_ie (high_of v)) +++ codes " e=" +++ decimal (word_exponent (high_of v))
+    +++ codes " ie=" +++ decimal (word_ie (high_of v))
+    +++ codes " e=" +++ decimal (word_exponent (high_of v))
 
 -- the bounds, the address and the length of a value, up to the end of the line
 unfoldable pub bounds_part : CapValue → List ℕ
 bounds_part v =
     line (codes " base=" +++ hex_text 16 (base_of v) +++ codes " top=" +++ hex_text 17 (top_of v)
-    +++ codes " addr=" +++ hex_text 16 (address_of v) +++ codes " len=" +++ hex_text 16 (length_of v))
+    +++ codes " addr=" +++ hex_text 16 (address_of v)
+    +++ codes " len=" +++ hex_text 16 (length_of v))
 
 -- what a word of 128 bits says, without a tag
 abbrev pub decode_line : ℕ → List ℕ

@@ -24,9 +24,11 @@ fault_text BadNumber = codes "bad number"
 fault_text CannotWrite = codes "cannot write"
 fault_text CannotStart = codes "cannot start a worker"
 fault_text ImageDiffers = codes "image differs"
-fault_text (Step place fault) = codes "order step " ++ (decimal place ++ (codes ": " ++ step_fault_text fault))
+fault_text (Step place fault) =
+    codes "order step " ++ (decimal place ++ (codes ": " ++ step_fault_text fault))
 
--- The exit status: 1 where a number, a text or a step was refused, 2 where the command line was, 3 for all else.
+-- The exit status: 1 where a number, a text or a step was refused, 2 where the command line was, 3
+-- for all else.
 abbrev pub status_of : Fault → ℕ
 status_of Usage = 2
 status_of (Input fault) = input_status fault
@@ -54,7 +56,8 @@ abbrev pub written_fault : WriteFault → Fault
 written_fault written.Write = CannotWrite
 written_fault written.NoMemory = no_memory
 
--- A simulation or a race that was refused. The program's limit is lawful, so booting only runs out of memory.
+-- A simulation or a race that was refused. The program's limit is lawful, so booting only runs out
+-- of memory.
 abbrev pub sim_fault : SimFault → Fault
 sim_fault (sim.Listing fault) = Input (listing_fault fault)
 sim_fault (sim.Order fault) = Input (order_fault fault)

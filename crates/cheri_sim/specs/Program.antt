@@ -73,4 +73,5 @@ abbrev pub FailsWith : KnownFiles → Option Asked → ℕ → Option (List ℕ)
     → Option (List ℕ) → Option (List ℕ) → Type 0
 FailsWith files request status old new err_old err_new =
     EndsBy status_of fault_text
-    (λ told. Fails (IsAnswer files request) (is_in_pieces request) told old new) status err_old err_new
+    (λ told. Fails (IsAnswer files request) (is_in_pieces request) told old new)
+    status err_old err_new

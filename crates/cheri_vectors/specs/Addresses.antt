@@ -1,4 +1,5 @@
--- The rows of addresses: for each exponent both sides of both edges of the window, the base and the top.
+-- The rows of addresses: for each exponent both sides of both edges of the window, the base and the
+-- top.
 use Rattle.std.specs.Prelude.{ℕ, ◌+◌, ◌-◌, ◌*◌, ◌/◌, ◌%◌, ◌^◌, ◌==◌, Bool, ◌&&◌, if◌then◌else◌, List, codes, slice_index}
 use Rattle.cap_model.specs.words.RawBounds.{raw_base, raw_top}
 use Rattle.cheri_vectors.specs.declared.addresses.TheConstants.{B_DIGITS}
@@ -7,11 +8,13 @@ use Rattle.cheri_vectors.specs.Words.{upper_with}
 
 -- whether the bounds are the same at both addresses
 abbrev pub keeps_bounds : ℕ → ℕ → ℕ → Bool
-keeps_bounds upper addr new = (raw_base upper new == raw_base upper addr) && (raw_top upper new == raw_top upper addr)
+keeps_bounds upper addr new =
+    (raw_base upper new == raw_base upper addr) && (raw_top upper new == raw_top upper addr)
 
 unfoldable pub kept_row : ℕ → ℕ → ℕ → List ℕ
 kept_row upper addr new =
-    codes "address " +++ hex upper +++ codes " " +++ hex addr +++ codes " " +++ hex new +++ codes " "
+    codes "address " +++ hex upper +++ codes " " +++ hex addr +++ codes " " +++ hex new
+    +++ codes " "
     +++ hex (bit_of (keeps_bounds upper addr new)) +++ codes "\n"
 
 abbrev pub exponent_at : ℕ → ℕ
@@ -29,7 +32,8 @@ window_addr n = b_at n * 2 ^ exponent_at n % 2 ^ 64
 
 -- the window's first address: the base rounded down to 2^(E+11), less one such step
 unfoldable pub window_start : ℕ → ℕ
-window_start n = (b_at n / 2 ^ 11 * 2 ^ 11 * 2 ^ exponent_at n + 2 ^ 64 - 2 ^ (exponent_at n + 11)) % 2 ^ 64
+window_start n =
+    (b_at n / 2 ^ 11 * 2 ^ 11 * 2 ^ exponent_at n + 2 ^ 64 - 2 ^ (exponent_at n + 11)) % 2 ^ 64
 
 unfoldable pub new_addr : ℕ → ℕ
 new_addr n =

@@ -1,4 +1,5 @@
--- The rows of ranges: lengths at each power of 2, and ranges that round up twice or end past the address space.
+-- The rows of ranges: lengths at each power of 2, and ranges that round up twice or end past the
+-- address space.
 use Rattle.std.specs.Prelude.{ℕ, ◌+◌, ◌-◌, ◌*◌, ◌/◌, ◌%◌, ◌^◌, ◌==◌, if◌then◌else◌, List, codes}
 use Rattle.cap_model.specs.bounds.Lengths.{internal_exponent}
 use Rattle.cap_model.specs.bounds.Rounding.{rounding_exponent, rounded_base, rounded_top}
@@ -10,16 +11,18 @@ use Rattle.cheri_vectors.specs.Texts.{hex, bit_of, ◌+++◌}
 -- a range and the bounds of its rounding
 unfoldable pub rounded_text : ℕ → ℕ → List ℕ
 rounded_text base len =
-    codes "range " +++ hex base +++ codes " " +++ hex len +++ codes " " +++ hex (rounded_base base len) +++ codes " "
-    +++ hex (rounded_top base len)
+    codes "range " +++ hex base +++ codes " " +++ hex len +++ codes " "
+    +++ hex (rounded_base base len) +++ codes " " +++ hex (rounded_top base len)
 
 -- the rounding's fields, and the length and the alignment for exact bounds
 unfoldable pub encoding_text : ℕ → ℕ → List ℕ
 encoding_text base len =
     let ie = internal_exponent len in
     let e = rounding_exponent base len in
-    codes " " +++ hex (b_field ie e (rounded_base base len)) +++ codes " " +++ hex (t_field ie e (rounded_top base len))
-    +++ codes " " +++ hex ie +++ codes " " +++ hex e +++ codes " " +++ hex (bit_of (is_exact base len)) +++ codes " "
+    codes " " +++ hex (b_field ie e (rounded_base base len))
+    +++ codes " " +++ hex (t_field ie e (rounded_top base len))
+    +++ codes " " +++ hex ie +++ codes " " +++ hex e +++ codes " "
+    +++ hex (bit_of (is_exact base len)) +++ codes " "
     +++ hex (representable_length len) +++ codes " " +++ hex (alignment_mask len) +++ codes "\n"
 
 abbrev pub range_row : ℕ → ℕ → List ℕ
@@ -40,7 +43,8 @@ corner_base n =
 
 abbrev pub corner_len : ℕ → ℕ
 corner_len n =
-    if n % 3 == 0 then 8191 * 2 ^ (n / 12) % 2 ^ 64 else if n % 3 == 1 then (8191 * 2 ^ (n / 12) + 1) % 2 ^ 64
+    if n % 3 == 0 then 8191 * 2 ^ (n / 12) % 2 ^ 64
+    else if n % 3 == 1 then (8191 * 2 ^ (n / 12) + 1) % 2 ^ 64
     else 4097 * 2 ^ (n / 12) % 2 ^ 64
 
 unfoldable pub corner_range_row : ℕ → List ℕ

@@ -34,8 +34,8 @@ name_of Build = codes "build"
 name_of TestSubset = codes "test_subset"
 name_of EqualExact = codes "equal_exact"
 
--- What an operation gives. One of an integer reads the second value as one, as instructions do; a comparison gives an
--- integer.
+-- What an operation gives. One of an integer reads the second value as one, as instructions do; a
+-- comparison gives an integer.
 abbrev pub result_of : Operation → CapValue → CapValue → CapValue
 result_of ClearTag v w = clear_tag v
 result_of SetAddress v w = set_address v (address_of w)
@@ -55,7 +55,8 @@ result_of EqualExact v w = raw (bit_of (is_equal_exact v w))
 -- a tag and a word
 unfoldable pub given_text : Given → List ℕ
 given_text given =
-    codes " " +++ hex (bit_of given.tag) +++ codes " " +++ hex given.upper +++ codes " " +++ hex given.addr
+    codes " " +++ hex (bit_of given.tag) +++ codes " " +++ hex given.upper
+    +++ codes " " +++ hex given.addr
 
 unfoldable pub result_text : CapValue → List ℕ
 result_text v =

@@ -23,11 +23,14 @@ row_count = BIT_ROWS + CORNER_ROWS + POWER_ROWS + CORNER_RANGE_ROWS + ADDRESS_RO
 
 -- the version, the fields of each kind, and how many rows follow
 unfoldable pub head : List ℕ
-head = codes "cheri-caps vectors 1\n" +++ field_names +++ codes "rows " +++ decimal row_count +++ codes "\n"
+head =
+    codes "cheri-caps vectors 1\n" +++ field_names
+    +++ codes "rows " +++ decimal row_count +++ codes "\n"
 
 -- all of them: words, ranges, addresses, values
 unfoldable pub vectors : List ℕ
 vectors =
-    head +++ rows_below bit_row BIT_ROWS +++ rows_below corner_row CORNER_ROWS +++ rows_below power_row POWER_ROWS
+    head +++ rows_below bit_row BIT_ROWS +++ rows_below corner_row CORNER_ROWS
+    +++ rows_below power_row POWER_ROWS
     +++ rows_below corner_range_row CORNER_RANGE_ROWS +++ rows_below address_row ADDRESS_ROWS
     +++ rows_below value_row VALUE_ROWS +++ codes "end\n"

@@ -35,5 +35,6 @@ program_alone = wanting_subcommand (new_app (codes "cheri_sim"))
 
 abbrev pub program : App
 program =
-    with_subcommand (with_subcommand (with_subcommand (with_subcommand (with_subcommand program_alone
-    check_command.top) run_command.top) race_command.top) bounds_command.top) decode_command.top
+    with_subcommand (with_subcommand (with_subcommand (with_subcommand (with_subcommand
+    program_alone check_command.top) run_command.top) race_command.top) bounds_command.top)
+    decode_command.top

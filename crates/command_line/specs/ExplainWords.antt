@@ -15,9 +15,15 @@ use Rattle.command_line.specs.declared.explain.ExplainRequest.{ExplainRequest}
 -- `cheri_explain LISTING --order FILE [--from I] [--to J] [--only WORDS] [--json] [--html]`
 abbrev pub explain_program : App
 explain_program =
-    with_rule (with_rule (with_rule (with_rule (with_rule (with_rule (with_rule (new_app (codes "cheri_explain"))
-    (required_word (codes "listing"))) (required_option (codes "order"))) (single_option (codes "from")))
-    (single_option (codes "to"))) (single_option (codes "only"))) (flag (codes "json"))) (flag (codes "html"))
+    with_rule (with_rule (with_rule (with_rule (with_rule (with_rule (with_rule
+    (new_app (codes "cheri_explain"))
+    (required_word (codes "listing")))
+    (required_option (codes "order")))
+    (single_option (codes "from")))
+    (single_option (codes "to")))
+    (single_option (codes "only")))
+    (flag (codes "json")))
+    (flag (codes "html"))
 
 -- a request by the texts of its words
 pub record ExplainAsked : Type 0 where
@@ -45,18 +51,21 @@ unfoldable pub filter_named : Text → Option Filter
 filter_named words =
     if bytes_eq words (codes "traps") then Some filters.Traps
     else if bytes_eq words (codes "clears") then Some filters.Clears
-    else if bytes_eq words (codes "traps,clears") || bytes_eq words (codes "clears,traps") then Some filters.TrapsOrClears
+    else if bytes_eq words (codes "traps,clears") || bytes_eq words (codes "clears,traps")
+    then Some filters.TrapsOrClears
     else None
 
 abbrev pub filter_of : Option Text → Option Filter
 filter_of None = Some filters.All
 filter_of (Some words) = filter_named words
 
--- the form of an explanation, by `--html`, `--json` and `--only`: a page has neither of the other two
+-- the form of an explanation, by `--html`, `--json` and `--only`: a page has neither of the other
+-- two
 abbrev pub explain_form : Bool → Bool → Option Text → Option ExplainForm
 explain_form html json only =
     if html then (if json || is_some only then None else Some forms.Page)
-    else option_map (λ filter. if json then forms.Json filter else forms.Text filter) (filter_of only)
+    else option_map (λ filter. if json then forms.Json filter else forms.Text filter)
+    (filter_of only)
 
 -- what is asked for with these words
 unfoldable pub explain_asked_of : List Row → Option ExplainAsked
@@ -65,10 +74,15 @@ explain_asked_of rows = do
   order ← first_of (codes "order") rows
   first ← event_or 0 (first_of (codes "from") rows)
   last ← event_or LAST_EVENT (first_of (codes "to") rows)
-  form ← explain_form (is_given (first_of (codes "html") rows)) (is_given (first_of (codes "json") rows)) (first_of (codes "only") rows)
-  if nat_le first last then Some (record { listing = listing; order = order; first = first; last = last; form = form })
+  form ← explain_form (is_given (first_of (codes "html") rows))
+      (is_given (first_of (codes "json") rows)) (first_of (codes "only") rows)
+  if nat_le first last
+      then Some
+      (record { listing = listing; order = order; first = first; last = last; form = form })
       else None
 
 -- what the words of a command line ask for, the first of which is the program's name
 unfoldable pub explain_asked : List Text → Option ExplainAsked
-explain_asked words = unless_faulty (fault_of explain_program words) (explain_asked_of (matches_of explain_program words))
+explain_asked words =
+    unless_faulty (fault_of explain_program words)
+    (explain_asked_of (matches_of explain_program words))

@@ -17,23 +17,25 @@ use Rattle.command_line.specs.declared.explore.ExploreRequest.{ExploreRequest}
 -- `[--sweep LO,HI].. [--states N] [--json]`, which each command takes
 abbrev pub with_search_options : App → App
 with_search_options app =
-    with_rule (with_rule (with_rule app (repeated_option (codes "sweep"))) (single_option (codes "states"))) (flag (codes "json"))
+    with_rule (with_rule (with_rule app (repeated_option (codes "sweep")))
+    (single_option (codes "states"))) (flag (codes "json"))
 
 -- `outcomes LISTING [--show ITEM[,ITEM]..]`
 abbrev pub outcomes_command : App
 outcomes_command =
-    with_search_options (with_rule (with_rule (new_app (codes "outcomes")) (required_word (codes "listing")))
-    (single_option (codes "show")))
+    with_search_options (with_rule (with_rule (new_app (codes "outcomes"))
+    (required_word (codes "listing"))) (single_option (codes "show")))
 
 -- `find LISTING CONDITION`
 abbrev pub find_command : App
 find_command =
-    with_search_options (with_rule (with_rule (new_app (codes "find")) (required_word (codes "listing")))
-    (required_word (codes "condition")))
+    with_search_options (with_rule (with_rule (new_app (codes "find"))
+    (required_word (codes "listing"))) (required_word (codes "condition")))
 
 -- `authority LISTING`
 abbrev pub authority_command : App
-authority_command = with_search_options (with_rule (new_app (codes "authority")) (required_word (codes "listing")))
+authority_command =
+    with_search_options (with_rule (new_app (codes "authority")) (required_word (codes "listing")))
 
 -- the program, which wants one of these
 abbrev pub explore_alone : App
@@ -41,8 +43,8 @@ explore_alone = wanting_subcommand (new_app (codes "cheri_explore"))
 
 abbrev pub explore_program : App
 explore_program =
-    with_subcommand (with_subcommand (with_subcommand explore_alone outcomes_command.top) find_command.top)
-    authority_command.top
+    with_subcommand (with_subcommand (with_subcommand explore_alone outcomes_command.top)
+    find_command.top) authority_command.top
 
 -- a request by the texts of its words
 pub data AskedQuestion : Type 0 where
@@ -74,7 +76,8 @@ explore_asked_by request = record {
 -- the sweep of a range
 abbrev pub sweep_within : ℕ → ℕ → Option Sweep
 sweep_within lo hi =
-    if nat_le lo hi && nat_le hi (2 ^ 64) && nat_lt lo (2 ^ 64) then Some (record { lo = lo; hi = hi }) else None
+    if nat_le lo hi && nat_le hi (2 ^ 64) && nat_lt lo (2 ^ 64)
+    then Some (record { lo = lo; hi = hi }) else None
 
 -- the sweep that a word `LO,HI` writes
 unfoldable pub sweep_of : Text → Option Sweep
@@ -87,7 +90,8 @@ sweep_of word = do
 -- the sweeps that words write, in their order
 unfoldable pub sweeps_of : List Text → Option (List Sweep)
 sweeps_of [] = Some []
-sweeps_of (word ∷ words) = sweep_of word >>= (λ sweep. option_map (λ sweeps. sweep ∷ sweeps) (sweeps_of words))
+sweeps_of (word ∷ words) =
+    sweep_of word >>= (λ sweep. option_map (λ sweeps. sweep ∷ sweeps) (sweeps_of words))
 
 -- which are at most eight
 abbrev pub few_sweeps_of : List Text → Option (List Sweep)
@@ -125,4 +129,5 @@ explore_asked_of name rows = do
 unfoldable pub explore_asked : List Text → Option ExploreAsked
 explore_asked words =
     unless_faulty (fault_of explore_program words)
-    (option_and_then (λ found. explore_asked_of found.0 found.1) (subcommand_of explore_program words))
+    (option_and_then (λ found. explore_asked_of found.0 found.1)
+    (subcommand_of explore_program words))

@@ -15,14 +15,16 @@ number_in base text = if is_numeral base text then Some (digits_value base text)
 
 -- the number that a text writes: decimal digits, or `0x` and hexadecimal digits of either case
 abbrev pub begins_hexadecimal : Text → Bool
-begins_hexadecimal text = nat_le 2 (length text) && (slice_index text 0 == 0x30) && (slice_index text 1 == 0x78)
+begins_hexadecimal text =
+    nat_le 2 (length text) && (slice_index text 0 == 0x30) && (slice_index text 1 == 0x78)
 
 unfoldable pub number_of : Text → Option ℕ
 number_of text = if begins_hexadecimal text then number_in 16 (drop 2 text) else number_in 10 text
 
 -- a number from a least one to a greatest one
 abbrev pub within : ℕ → ℕ → ℕ → Option ℕ
-within least greatest number = if nat_le least number && nat_le number greatest then Some number else None
+within least greatest number =
+    if nat_le least number && nat_le number greatest then Some number else None
 
 -- the number in such bounds that decimal digits write
 unfoldable pub decimal_within : ℕ → ℕ → Text → Option ℕ

@@ -40,23 +40,27 @@ turns_of word = decimal_within 1 GREATEST_TURNS word
 
 -- a race by the values of its words, if they are there
 abbrev pub race_asked : Option Text → Option Text → Bool → Option Asked
-race_asked (Some listing) (Some turns) watch = option_map (λ turns. Race listing turns watch) (turns_of turns)
+race_asked (Some listing) (Some turns) watch =
+    option_map (λ turns. Race listing turns watch) (turns_of turns)
 race_asked _ _ watch = None
 
 -- what the command of this name asks for with these words
 unfoldable pub asked_of : Text → List Row → Option Asked
 asked_of name rows =
     if bytes_eq name (codes "check") then with_one Check (first_of (codes "listing") rows)
-    else if bytes_eq name (codes "run") then with_two (λ listing order. Run listing order (form_of (first_of (codes "json") rows)))
+    else if bytes_eq name (codes "run")
+    then with_two (λ listing order. Run listing order (form_of (first_of (codes "json") rows)))
     (first_of (codes "listing") rows) (first_of (codes "order") rows)
-    else if bytes_eq name (codes "race") then race_asked (first_of (codes "listing") rows) (first_of (codes "turns") rows)
+    else if bytes_eq name (codes "race")
+    then race_asked (first_of (codes "listing") rows) (first_of (codes "turns") rows)
     (is_given (first_of (codes "watch") rows))
-    else if bytes_eq name (codes "bounds") then with_two Bounds (first_of (codes "base") rows) (first_of (codes "len") rows)
+    else if bytes_eq name (codes "bounds")
+    then with_two Bounds (first_of (codes "base") rows) (first_of (codes "len") rows)
     else if bytes_eq name (codes "decode") then with_one Decode (first_of (codes "word") rows)
     else None
 
--- What the words of a command line ask for, the first of which is the program's name: nothing where `clap` finds a
--- fault in them, or else what the command among them asks for.
+-- What the words of a command line ask for, the first of which is the program's name: nothing where
+-- `clap` finds a fault in them, or else what the command among them asks for.
 unfoldable pub asked : List Text → Option Asked
 asked words =
     unless_faulty (fault_of program words)

@@ -57,7 +57,8 @@ finds_line named = fact (codes "finds " +++ named_text named)
 
 unfoldable pub traps_line : Trapped → List ℕ
 traps_line trapped =
-    fact (codes "traps " +++ cause_name trapped.trap.cause +++ codes ": " +++ trap_why_text trapped.why)
+    fact (codes "traps " +++ cause_name trapped.trap.cause
+    +++ codes ": " +++ trap_why_text trapped.why)
 
 unfoldable pub leaves_line : NamedValue → List ℕ
 leaves_line named = fact (codes "leaves " +++ named_text named)

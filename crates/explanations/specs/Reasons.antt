@@ -33,7 +33,8 @@ abbrev pub sealed : Spot → ℕ → List ℕ
 sealed name otype = spot_name name +++ codes " is sealed (" +++ type_text otype +++ codes ")"
 
 abbrev pub lacks : Spot → ℕ → List ℕ
-lacks name permission = spot_name name +++ codes " has no " +++ permission_names (permission_set permission)
+lacks name permission =
+    spot_name name +++ codes " has no " +++ permission_names (permission_set permission)
 
 -- an address that a capability with these bounds could not have
 unfoldable pub outside_region : ℕ → ℕ → ℕ → List ℕ
@@ -53,7 +54,8 @@ why_text why.AskedFor = codes "asked for"
 why_text why.UpperReplaced = codes "upper half replaced"
 why_text (why.Sealed name otype) = sealed name otype
 why_text (why.OutsideRegion address power start) = outside_region address power start
-why_text (why.BaseBelow base limit) = codes "base " +++ h64 base +++ codes " is below " +++ h64 limit
+why_text (why.BaseBelow base limit) =
+    codes "base " +++ h64 base +++ codes " is below " +++ h64 limit
 why_text (why.EndAbove end limit) = codes "end " +++ h65 end +++ codes " is above " +++ h65 limit
 why_text (why.Rounds base top) = codes "rounds to " +++ h64 base +++ codes " " +++ h65 top
 why_text (why.Lacks name permission) = lacks name permission

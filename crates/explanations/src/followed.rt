@@ -10,7 +10,7 @@ use std::alloc::{AllocError, Global};
 
 /// The machine of a core before its first operation, to be followed. Fails only when out of
 /// memory.
-pub(crate) fn follow(alloc: Global, core: &Core) -> Result<Follower, NoMemory>
+pub fn follow(alloc: Global, core: &Core) -> Result<Follower, NoMemory>
     ensures opened { IfOk result (λ follower.
         follower ≡ opening_core core.now.image core.now.limit) }
     ensures fits { length core.now.trace ≤ core.now.limit }

@@ -16,5 +16,9 @@ mod step_json;
 mod text;
 mod whole_json;
 
+pub use followed::follow;
+
+pub use names::OriginName;
 pub use runs::{Format, explain};
 pub use selection::{Filter, Selection};
+pub use whole_json::write_json;

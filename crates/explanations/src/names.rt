@@ -44,7 +44,7 @@ impl fmt::Display for SweptName {
 /// The place of the image that has a value's capability: `0:c7`, `0:pcc` or `mem:` and a granule's
 /// address.
 #[derive(Clone, Copy)]
-pub(crate) struct OriginName(pub Place);
+pub struct OriginName(pub Place);
 
 impl fmt::Display for OriginName {
     ghost output = { λ name. Some (origin_name name.0) };

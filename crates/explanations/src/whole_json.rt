@@ -231,9 +231,9 @@ fn write_end(alloc: Global, out: &mut String, image: &Image) -> Result<(), NoMem
     Ok(())
 }
 
-/// Writes the explanation of what a core took, in JSON. After a fault the sink took a beginning of
-/// it.
-pub(crate) fn write_json<S: Sink>(
+/// Writes the explanation of what a core took, in JSON; `lines` has the number of each
+/// instruction's line. After a fault the sink took a beginning of it.
+pub fn write_json<S: Sink>(
     alloc: Global,
     core: &Core,
     lines: &[u32],

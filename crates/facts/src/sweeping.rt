@@ -12,12 +12,10 @@ ghost use Rattle.std.specs.Prelude.{
   IfOk,
   OnOk,
   length,
-  slice_index_or,
 };
 ghost use Rattle.cap_model.specs.results.Swept.{is_in_sweep};
 ghost use Rattle.cheri_model.specs.steps.Hart.{register};
 ghost use Rattle.cheri_model.specs.steps.Memory.{granule_at};
-ghost use Rattle.cheri_model.specs.runs.Machine.{no_hart};
 ghost use Rattle.facts.specs.EventFacts.{
   swept_among,
   swept_in_hart,
@@ -27,7 +25,7 @@ ghost use Rattle.facts.specs.EventFacts.{
 
 use cap_ops::Cap;
 use cheri_model::{NoMemory, Reg};
-use hart::Hart;
+use hart::{Hart, hart_in};
 use origins::Place;
 use std::alloc::Global;
 use tagged_mem::Ram;
@@ -80,14 +78,6 @@ fn add_hart(
     add_registers(places, number, hart, lo, hi)
 }
 
-/// The hart with this number.
-fn hart_in(harts: &[Hart], number: usize) -> Hart
-    requires { number < length harts.now }
-    ensures { result ≡ slice_index_or harts.now number no_hart }
-{
-    harts[number]
-}
-
 /// The same of all harts, of which there are at most 256.
 fn add_harts(places: &mut Vec<Place>, harts: &[Hart], lo: u64, hi: u128) -> Result<(), NoMemory>
     requires { length harts.now ≤ 255 }
@@ -95,8 +85,7 @@ fn add_harts(places: &mut Vec<Place>, harts: &[Hart], lo: u64, hi: u128) -> Resu
         ≡ places.old.items ++ swept_in_harts lo hi harts.now (length harts.now)) }
 {
     for i in 0..harts.len() {
-        let hart = hart_in(harts, i);
-        add_hart(places, i as u8, &hart, lo, hi)?;
+        add_hart(places, i as u8, hart_in(harts, i), lo, hi)?;
     }
     Ok(())
 }

@@ -1,12 +1,12 @@
 //! The core that is followed.
 
 ghost use Rattle.std.specs.Prelude.{◌≡◌, ◌↔◌, ◌<◌, [], IfOk, IfErr, OnOk, OnErr, Err, None, false};
-ghost use Rattle.std.specs.Prelude.{length, slice_index_or};
+ghost use Rattle.std.specs.Prelude.{length};
 ghost use Rattle.cap_model.specs.values.Capability.{Capability};
 ghost use Rattle.cap_model.specs.values.CapValue.{valid};
 ghost use Rattle.cheri_model.specs.runs.Replay.{operations_of};
 ghost use Rattle.cheri_model.specs.steps.HartStep.{hart_step};
-ghost use Rattle.cheri_model.specs.runs.Machine.{hart_at, no_hart};
+ghost use Rattle.cheri_model.specs.runs.Machine.{hart_at};
 ghost use Rattle.cores.specs.Cores.{IsCore, opening_core, is_limit, refused, applied, core_after};
 ghost use Rattle.hart.specs.View.{state_of};
 ghost use Rattle.origins.specs.OriginLaw.{HasOrigin};
@@ -25,7 +25,7 @@ use crate::fault::SweepFault;
 use cheri_model::{Image, Instr, NoMemory, Op, Outcome};
 use cores::{BootFault, Core, StepFault};
 use facts::{StepFacts, after_step, before_step, flows_of_step, swept_places};
-use hart::{Hart, View};
+use hart::{Hart, View, hart_in};
 use origins::{OriginTable, Place};
 use std::alloc::Global;
 use std::marker::Model;
@@ -63,14 +63,6 @@ fn opening_table(alloc: Global, core: &Core) -> Result<OriginTable, NoMemory>
     let _granules = view.image.granules();
     let harts = view.harts.len() as u8;
     OriginTable::open(alloc, harts, view.ram.granule_count() as u32)
-}
-
-/// The hart with this number.
-fn hart_in(harts: &[Hart], number: usize) -> &Hart
-    requires { number < length harts.now }
-    ensures { result.now ≡ slice_index_or harts.now number no_hart }
-{
-    &harts[number]
 }
 
 /// A hart of a core.

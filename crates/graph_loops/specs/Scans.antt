@@ -31,7 +31,8 @@ pub record IsScanning {S : Type 0} (next : S → ℕ → Option S) (meaning : Li
   pub scanned : IsScanned next (state_at meaning nodes) (slice_index numbers) actors
       (entry moves actors) (entry runs actors) node label
 
--- states are what they were, and the scan goes on to this node and label or finds a number that rises
+-- states are what they were, and the scan goes on to this node and label or finds a number that
+-- rises
 abbrev pub ScansTo : {S : Type 0} → (S → ℕ → Option S) → (List ℕ → Option S) →
     (List ℕ → Option S) → ℕ → List (List ℕ) → List ℕ → ℕ → ℕ → List Bool → List Bool → Bool → Type 0
 ScansTo {S} next meaning meaning' actors nodes numbers node label moves runs true =

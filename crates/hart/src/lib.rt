@@ -8,4 +8,4 @@ mod view;
 
 pub use hart::Hart;
 pub use next_pcc::{at_target, jumped_to, link};
-pub use view::View;
+pub use view::{View, hart_in};

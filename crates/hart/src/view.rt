@@ -1,6 +1,7 @@
 //! What is shown of a machine at one moment.
 
-ghost use Rattle.std.specs.Prelude.{◌≡◌, ◌<◌, length};
+ghost use Rattle.std.specs.Prelude.{◌≡◌, ◌<◌, length, slice_index_or};
+ghost use Rattle.cheri_model.specs.runs.Machine.{no_hart};
 ghost use Rattle.cheri_model.specs.steps.Memory.{granule_at};
 
 use crate::hart::Hart;
@@ -17,6 +18,14 @@ pub struct View<'a> {
     pub entries: &'a [Event],
     pub harts: &'a [Hart],
     pub ram: &'a Ram,
+}
+
+/// The hart with this number.
+pub fn hart_in(harts: &[Hart], number: usize) -> &Hart
+    requires { number < length harts.now }
+    ensures { result.now ≡ slice_index_or harts.now number no_hart }
+{
+    &harts[number]
 }
 
 impl View<'_> {

@@ -17,8 +17,9 @@ goes_on Done = true
 goes_on Halt = false
 goes_on (Trap trap) = false
 
--- How many steps a refusal goes with. A hart that the first turn finds stopped took none; a full trace or no memory may
--- end any turn; and a hart that is there, and that steps, is refused for nothing else.
+-- How many steps a refusal goes with. A hart that the first turn finds stopped took none; a full
+-- trace or no memory may end any turn; and a hart that is there, and that steps, is refused for
+-- nothing else.
 abbrev pub IsRefusal : ℕ → ℕ → StepFault → Type 0
 IsRefusal turns steps HartStopped = (steps ≡ 0) × (0 < turns)
 IsRefusal turns steps TraceFull = steps < turns
@@ -37,9 +38,10 @@ IsReason turns steps (Refused fault) = IsRefusal turns steps fault
 unfoldable pub KeepsTurns : ℕ → HartReport → Type 0
 KeepsTurns turns report = (report.steps ≤ turns) × IsReason turns report.steps report.why
 
--- One report for each hart, in hart order, whose steps are the hart's own in the trace. Each hart had this many
--- turns.
-pub record AreReports (turns : ℕ) (trace : List Event) (harts : ℕ) (reports : List HartReport) : Type 0 where
+-- One report for each hart, in hart order, whose steps are the hart's own in the trace. Each hart
+-- had this many turns.
+pub record AreReports (turns : ℕ) (trace : List Event) (harts : ℕ) (reports : List HartReport)
+    : Type 0 where
   pub in_order : map (λ report. report.hart) reports ≡ range_with_len 0 harts
   pub exact : All (λ report. report.steps ≡ step_count trace report.hart) reports
   pub turned : All (KeepsTurns turns) reports

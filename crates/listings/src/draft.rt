@@ -19,7 +19,7 @@ ghost use Rattle.listings.specs.Draft.{
 ghost use Rattle.listings.specs.Meaning.{finished};
 
 use crate::fault::{LineFault, ListingFault};
-use crate::granules::{is_in_ram, listed_granules, store_bytes};
+use crate::granules::{listed_granules, store_bytes};
 use cap_ops::Cap;
 use cheri_model::{
     GRANULE_BYTES, HartImage, Image, Instr, MAX_HARTS, MAX_INSTRUCTIONS, Reg, Value,
@@ -201,7 +201,7 @@ impl Draft {
         ensures { FillsLine result self.new (with_bytes self.old addr stored) }
     {
         let bytes = stored.bytes.as_slice();
-        if bytes.len() > BYTES_LIMIT || !is_in_ram(&self.ram, addr, bytes.len()) {
+        if bytes.len() > BYTES_LIMIT || !self.ram.holds(addr, bytes.len() as u64) {
             return Err(LineFault::Kind(ListingFaultKind::Range));
         }
         store_bytes(&mut self.ram, addr, bytes);

@@ -23,14 +23,6 @@ use tagged_mem::Ram;
 /// The bytes of a granule, as a step from address to address.
 const GRANULE: u64 = GRANULE_BYTES as u64;
 
-/// Whether this many bytes from an address on lie wholly in RAM.
-pub fn is_in_ram(ram: &Ram, addr: u64, bytes: usize) -> bool
-    ensures { result ≡ is_in_ram ram.now addr bytes }
-{
-    let end = u128::from(addr) + bytes as u128;
-    addr >= RAM_BASE && end <= u128::from(RAM_BASE) + u128::from(ram.size())
-}
-
 /// Stores bytes one after another, from an address on.
 pub fn store_bytes(ram: &mut Ram, addr: u64, bytes: &[u8])
     requires { IsTrue (is_in_ram ram.old addr (length bytes.now)) }

@@ -29,9 +29,11 @@ unfoldable pub AreDistinct : {S : Type 0} → (ℕ → Option S) → Type 0
 AreDistinct {S} at = (i j : ℕ) (s : S) → at i ≡ Some s → at j ≡ Some s → i ≡ j
 
 -- a verdict on the states that were found
-abbrev pub IsVerdict : {S : Type 0} → (S → ℕ → Option S) → ℕ → (ℕ → Option S) → Bool → Verdict → Type 0
+abbrev pub IsVerdict : {S : Type 0} → (S → ℕ → Option S) → ℕ → (ℕ → Option S) → Bool → Verdict
+    → Type 0
 IsVerdict next actors at complete (verdict.Fair given) = IsFoundFair next actors at given
 IsVerdict next actors at complete verdict.Unknown = Unit {0}
 IsVerdict next actors at complete (verdict.Unfair given) =
     (complete ≡ true) × IsKnown next actors at known.Unfair × IsFoundLoop next actors at given
-IsVerdict next actors at complete verdict.NoLoop = (complete ≡ true) × IsKnown next actors at known.NoLoop
+IsVerdict next actors at complete verdict.NoLoop =
+    (complete ≡ true) × IsKnown next actors at known.NoLoop

@@ -20,8 +20,8 @@ order_fault_name Range = codes "Range"
 abbrev pub order_fault_text : OrderFaultKind → List ℕ
 order_fault_text kind = decimal (order_fault_number kind) ++ (codes " " ++ order_fault_name kind)
 
--- a byte that no order can have after the bytes before it, a sweep's range that is none (at its `[`), and too many
--- operations, which is no single byte's fault
+-- a byte that no order can have after the bytes before it, a sweep's range that is none (at its
+-- `[`), and too many operations, which is no single byte's fault
 abbrev pub byte_fault : ℕ → OrderFault
 byte_fault place = record { offset = place; kind = Byte }
 

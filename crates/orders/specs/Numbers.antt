@@ -1,4 +1,5 @@
--- The numbers of a sweep: decimal digits, or `0x` and hexadecimal digits of either case (this project's own format).
+-- The numbers of a sweep: decimal digits, or `0x` and hexadecimal digits of either case (this
+-- project's own format).
 use Rattle.std.specs.Prelude.{ℕ, ◌+◌, ◌==◌, nat_lt, nat_le, Bool, ◌&&◌, if◌then◌else◌, List, length, drop, slice_index, Result, Ok, Err}
 use Rattle.std.specs.List.{take_while}
 use Rattle.std.specs.Char.{is_digit}
@@ -6,9 +7,11 @@ use Rattle.std.specs.Str.Parse.{digits_value}
 use Rattle.orders.specs.declared.fault.OrderFault.{OrderFault}
 use Rattle.orders.specs.Faults.{byte_fault}
 
--- The number that a text begins with: its base and prefix, its digits, which are as many as there are, and its value.
+-- The number that a text begins with: its base and prefix, its digits, which are as many as there
+-- are, and its value.
 abbrev pub begins_hexadecimal : List ℕ → Bool
-begins_hexadecimal text = nat_le 2 (length text) && (slice_index text 0 == 0x30) && (slice_index text 1 == 0x78)
+begins_hexadecimal text =
+    nat_le 2 (length text) && (slice_index text 0 == 0x30) && (slice_index text 1 == 0x78)
 
 abbrev pub base_of : List ℕ → ℕ
 base_of text = if begins_hexadecimal text then 16 else 10
@@ -26,13 +29,15 @@ number_of text = digits_value (base_of text) (digits_of text)
 abbrev pub has_byte : ℕ → List ℕ → ℕ → Bool
 has_byte b text place = nat_lt place (length text) && (slice_index text place == b)
 
--- Where the number from a place on ends, which this byte has to close: the byte's place. The fault is at the first byte
--- that neither goes on with the number nor, after a digit, closes it.
+-- Where the number from a place on ends, which this byte has to close: the byte's place. The fault
+-- is at the first byte that neither goes on with the number nor, after a digit, closes it.
 abbrev pub digits_end : List ℕ → ℕ → ℕ
-digits_end text place = place + prefix_bytes (drop place text) + length (digits_of (drop place text))
+digits_end text place =
+    place + prefix_bytes (drop place text) + length (digits_of (drop place text))
 
 unfoldable pub number_end : ℕ → List ℕ → ℕ → Result ℕ OrderFault
 number_end closer text place =
-    if nat_lt 0 (length (digits_of (drop place text))) && has_byte closer text (digits_end text place)
+    if nat_lt 0 (length (digits_of (drop place text)))
+    && has_byte closer text (digits_end text place)
     then Ok (digits_end text place)
     else Err (byte_fault (digits_end text place))

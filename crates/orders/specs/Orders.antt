@@ -1,5 +1,5 @@
--- Orders: texts of digits, each of which asks for one step of that hart, and in version 2 of sweeps (this project's own
--- format).
+-- Orders: texts of digits, each of which asks for one step of that hart, and in version 2 of sweeps
+-- (this project's own format).
 use Rattle.std.specs.Prelude.{◌≡◌, ℕ, ◌+◌, ◌-◌, ◌≤◌, ◌<◌, ◌==◌, nat_eq, nat_lt, nat_le, Bool, ◌&&◌, ◌||◌, if◌then◌else◌, List, [], ◌∷◌, ◌++◌, length, drop, Option, Some, None, Result, Ok, Err, IsOk, Vec, codes}
 use Rattle.std.specs.List.{starts_with, cons_option}
 use Rattle.std.specs.Global.{Global}
@@ -17,7 +17,8 @@ pub use Rattle.orders.specs.Faults.{order_fault_number, order_fault_name, order_
 abbrev pub order_limit : ℕ
 order_limit = ORDER_LIMIT
 
--- an order of version 2 begins with `order 2` and a newline, and any other text is an order of version 1
+-- an order of version 2 begins with `order 2` and a newline, and any other text is an order of
+-- version 1
 abbrev pub header : List ℕ
 header = codes "order 2" ++ 0x0A ∷ []
 
@@ -35,20 +36,22 @@ is_hart_digit b = nat_le 0x30 b && nat_le b 0x37
 abbrev pub is_blank : ℕ → Bool
 is_blank b = (b == 0x20) || (b == 0x0A)
 
--- the token at a place, where this byte is: the operation that it asks for, if any, and the place after it
+-- the token at a place, where this byte is: the operation that it asks for, if any, and the place
+-- after it
 unfoldable pub token_at : List ℕ → ℕ → ℕ → Result (Option Op × ℕ) OrderFault
 token_at text place b =
     if is_hart_digit b then Ok (Some (operation.Step (b - 0x30)), place + 1)
     else if is_blank b then Ok (None, place + 1)
-    else if (b == 0x5B) && is_version_2 text then sweep_at text place >>= (λ sweep. Ok (Some sweep.0, sweep.1))
+    else if (b == 0x5B) && is_version_2 text
+    then sweep_at text place >>= (λ sweep. Ok (Some sweep.0, sweep.1))
     else Err (byte_fault place)
 
 -- an operation that was read, or the fault in its place, as a token
 abbrev pub as_token : Result (Op × ℕ) OrderFault → Result (Option Op × ℕ) OrderFault
 as_token read = read >>= (λ operation. Ok (Some operation.0, operation.1))
 
--- The operations of a text, first one first, from its bytes from a place on. Those before `next` are of a token that
--- was read.
+-- The operations of a text, first one first, from its bytes from a place on. Those before `next`
+-- are of a token that was read.
 unfoldable pub operations_from : List ℕ → ℕ → ℕ → List ℕ → Result (List Op) OrderFault
 operations_from text next place [] = Ok []
 operations_from text next place (b ∷ rest) =
@@ -81,7 +84,8 @@ pub record IsGoodFrom (text : List ℕ) (place : ℕ) : Type 0 where
 
 -- an order that is not too long
 abbrev pub within_limit : List Op → Result (List Op) OrderFault
-within_limit operations = if nat_lt order_limit (length operations) then Err size_fault else Ok operations
+within_limit operations =
+    if nat_lt order_limit (length operations) then Err size_fault else Ok operations
 
 -- The meaning of a text as an order: its operations, in turn, or the fault.
 unfoldable pub order_of : List ℕ → Result (List Op) OrderFault

@@ -11,7 +11,8 @@ use Rattle.orders.specs.Numbers.{number_of, number_end}
 -- the sweep of a range, or the fault at its `[`
 abbrev pub sweep_of : ℕ → ℕ → ℕ → Result Op OrderFault
 sweep_of place lo hi =
-    if is_range lo hi && nat_lt lo ADDRESS_SPACE then Ok (operation.Sweep lo hi) else Err (range_fault place)
+    if is_range lo hi && nat_lt lo ADDRESS_SPACE then Ok (operation.Sweep lo hi)
+    else Err (range_fault place)
 
 -- the sweep whose `[` is at a place, and the place after its `]`
 unfoldable pub sweep_at : List ℕ → ℕ → Result (Op × ℕ) OrderFault

@@ -19,8 +19,8 @@ abbrev pub Steps : List Op → ℕ → Type 0
 Steps [] hart = ⊥
 Steps (op ∷ order) hart = (op ≡ operation.Step hart) ⊎ Steps order hart
 
--- A loop of a state: an order of steps and of these sweeps that is legal there and leads back to the
--- state, with at least one step.
+-- A loop of a state: an order of steps and of these sweeps that is legal there and leads back to
+-- the state, with at least one step.
 pub record IsLoop (image : ImageParts) (sweeps : List SweepRange) (state : MachineState)
     (cycle : List Op) : Type 0 where
   pub allowed : AreAllowed sweeps cycle

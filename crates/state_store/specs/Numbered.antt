@@ -13,7 +13,8 @@ IsDistinct {A} xs = (i k : ℕ) (x : A) → slice_get xs i ≡ Some x → slice_
 -- something has this number: it was there, and nothing changed, or it is the new last one
 abbrev pub IsNumbered : {A : Type 0} → List A → List A → A → ℕ → Type 0
 IsNumbered {A} old new x number =
-    (slice_get new number ≡ Some x) × ((new ≡ old) ⊎ ((new ≡ old ++ x ∷ []) × (number ≡ length old)))
+    (slice_get new number ≡ Some x)
+    × ((new ≡ old) ⊎ ((new ≡ old ++ x ∷ []) × (number ≡ length old)))
 
 -- nothing was added, or what has this number is the new last one
 abbrev pub IsThereOrLast : {A : Type 0} → List A → List A → ℕ → Type 0

@@ -46,7 +46,8 @@ memory_at store id =
 -- the state of a memory's number and those of harts
 abbrev pub state_with : Stored → ℕ → List ℕ → Option MachineState
 state_with store memory harts =
-    option_and_then (λ m. option_map (λ hs. record { harts = hs; memory = m }) (each (hart_at store) harts))
+    option_and_then
+    (λ m. option_map (λ hs. record { harts = hs; memory = m }) (each (hart_at store) harts))
     (memory_at store memory)
 
 unfoldable pub state_of : Stored → List ℕ → Option MachineState

@@ -13,8 +13,8 @@ use Rattle.schedules.specs.Schedules.{next, AreLabelsOf, AreAllowed}
 use Rattle.state_store.specs.Stores.{Stored}
 use Rattle.states.specs.Graphs.{GraphParts, state_in}
 
--- the rows of the states in a store, the edges by which they were found, the limit of the search, and
--- whether these are all
+-- the rows of the states in a store, the edges by which they were found, the limit of the search,
+-- and whether these are all
 pub record KeptParts : Type 0 where
   pub image : ImageParts
   pub sweeps : List SweepRange

@@ -42,7 +42,8 @@ pub record IsLocalStep (program : List Instr) (store : Stored) (hart value : ℕ
   pub granule : CapValue
   pub hart_is : hart_at store hart ≡ Some before
   pub value_is : slice_get store.values value ≡ Some granule
-  pub hart_after : hart_at store after.hart ≡ Some (local_step program store.granules before granule).hart
+  pub hart_after :
+      hart_at store after.hart ≡ Some (local_step program store.granules before granule).hart
   pub value_after :
       slice_get store.values after.value ≡ Some (local_value program store.granules before granule)
 
@@ -51,7 +52,8 @@ pub record IsTabled (program : List Instr) (store : Stored) (sites : List ℕ) (
     (steps : List LocalStep) : Type 0 where
   pub even : length sites ≡ length store.harts
   pub sites_are : (id site : ℕ) → slice_get sites id ≡ Some site →
-      (hart : HartState) × (hart_at store id ≡ Some hart) × (site ≡ site_of program store.granules hart)
+      (hart : HartState) × (hart_at store id ≡ Some hart)
+      × (site ≡ site_of program store.granules hart)
   pub as_many : length steps ≡ length keys
   pub steps_are : (k hart value : ℕ) (after : LocalStep) →
       slice_get keys k ≡ Some (hart ∷ value ∷ []) → slice_get steps k ≡ Some after →

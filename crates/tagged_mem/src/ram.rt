@@ -27,6 +27,7 @@ ghost use Rattle.cheri_model.specs.steps.Memory.{
   granule_at,
   is_ram_size,
   cleared_memory,
+  is_in_ram,
   fits,
   load_data,
   store_data,
@@ -132,13 +133,20 @@ impl Ram {
         self.bytes.as_slice()
     }
 
+    /// Whether `bytes` bytes from `addr` on lie wholly in RAM.
+    pub fn holds(&self, addr: u64, bytes: u64) -> bool
+        ensures { result ≡ is_in_ram self.now addr bytes }
+    {
+        let end = u128::from(addr) + u128::from(bytes);
+        let ram_end = u128::from(RAM_BASE) + u128::from(self.size());
+        addr >= RAM_BASE && end <= ram_end
+    }
+
     /// Whether an access of `bytes` bytes, at least one, is aligned to them and lies wholly in RAM.
     pub fn fits(&self, addr: u64, bytes: u64) -> bool
         ensures { result ≡ fits self.now addr bytes }
     {
-        let end = u128::from(addr) + u128::from(bytes);
-        let ram_end = u128::from(RAM_BASE) + u128::from(self.size());
-        bytes > 0 && addr % bytes == 0 && addr >= RAM_BASE && end <= ram_end
+        bytes > 0 && addr % bytes == 0 && self.holds(addr, bytes)
     }
 
     /// The number that the bytes from `addr` on are, the least significant first, whatever the tag.

@@ -6,8 +6,7 @@ ghost use Rattle.cap_model.specs.results.EditedWords.{word_of_halves};
 ghost use Rattle.cap_ops.specs.Tagged.{is_encoding, stored_exponent, length_steps, value_from};
 
 use super::Cap;
-use crate::fields::exclusive_or_null;
-use cap_bounds::{decode_base, fields};
+use cap_bounds::{decode_base, exclusive_or_null, fields};
 use cap_model::{ADDRESS_SPACE, LAST_SEALABLE_TYPE, MAX_EXPONENT};
 
 impl Cap {

@@ -11,14 +11,14 @@ ghost use Rattle.cheri_model.specs.steps.Checks.{
   size_of,
   stores_capability,
 };
-ghost use Rattle.cheri_model.specs.steps.Memory.{fits, is_in_ram};
+ghost use Rattle.cheri_model.specs.steps.Memory.{fits};
 
 use crate::checks::{
     check, first_failing, lacks, outside, sealed, unaligned, untagged, without_needed,
 };
 use cap_ops::Cap;
 use cheri_model::permission::{GLOBAL, LOAD, STORE, STORE_CAP, STORE_LOCAL};
-use cheri_model::{Access, GRANULE_BYTES, RAM_BASE, Trap};
+use cheri_model::{Access, GRANULE_BYTES, Trap};
 use tagged_mem::Ram;
 
 /// The bytes that an access moves.
@@ -68,14 +68,6 @@ fn stored_kind(kind: Access, stored: Option<Cap>) -> (bool, bool)
     }
 }
 
-/// Whether this many bytes from an address on lie wholly in RAM.
-fn in_ram(ram: &Ram, from: u64, bytes: u64) -> bool
-    ensures { result ≡ is_in_ram ram.now from bytes }
-{
-    let end = u128::from(RAM_BASE) + u128::from(ram.size());
-    from >= RAM_BASE && u128::from(from) + u128::from(bytes) <= end
-}
-
 /// The table of the checks of an access.
 #[tactic(auto, unfolding(cheri_model::specs::steps::Checks::access_table))]
 fn table_verdict(
@@ -99,7 +91,7 @@ fn table_verdict(
         without_needed(local, auth, STORE_LOCAL, Trap::STORE_LOCAL, reg),
         outside(auth, addr, bytes, reg),
         unaligned(addr, bytes, reg),
-        check(!in_ram(ram, addr, bytes), Trap::PLACE, reg),
+        check(!ram.holds(addr, bytes), Trap::PLACE, reg),
     ])
 }
 

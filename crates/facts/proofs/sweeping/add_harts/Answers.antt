@@ -6,5 +6,5 @@ loop-i-init c = harts_none _ _ _ _
 
 pub loop-i-preserved : goal.loop-i-preserved
 loop-i-preserved c =
-    let more = rw c.hart_in-hart.ensures at c.in_ok-add_hart.ensures in
+    let more = rw c.hart_in.ensures at c.in_ok-add_hart.ensures in
     harts_more _ _ _ c.loop-i.i _ _ _ c.loop-i.invariant more

@@ -26,7 +26,7 @@ returns c =
     let length = c.outside.ensures ∙ ap (λ (n : ℕ). check_line (not (in_bounds auth addr n)) cause.LENGTH reg) bytes in
     let aligned = c.unaligned.ensures ∙ ap (λ (n : ℕ). check_line (not (addr % n == 0)) cause.ALIGNMENT reg) bytes in
     let placed = c.check.ensures
-    ∙ ap (λ (b : Bool). check_line (not b) cause.PLACE reg) (c.in_ram.ensures ∙ ap (λ (n : ℕ). is_in_ram c.args.ram.now addr n) bytes) in
+    ∙ ap (λ (b : Bool). check_line (not b) cause.PLACE reg) (c.holds.ensures ∙ ap (λ (n : ℕ). is_in_ram c.args.ram.now addr n) bytes) in
     c.first_failing.ensures
     ∙ ap first_failing
     (cons_same c.untagged.ensures (cons_same c.sealed.ensures (cons_same load (cons_same store (cons_same tagged
