@@ -12,9 +12,11 @@ use std::process::Abort;
 use std::test::Fail;
 use tagged_mem::Ram;
 
+mod accesses;
 mod capabilities;
 mod fetches;
 mod granules;
+mod immediates;
 mod integers;
 mod invokes;
 mod jumps;

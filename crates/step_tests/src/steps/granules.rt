@@ -154,7 +154,7 @@ fn swaps_load_and_store(rt: HostRuntime) -> Result<(), Fail> {
             Tagged(tagged, UPPER, 0x8000_0000),
             "{why}"
         );
-        assert_eq!(rt; tagged_word(left.granule), TaggedTagged(false, 0, 9), "{why}");
+        assert_eq!(rt; tagged_word(left.granule), Tagged(false, 0, 9), "{why}");
         assert_eq!(rt; left.hart.pcc().addr(), 0x1000_0004, "{why}");
     }
     Ok(())

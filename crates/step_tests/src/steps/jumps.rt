@@ -79,7 +79,7 @@ fn taken_branches_stay_in_bounds(rt: HostRuntime) -> Result<(), Fail> {
 }
 
 /// PCC after a link: the next instruction, sealed as a sentry.
-const LINK: Tagged = TaggedTagged(true, 0x0006_0000_0c05_8004, NEXT);
+const LINK: Tagged = Tagged(true, 0x0006_0000_0c05_8004, NEXT);
 
 /// A jump leaves a link in c7, and this PCC, and changes nothing else.
 fn links(rt: &impl Abort, alloc: Global, why: &str, instr: Instr, hart: Hart, pcc: Tagged) {
@@ -104,7 +104,7 @@ fn jumps_link(rt: HostRuntime) -> Result<(), Fail> {
     ];
     for (why, number, addr) in rows {
         let target = Target::new(number);
-        let pcc = TaggedTagged(true, 0x0006_0000_0405_8004, addr);
+        let pcc = Tagged(true, 0x0006_0000_0405_8004, addr);
         let hart = hart_with(NULL, NULL)?;
         links(&rt, rt.alloc(), why, Instr::CJal { cd, target }, hart, pcc);
     }
@@ -141,7 +141,7 @@ fn jumps_through_registers_link(rt: HostRuntime) -> Result<(), Fail> {
     ];
     for (why, through, imm, addr) in rows {
         let hart = hart_with(through, NULL)?;
-        let pcc = TaggedTagged(true, 0x0002_0000_0405_8004, addr);
+        let pcc = Tagged(true, 0x0002_0000_0405_8004, addr);
         links(&rt, rt.alloc(), why, Instr::CJalr { cd, c1, imm }, hart, pcc);
     }
     Ok(())
@@ -160,7 +160,7 @@ fn jumps_through_registers_without_a_link(rt: HostRuntime) -> Result<(), Fail> {
         let hart = hart_with(through, NULL)?;
         let left = after(&rt, rt.alloc(), Instr::CJalr { cd, c1, imm }, hart, Cap::null());
         assert!(rt; matches!(&left.outcome, Outcome::Done), "{why}");
-        let pcc = TaggedTagged(true, 0x0002_0000_0405_8004, addr);
+        let pcc = Tagged(true, 0x0002_0000_0405_8004, addr);
         assert_eq!(rt; tagged_word(left.hart.pcc()), pcc, "{why}");
         assert_eq!(rt; left.hart.register(cd), Cap::null(), "{why}");
         let mut wanted = hart;
@@ -188,7 +188,7 @@ fn jumps_through_registers_are_checked_in_order(rt: HostRuntime) -> Result<(), F
         ("sealed, and without Execute", Given::Sealed(0x1000_0000, 16, 0x1000_0000, 0x4, 5), 0, 2),
         ("sealed", Given::Sealed(0x1000_0000, 16, 0x1000_0000, 0x2, 5), 0, 2),
         ("a sentry with an offset", ENTRY, 4, 2),
-        ("a sentry with an offset that is dropped elsewhere", ENTRY, 1, 2),
+        ("a sentry with an offset of 1", ENTRY, 1, 2),
         ("without Execute, and out of bounds", Given::Open(0x1000_0000, 16, 0x1000_0000, 0x4), 16, 3),
         ("past the bounds, and no multiple of 4", CODE, 14, 8),
         ("right past the bounds", CODE, 16, 8),
