@@ -2,6 +2,7 @@
 
 use cores::StepFault;
 use explanations::{Filter, Format, Selection, explain};
+use samples::FIRST;
 use sinks::MemSink;
 use std::alloc::Global;
 use std::process::Abort;
@@ -14,14 +15,7 @@ pub(crate) const ALL: Selection = Selection {
     filter: Filter::All,
 };
 
-/// Two harts that bound a capability, read its length and stop, with 4,096 bytes of memory.
-pub(crate) const FIRST: &str = ".hart 0x10000000 16 0x10000000 execute+load\n\
-.set c5 cap 0x80000000 4096 0x80000000 load+store\n\
-.hart 0x10000000 16 0x10000000 execute+load\n\
-.set c5 cap 0x80000000 4096 0x80000000 load+store\n\
-addi c6, c0, 100\ncsetbounds c7, c5, c6\ncgetlen c8, c7\necall\n";
-
-/// What is said of its hart 0.
+/// What is said of hart 0 of the first worked run.
 pub(crate) const FIRST_TEXT: &str = "\
 cheri-sim explanation 1
 image harts=2 ram=4096 code=4
@@ -70,7 +64,9 @@ fn an_empty_order_has_no_event(rt: HostRuntime) -> Result<(), Fail> {
     let text = explained(&rt, rt.alloc(), FIRST, b"", ALL)?;
     assert!(rt;
         text.bytes()
-            == b"cheri-sim explanation 1\nimage harts=2 ram=4096 code=4\nentries 0\nend\n".as_slice()
+            == b"cheri-sim explanation 1\nimage harts=2 ram=4096 code=4\nentries 0\n\
+            end\n"
+                .as_slice()
     );
     Ok(())
 }

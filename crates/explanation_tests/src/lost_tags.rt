@@ -3,15 +3,19 @@
 //! A row sets c5 and c6, where it says so, and runs one instruction. The words are those of the
 //! format's table, for values that were computed by hand.
 
+mod seals;
+
 use crate::explaining::{ALL, explained};
-use crate::rows::{
-    BELOW, GRANULE, LOAD, NEAR_TOP, NONE, SENTRY, TYPED, WHOLE, WORD, ends_with, listing,
-};
+use crate::rows::{BELOW, GRANULE, NEAR_TOP, NONE, TYPED, WHOLE, WORD, ends_with, listing};
+use std::alloc::Global;
 use std::process::Abort;
 use std::test::Fail;
 
-/// A result in c7 without a tag: c5, c6, the instruction, and why.
-const CLEARED: &[(&str, &str, &str, &str)] = &[
+/// c5, c6, an instruction, and why its result in c7 has no tag.
+type Row = (&'static str, &'static str, &'static str, &'static str);
+
+/// Values that are copied, moved, bounded and rebuilt.
+const CLEARED: &[Row] = &[
     (GRANULE, "", "ccleartag c7, c5", "asked for"),
     (
         GRANULE,
@@ -127,233 +131,78 @@ const CLEARED: &[(&str, &str, &str, &str)] = &[
         "cap 0x80000000 16 0x80000000 load+store",
         WORD,
         "cbuildcap c7, c5, c6",
-        "c6 has global+execute+load_cap+store_cap+store_local+seal+cinvoke+unseal+sysregs+set_cid+sw0+sw1+sw2+sw3 that c5 lacks",
+        "c6 has global+execute+load_cap+store_cap+store_local+seal+cinvoke+unseal+sysregs+\
+        set_cid+sw0+sw1+sw2+sw3 that c5 lacks",
     ),
     (
         NONE,
         WORD,
         "cbuildcap c7, c5, c6",
-        "c6 has global+execute+load+store+load_cap+store_cap+store_local+seal+cinvoke+unseal+sysregs+set_cid+sw0+sw1+sw2+sw3 that c5 lacks",
+        "c6 has global+execute+load+store+load_cap+store_cap+store_local+seal+cinvoke+unseal+\
+        sysregs+set_cid+sw0+sw1+sw2+sw3 that c5 lacks",
     ),
     (
         WHOLE,
         "word 0x00000000020018000000000000000000",
         "cbuildcap c7, c5, c6",
-        "address 0000000000000000 is outside the representable region of 2^14 bytes at 7ffffffffffff800",
+        "address 0000000000000000 is outside the representable region of 2^14 bytes at \
+        7ffffffffffff800",
     ),
     (
         GRANULE,
         "int 0x7ffff7ff",
         "csetaddr c7, c5, c6",
-        "address 000000007ffff7ff is outside the representable region of 2^14 bytes at 000000007ffff800",
+        "address 000000007ffff7ff is outside the representable region of 2^14 bytes at \
+        000000007ffff800",
     ),
     (
         GRANULE,
         "int 0x3800",
         "cincoffset c7, c5, c6",
-        "address 0000000080003800 is outside the representable region of 2^14 bytes at 000000007ffff800",
+        "address 0000000080003800 is outside the representable region of 2^14 bytes at \
+        000000007ffff800",
     ),
     (
         "cap 0x80000000 16 0x7ffff900 load",
         "",
         "cincoffsetimm c7, c5, -2048",
-        "address 000000007ffff100 is outside the representable region of 2^14 bytes at 000000007ffff800",
+        "address 000000007ffff100 is outside the representable region of 2^14 bytes at \
+        000000007ffff800",
     ),
     (
         "cap 0 16 0 load",
         "int 0xfffffffffffff7ff",
         "cincoffset c7, c5, c6",
-        "address fffffffffffff7ff is outside the representable region of 2^14 bytes at fffffffffffff800",
+        "address fffffffffffff7ff is outside the representable region of 2^14 bytes at \
+        fffffffffffff800",
     ),
     (
         "cap 0x100000 0x100000 0x100000 load",
         "int 0x480000",
         "csetaddr c7, c5, c6",
-        "address 0000000000480000 is outside the representable region of 2^22 bytes at 0000000000080000",
+        "address 0000000000480000 is outside the representable region of 2^22 bytes at \
+        0000000000080000",
     ),
     (
         "cap 0 0x2000000000000000 0 load",
         "int 0x7000000000000000",
         "csetaddr c7, c5, c6",
-        "address 7000000000000000 is outside the representable region of 2^63 bytes at f000000000000000",
+        "address 7000000000000000 is outside the representable region of 2^63 bytes at \
+        f000000000000000",
     ),
     (
         "",
         "",
         "auipcc c7, 4",
-        "address 0000000010004000 is outside the representable region of 2^14 bytes at 000000000ffff800",
+        "address 0000000010004000 is outside the representable region of 2^14 bytes at \
+        000000000ffff800",
     ),
     (
         "",
         "",
         "auipcc c7, 1048575",
-        "address 000000000ffff000 is outside the representable region of 2^14 bytes at 000000000ffff800",
-    ),
-    (GRANULE, "int 5", "cseal c7, c5, c6", "c6 is untagged"),
-    (
-        GRANULE,
-        "cap 0 100 5 seal 7",
-        "cseal c7, c5, c6",
-        "c6 is sealed (7)",
-    ),
-    (
-        GRANULE,
-        "cap 0 100 5 seal sentry",
-        "cseal c7, c5, c6",
-        "c6 is sealed (sentry)",
-    ),
-    (
-        GRANULE,
-        "cap 0 100 5 unseal",
-        "cseal c7, c5, c6",
-        "c6 has no seal",
-    ),
-    (
-        GRANULE,
-        "cap 0 100 100 seal",
-        "cseal c7, c5, c6",
-        "type 0000000000000064 is not in 0000000000000000 00000000000000064 of c6",
-    ),
-    (
-        GRANULE,
-        "cap 6 10 5 seal",
-        "cseal c7, c5, c6",
-        "type 0000000000000005 is not in 0000000000000006 00000000000000010 of c6",
-    ),
-    (
-        GRANULE,
-        "cap 0 18446744073709551616 262140 seal",
-        "cseal c7, c5, c6",
-        "type 000000000003fffc is above 262139",
-    ),
-    (
-        GRANULE,
-        "",
-        "cseal c7, c5, c5",
-        "type 0000000080000000 is above 262139",
-    ),
-    (LOAD, "", "csealentry c7, c5", "c5 has no execute"),
-    (
-        TYPED,
-        "int 0xffffffffffff",
-        "csetaddr c7, c5, c6",
-        "c5 is sealed (5)",
-    ),
-    (SENTRY, "", "csetaddr c7, c5, c6", "c5 is sealed (sentry)"),
-    (
-        TYPED,
-        "int 0xffffffffffff",
-        "cincoffset c7, c5, c6",
-        "c5 is sealed (5)",
-    ),
-    (SENTRY, "", "cincoffset c7, c5, c6", "c5 is sealed (sentry)"),
-    (
-        TYPED,
-        "int 0xffffffffffff",
-        "csetbounds c7, c5, c6",
-        "c5 is sealed (5)",
-    ),
-    (SENTRY, "", "csetbounds c7, c5, c6", "c5 is sealed (sentry)"),
-    (
-        TYPED,
-        "int 0xffffffffffff",
-        "csetboundsexact c7, c5, c6",
-        "c5 is sealed (5)",
-    ),
-    (
-        SENTRY,
-        "",
-        "csetboundsexact c7, c5, c6",
-        "c5 is sealed (sentry)",
-    ),
-    (
-        TYPED,
-        "int 0xffffffffffff",
-        "candperm c7, c5, c6",
-        "c5 is sealed (5)",
-    ),
-    (SENTRY, "", "candperm c7, c5, c6", "c5 is sealed (sentry)"),
-    (
-        TYPED,
-        "int 0xffffffffffff",
-        "csetflags c7, c5, c6",
-        "c5 is sealed (5)",
-    ),
-    (SENTRY, "", "csetflags c7, c5, c6", "c5 is sealed (sentry)"),
-    (
-        TYPED,
-        "int 0xffffffffffff",
-        "cseal c7, c5, c6",
-        "c5 is sealed (5)",
-    ),
-    (SENTRY, "", "cseal c7, c5, c6", "c5 is sealed (sentry)"),
-    (
-        "cap 0x80000000 16 0x80000000 all 0",
-        "",
-        "cincoffsetimm c7, c5, 2047",
-        "c5 is sealed (0)",
-    ),
-    (
-        "cap 0x80000000 16 0x80000000 none sentry",
-        "",
-        "cincoffsetimm c7, c5, 2047",
-        "c5 is sealed (sentry)",
-    ),
-    (
-        "cap 0x80000000 16 0x80000000 all 0",
-        "",
-        "csetboundsimm c7, c5, 4095",
-        "c5 is sealed (0)",
-    ),
-    (
-        "cap 0x80000000 16 0x80000000 none sentry",
-        "",
-        "csetboundsimm c7, c5, 4095",
-        "c5 is sealed (sentry)",
-    ),
-    (
-        "cap 0x80000000 16 0x80000000 all 0",
-        "",
-        "csealentry c7, c5",
-        "c5 is sealed (0)",
-    ),
-    (
-        "cap 0x80000000 16 0x80000000 none sentry",
-        "",
-        "csealentry c7, c5",
-        "c5 is sealed (sentry)",
-    ),
-    (GRANULE, "int 5", "cunseal c7, c5, c6", "c5 is not sealed"),
-    (
-        SENTRY,
-        "int 5",
-        "cunseal c7, c5, c6",
-        "c5 is sealed as sentry",
-    ),
-    (TYPED, "int 5", "cunseal c7, c5, c6", "c6 is untagged"),
-    (
-        TYPED,
-        "cap 0 100 5 unseal 0",
-        "cunseal c7, c5, c6",
-        "c6 is sealed (0)",
-    ),
-    (
-        TYPED,
-        "cap 0 100 5 seal",
-        "cunseal c7, c5, c6",
-        "c6 has no unseal",
-    ),
-    (
-        TYPED,
-        "cap 0 5 5 unseal",
-        "cunseal c7, c5, c6",
-        "type 0000000000000005 is not in 0000000000000000 00000000000000005 of c6",
-    ),
-    (
-        TYPED,
-        "cap 0 100 6 unseal",
-        "cunseal c7, c5, c6",
-        "type 0000000000000006 of c6 is not 5",
+        "address 000000000ffff000 is outside the representable region of 2^14 bytes at \
+        000000000ffff800",
     ),
 ];
 
@@ -405,13 +254,19 @@ const KEPT: &[(&str, &str, &str)] = &[
     (TYPED, "cap 0 100 5 unseal", "cunseal c7, c5, c6"),
 ];
 
-#[test]
-fn lost_tags_have_their_reasons(rt: HostRuntime) -> Result<(), Fail> {
-    for (c5, c6, instruction, why) in CLEARED {
-        let line = format!(in rt.alloc(); "  clears c7: {why}")?;
-        ends_with(&rt, rt.alloc(), (c5, c6, instruction), line.as_str())?;
+/// Each row's reason is the last of what is said.
+fn each_is_said(rt: &impl Abort, alloc: Global, rows: &[Row]) -> Result<(), Fail> {
+    for (c5, c6, instruction, why) in rows {
+        let line = format!(in alloc; "  clears c7: {why}")?;
+        ends_with(rt, alloc, (c5, c6, instruction), line.as_str())?;
     }
     Ok(())
+}
+
+#[test]
+fn lost_tags_have_their_reasons(rt: HostRuntime) -> Result<(), Fail> {
+    each_is_said(&rt, rt.alloc(), CLEARED)?;
+    each_is_said(&rt, rt.alloc(), seals::SEALED)
 }
 
 #[test]

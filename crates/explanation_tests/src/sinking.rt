@@ -1,8 +1,9 @@
 //! Explanations on sinks that take little and fail, and of texts that are refused.
 
-use crate::explaining::{ALL, FIRST, FIRST_TEXT};
+use crate::explaining::{ALL, FIRST_TEXT};
 use cores::StepFault;
 use explanations::{Format, explain};
+use samples::FIRST;
 use simulation::SimFault;
 use sinks::{MemSink, WriteFault};
 use std::alloc::Global;

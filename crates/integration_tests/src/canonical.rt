@@ -2,11 +2,10 @@
 
 mod alike;
 
-use crate::samples::FIRST;
-use listings::read_listing;
+use samples::FIRST;
 use std::alloc::Global;
 use std::test::Fail;
-use texts::write_listing;
+use texts::{read_listing, write_listing};
 
 /// Each instruction once, as a canonical listing has it.
 const EACH_INSTRUCTION: &str = "\

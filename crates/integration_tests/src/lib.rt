@@ -5,6 +5,8 @@
 #[cfg(test)]
 mod canonical;
 #[cfg(test)]
+mod common;
+#[cfg(test)]
 mod machines;
 #[cfg(test)]
 mod memory;
@@ -14,8 +16,6 @@ mod races;
 mod reporting;
 #[cfg(test)]
 mod runs;
-#[cfg(test)]
-mod samples;
 #[cfg(test)]
 mod sweeps;
 #[cfg(test)]

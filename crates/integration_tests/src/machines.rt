@@ -3,11 +3,10 @@
 
 ghost use Rattle.std.specs.Prelude.{◌≡◌};
 
+use crate::common::{TWO_HARTS, image_of, steps_of, watch_of};
 use crate::memory::{assert_may_refuse, first_image};
-use crate::samples::{TWO_HARTS, steps_of, watch_of};
 use crate::watches::looked;
 use cheri_model::{Entry, Outcome};
-use listings::read_listing;
 use machine::{
     Blanks, BootFault, Core, Machine, Naming, OpenFault, StepFault, Watch, WatchFault, run_order,
 };
@@ -20,7 +19,7 @@ use std::test::Fail;
 
 /// The core of the two harts after an order, with room for a trace of this many entries.
 fn core_after(rt: &impl Abort, alloc: Global, order: &[u8], limit: u32) -> Core {
-    let image = read_listing(alloc, TWO_HARTS).expect(rt, "the listing is good");
+    let image = image_of(rt, alloc, TWO_HARTS);
     let order = steps_of(rt, alloc, order);
     let ran = run_order(alloc, image, order.as_slice(), limit);
     let (core, refused) = ran.expect(rt, "it boots");

@@ -6,18 +6,17 @@
 //! `.ci/refuse` runs each test whose name begins with `refused_` under an allocator that refuses
 //! its N-th allocation, for N = 1, 2, .. until there are no more. It sets the variable `REFUSE`.
 
-use crate::samples::{FIRST, FIRST_JSON, FIRST_REPORT, entry_at};
+use crate::common::entry_at;
 use cheri_model::{Image, Op, Outcome, Status};
-use listings::read_listing;
 use machine::{BootFault, Core, SimFault, run_order, simulate};
-use orders::{OrderFaultKind, read_order};
 use reports::{MemSink, ReportFault, report_json, write_json, write_report};
+use samples::{FIRST, FIRST_JSON, FIRST_REPORT};
 use std::alloc::Global;
 use std::process::Abort;
 use std::rt::Env;
 use std::test::Fail;
 use tagged_mem::{MemFault, Ram};
-use texts::write_listing;
+use texts::{OrderFaultKind, read_listing, read_order, write_listing};
 
 /// The number of a listing's refusal when out of memory.
 const LISTING_NO_MEMORY: u8 = 10;

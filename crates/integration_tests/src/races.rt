@@ -3,12 +3,11 @@
 
 ghost use Rattle.std.specs.Prelude.{◌≡◌};
 
+use crate::common::{entry_at, image_of, operation_of, shows_the_same, steps_of};
 use crate::memory::assert_may_refuse;
-use crate::samples::{entry_at, operation_of, shows_the_same, steps_of};
 use cheri_model::{Event, Image, Outcome, Reg, Status, Trap};
 use gates::{EndsAt, Meeting, Tally};
 use harts::{Gate, HartReport, RunFault, Shared, Why, hart_loop, run_harts};
-use listings::read_listing;
 use machine::{Blanks, BootFault, Core, Machine, Naming, StepFault, run_order};
 use std::alloc::Global;
 use std::marker::Brand;
@@ -17,6 +16,7 @@ use std::rt::Env;
 use std::sync::Wait;
 use std::test::Fail;
 use std::thread::Threads;
+use texts::read_listing;
 
 mod gates;
 mod sweeping;
@@ -56,10 +56,6 @@ fn eight_swaps(alloc: Global) -> Result<Vec<u8>, Fail> {
 fn eight_loops(alloc: Global) -> Result<Vec<u8>, Fail> {
     let hart = ".hart 0x10000000 16 0x10000000 execute\n";
     eight_harts(alloc, hart, "addi c6, c6, 1\ncjal c0, @0\n")
-}
-
-fn image_of(rt: &impl Abort, alloc: Global, listing: &[u8]) -> Image {
-    read_listing(alloc, listing).expect(rt, "the listing is good")
 }
 
 /// Whether harts run in threads of their own, or one after another in this thread.

@@ -3,14 +3,11 @@
 mod pieces;
 mod sweeps;
 
-use crate::samples::FIRST_REPORT;
-use bitflags::Flags;
-use cap_ops::Cap;
-use cheri_model::{
-    Entry, Event, HartImage, Image, Instr, Outcome, Perms, Reg, Status, Trap, Value,
-};
+use cap_ops::{Cap, MakeFault};
+use cheri_model::{Entry, Event, Image, Outcome, Reg, Status, Trap};
 use hart_step::{Hart, View};
 use reports::{MemSink, ReportFault, Sink, SinkFailed, ToWrite, report_json, write_report};
+use samples::{ALL, FIRST_REPORT, Given, K, hart_at, image_with, made, perms};
 use std::alloc::Global;
 use std::io::{self, ErrorKind, Write};
 use std::process::Abort;
@@ -61,35 +58,10 @@ impl Shown {
     }
 }
 
-/// A hart before its first step, with this PCC.
-fn hart_at(pcc: Cap) -> Hart {
-    Hart::open(&HartImage {
-        pcc: pcc.value(),
-        regs: [Value::raw(0); 31],
-    })
-}
-
 /// An image of this many harts, bytes of RAM and instructions.
-fn image_of(
-    rt: &impl Abort,
-    alloc: Global,
-    harts: usize,
-    ram: u32,
-    code: usize,
-) -> Result<Image, Fail> {
-    let mut program = Vec::new(alloc);
-    for _ in 0..code {
-        program.push(Instr::Ecall)?;
-    }
-    let mut all = Vec::new(alloc);
-    for _ in 0..harts {
-        all.push(HartImage {
-            pcc: Value::raw(0),
-            regs: [Value::raw(0); 31],
-        })?;
-    }
-    let image = Image::new(program, ram, Vec::new(alloc), all);
-    Ok(image.expect(rt, "the parts make an image"))
+fn image_of(alloc: Global, harts: usize, ram: u32, code: usize) -> Result<Image, Fail> {
+    let image = image_with(alloc, code, ram, &[], harts)?;
+    Ok(image.ok_or("the parts make an image")?)
 }
 
 /// The event of a step of a hart.
@@ -98,27 +70,25 @@ fn step(hart: u8, pc: u64, outcome: Outcome) -> Event {
 }
 
 /// PCC of the first worked run, at an address.
-fn first_pcc(rt: &impl Abort, addr: u64) -> Cap {
-    let perms = Perms::from_bits_retain(0x6);
-    Cap::make(0x1000_0000, 16, addr, perms).expect(rt, "PCC can be made")
+fn first_pcc(addr: u64) -> Result<Cap, MakeFault> {
+    made(0x1000_0000, 16, addr, 0x6)
 }
 
 /// The capability of the first worked run over so many bytes.
-fn first_data(rt: &impl Abort, len: u128) -> Cap {
-    let perms = Perms::from_bits_retain(0xC);
-    Cap::make(0x8000_0000, len, 0x8000_0000, perms).expect(rt, "the capability can be made")
+fn first_data(len: u128) -> Result<Cap, MakeFault> {
+    made(0x8000_0000, len, 0x8000_0000, 0xC)
 }
 
 /// The first worked run at its end.
 fn first(rt: &impl Abort, alloc: Global) -> Result<Shown, Fail> {
-    let mut halted = hart_at(first_pcc(rt, 0x1000_000C));
-    halted.put(Reg::new(5), first_data(rt, 4096));
+    let mut halted = hart_at(first_pcc(0x1000_000C)?);
+    halted.put(Reg::new(5), first_data(4096)?);
     halted.put(Reg::new(6), Cap::of_int(100));
-    halted.put(Reg::new(7), first_data(rt, 100));
+    halted.put(Reg::new(7), first_data(100)?);
     halted.put(Reg::new(8), Cap::of_int(100));
     halted.set_status(Status::Halted);
-    let mut running = hart_at(first_pcc(rt, 0x1000_0000));
-    running.put(Reg::new(5), first_data(rt, 4096));
+    let mut running = hart_at(first_pcc(0x1000_0000)?);
+    running.put(Reg::new(5), first_data(4096)?);
     let entries = vec![in alloc;
         step(0, 0x1000_0000, Outcome::Done),
         step(0, 0x1000_0004, Outcome::Done),
@@ -126,24 +96,16 @@ fn first(rt: &impl Abort, alloc: Global) -> Result<Shown, Fail> {
         step(0, 0x1000_000C, Outcome::Halt),
     ]?;
     Ok(Shown {
-        image: image_of(rt, alloc, 2, 4096, 4)?,
+        image: image_of(alloc, 2, 4096, 4)?,
         entries,
         harts: vec![in alloc; halted, running]?,
         ram: Ram::new(alloc, 4096).expect(rt, "RAM can be made"),
     })
 }
 
-/// The capability of 16 bytes with these permissions.
-fn sixteen(rt: &impl Abort, perms: Perms) -> Cap {
-    let made = Cap::make(0x8000_0000, 16, 0x8000_0000, perms);
-    made.expect(rt, "the capability can be made")
-}
-
 /// The capability of 16 bytes with all permissions, sealed with a type.
-fn sealed(rt: &impl Abort, otype: u64) -> Cap {
-    let perms = Perms::from_bits_retain(0x80);
-    let authority = Cap::make(0, 0x4_0000, otype, perms).expect(rt, "the authority can be made");
-    sixteen(rt, Perms::ALL).seal(authority)
+fn sealed(otype: u64) -> Result<Cap, MakeFault> {
+    Given::Sealed(0x8000_0000, 16, 0x8000_0000, ALL, otype).cap()
 }
 
 /// A machine that shows every word of a report.
@@ -151,13 +113,13 @@ fn words(rt: &impl Abort, alloc: Global) -> Result<Shown, Fail> {
     let invoke = Trap { cause: 13, reg: 31 };
     let length = Trap { cause: 8, reg: 32 };
     let mut trapped = hart_at(Cap::null());
-    trapped.put(Reg::new(1), Cap::root(Perms::from_bits_retain(0)));
-    trapped.put(Reg::new(31), sealed(rt, 262_139));
+    trapped.put(Reg::new(1), Cap::root(perms(0)));
+    trapped.put(Reg::new(31), sealed(262_139)?);
     trapped.set_status(Status::Trapped(invoke));
-    let mut halted = hart_at(sixteen(rt, Perms::ALL).seal_entry());
+    let mut halted = hart_at(K.cap()?.seal_entry());
     halted.set_status(Status::Halted);
-    let mut running = hart_at(sixteen(rt, Perms::ALL));
-    running.put(Reg::new(2), sealed(rt, 0));
+    let mut running = hart_at(K.cap()?);
+    running.put(Reg::new(2), sealed(0)?);
     running.put(
         Reg::new(9),
         Cap::from_word(0xFFFF_FFFF_FFFF_FFFF_0000_0000_0000_0001),
@@ -169,7 +131,7 @@ fn words(rt: &impl Abort, alloc: Global) -> Result<Shown, Fail> {
         Cap::from_word(0x0005_0000_0405_AA04_0000_0000_8000_0000),
     );
     assert!(rt; ram.fits(0x8000_0020, 16));
-    ram.store_cap(0x8000_0020, sixteen(rt, Perms::from_bits_retain(5)));
+    ram.store_cap(0x8000_0020, made(0x8000_0000, 16, 0x8000_0000, 5)?);
     let entries = vec![in alloc;
         step(2, 0x1000_0000, Outcome::Done),
         step(0, u64::MAX, Outcome::Trap(invoke)),
@@ -177,7 +139,7 @@ fn words(rt: &impl Abort, alloc: Global) -> Result<Shown, Fail> {
         step(0, 0, Outcome::Halt),
     ]?;
     Ok(Shown {
-        image: image_of(rt, alloc, 3, 48, 1)?,
+        image: image_of(alloc, 3, 48, 1)?,
         entries,
         harts: vec![in alloc; trapped, halted, running]?,
         ram,
@@ -306,12 +268,10 @@ ffffc058004_0000000080000000\"},\"c9\":{\"tag\":false,\"word\":\"fffffffffffffff
 
 #[test]
 fn halted_hart_is_shown_as_json(rt: HostRuntime) -> Result<(), Fail> {
-    let perms = Perms::EXECUTE;
-    let pcc = Cap::make(0x1000_0000, 4, 0x1000_0000, perms).expect(&rt, "PCC can be made");
-    let mut halted = hart_at(pcc);
+    let mut halted = hart_at(made(0x1000_0000, 4, 0x1000_0000, 0x2)?);
     halted.set_status(Status::Halted);
     let shown = Shown {
-        image: image_of(&rt, rt.alloc(), 1, 16, 1)?,
+        image: image_of(rt.alloc(), 1, 16, 1)?,
         entries: vec![in rt.alloc(); step(0, 0x1000_0000, Outcome::Halt)]?,
         harts: vec![in rt.alloc(); halted]?,
         ram: Ram::new(rt.alloc(), 16).expect(&rt, "RAM can be made"),

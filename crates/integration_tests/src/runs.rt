@@ -1,19 +1,14 @@
 //! Runs of orders: a full trace, refused steps by number and name, and PCC at the end of its bounds
 //! and of the code.
 
-use crate::samples::{FIRST, TWO_HARTS, entry_at, steps_of};
+use crate::common::{TWO_HARTS, entry_at, image_of, steps_of};
 use cap_ops::Cap;
 use cheri_model::{HartImage, Image, Instr, Outcome, Perms, Reg, Trap, Value};
-use listings::read_listing;
 use machine::{BootFault, Core, GREATEST_TRACE_LIMIT, StepFault, run_order};
+use samples::FIRST;
 use std::alloc::Global;
 use std::process::Abort;
 use std::test::Fail;
-
-/// The image of a listing that is known to be good.
-fn image_of(rt: &impl Abort, alloc: Global, listing: &[u8]) -> Image {
-    read_listing(alloc, listing).expect(rt, "the listing is good")
-}
 
 /// The image of one instruction, `addi c6, c0, 1`, and one hart whose PCC reaches this many bytes
 /// from it on.

@@ -3,13 +3,13 @@
 
 ghost use Rattle.std.specs.Prelude.{◌≡◌};
 
-use crate::samples::{FIRST, entry_at, watch_of};
+use crate::common::{entry_at, image_of, watch_of};
 use crate::watches::looked;
 use cheri_model::{Event, Image, Op, Outcome, Reg, Trap};
 use hart_step::Hart;
-use listings::read_listing;
 use machine::{Blanks, Core, Machine, Naming, StepFault, run_order, simulate};
 use reports::MemSink;
+use samples::FIRST;
 use std::alloc::Global;
 use std::marker::Brand;
 use std::process::Abort;
@@ -21,7 +21,7 @@ const END: u128 = 1 << 64;
 
 /// The image of the first listing: two harts with a PCC and a data capability each.
 fn first_image(rt: &impl Abort, alloc: Global) -> Image {
-    read_listing(alloc, FIRST.as_bytes()).expect(rt, "the listing is good")
+    image_of(rt, alloc, FIRST.as_bytes())
 }
 
 /// The core of the first listing with room for this many events.

@@ -2,9 +2,9 @@
 
 ghost use Rattle.std.specs.Prelude.{◌≡◌};
 
-use crate::samples::{FIRST, entry_at, watch_of};
-use listings::read_listing;
+use crate::common::{entry_at, image_of, watch_of};
 use machine::{Blanks, Core, Look, Machine, Naming, Watch, WatchFault};
+use samples::FIRST;
 use std::alloc::Global;
 use std::marker::Brand;
 use std::process::Abort;
@@ -17,7 +17,7 @@ const TRIES: u32 = 1_000_000;
 
 #[test]
 fn a_watch_that_learnt_of_a_step_sees_it(rt: HostRuntime) -> Result<(), Fail> {
-    let image = read_listing(rt.alloc(), FIRST.as_bytes()).expect(&rt, "the listing is good");
+    let image = image_of(&rt, rt.alloc(), FIRST.as_bytes());
     let image = image.copy(rt.alloc()).expect(&rt, "the image is copied");
     let core = Core::boot(rt.alloc(), image, 100).expect(&rt, "it boots");
     let core = core.copy(rt.alloc()).expect(&rt, "the core is copied");
@@ -63,7 +63,7 @@ fn watched<J: Naming, R: Wait + Abort>(
 
 #[test]
 fn two_watches_look_at_once(rt: HostRuntime) -> Result<(), Fail> {
-    let image = read_listing(rt.alloc(), FIRST.as_bytes()).expect(&rt, "the listing is good");
+    let image = image_of(&rt, rt.alloc(), FIRST.as_bytes());
     let core = Core::boot(rt.alloc(), image, 100).expect(&rt, "it boots");
     looked_twice::<Brand, _>(&rt, rt.alloc(), core, Blanks::new())
 }
@@ -95,7 +95,7 @@ fn looked_twice<J: Naming, R: Wait + Abort>(
 
 #[test]
 fn there_are_eight_places(rt: HostRuntime) -> Result<(), Fail> {
-    let image = read_listing(rt.alloc(), FIRST.as_bytes()).expect(&rt, "the listing is good");
+    let image = image_of(&rt, rt.alloc(), FIRST.as_bytes());
     let core = Core::boot(rt.alloc(), image, 100).expect(&rt, "it boots");
     watched_by_eight::<Brand, _>(&rt, rt.alloc(), core, Blanks::new())
 }

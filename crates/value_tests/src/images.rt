@@ -1,59 +1,27 @@
 //! The limits of an image's sizes, and how its granules are listed, at each limit and past it.
 
-use cheri_model::{HartImage, Image, Instr, NoMemory, Value};
+use cheri_model::{Instr, NoMemory, Value};
+use samples::image_with;
 use std::alloc::Global;
 use std::test::Fail;
-
-fn repeated<T: Copy>(alloc: Global, item: T, count: usize) -> Result<Vec<T>, NoMemory> {
-    let mut items = Vec::new(alloc);
-    for _ in 0..count {
-        items.push(item)?;
-    }
-    Ok(items)
-}
-
-/// An image of this many `ecall`s, bytes of RAM and harts that hold null, with these granules.
-fn image_with(
-    alloc: Global,
-    instructions: usize,
-    ram: u32,
-    granules: &[(u64, Value)],
-    harts: usize,
-) -> Result<Option<Image>, NoMemory> {
-    let null = Value::raw(0);
-    let hart = HartImage {
-        pcc: null,
-        regs: [null; 31],
-    };
-    Ok(Image::new(
-        repeated(alloc, Instr::Ecall, instructions)?,
-        ram,
-        Vec::from_slice(alloc, granules)?,
-        repeated(alloc, hart, harts)?,
-    ))
-}
 
 #[test]
 fn sizes_have_limits(rt: HostRuntime) -> Result<(), Fail> {
     let rows = [
-        (1, 16, 1, true),
-        (16_384, 1_048_576, 8, true),
-        (0, 16, 1, false),
-        (16_385, 16, 1, false),
-        (1, 0, 1, false),
-        (1, 8, 1, false),
-        (1, 24, 1, false),
-        (1, 1_048_592, 1, false),
-        (1, 16, 0, false),
-        (1, 16, 9, false),
+        ("the least of each", 1, 16, 1, true),
+        ("the greatest of each", 16_384, 1_048_576, 8, true),
+        ("no instruction", 0, 16, 1, false),
+        ("an instruction too many", 16_385, 16, 1, false),
+        ("no RAM", 1, 0, 1, false),
+        ("half a granule", 1, 8, 1, false),
+        ("a granule and a half", 1, 24, 1, false),
+        ("a granule too many", 1, 1_048_592, 1, false),
+        ("no hart", 1, 16, 0, false),
+        ("a hart too many", 1, 16, 9, false),
     ];
-    for (instructions, ram, harts, is_taken) in rows {
+    for (why, instructions, ram, harts, is_taken) in rows {
         let image = image_with(rt.alloc(), instructions, ram, &[], harts)?;
-        assert_eq!(rt;
-            image.is_some(),
-            is_taken,
-            "{instructions} instructions, {ram} bytes, {harts} harts"
-        );
+        assert_eq!(rt; image.is_some(), is_taken, "{why}");
     }
     Ok(())
 }
@@ -69,23 +37,40 @@ fn untagged(alloc: Global, words: &[(u64, u128)]) -> Result<Vec<(u64, Value)>, N
 #[test]
 fn granules_are_aligned_in_ram_and_rising(rt: HostRuntime) -> Result<(), Fail> {
     let rows = [
-        ([].as_slice(), true),
+        ("no granule", [].as_slice(), true),
         (
+            "each granule of RAM",
             [(0x8000_0000, 1), (0x8000_0010, 1), (0x8000_0020, 1)].as_slice(),
             true,
         ),
-        ([(0x8000_0008, 1)].as_slice(), false),
-        ([(0x7FFF_FFF0, 1)].as_slice(), false),
-        ([(0x8000_0030, 1)].as_slice(), false),
-        ([(0xFFFF_FFFF_FFFF_FFF0, 1)].as_slice(), false),
-        ([(0x8000_0010, 1), (0x8000_0010, 1)].as_slice(), false),
-        ([(0x8000_0010, 1), (0x8000_0000, 1)].as_slice(), false),
-        ([(0x8000_0010, 0)].as_slice(), false),
+        ("not aligned", [(0x8000_0008, 1)].as_slice(), false),
+        ("right below RAM", [(0x7FFF_FFF0, 1)].as_slice(), false),
+        ("right above RAM", [(0x8000_0030, 1)].as_slice(), false),
+        (
+            "the last granule of the address space",
+            [(0xFFFF_FFFF_FFFF_FFF0, 1)].as_slice(),
+            false,
+        ),
+        (
+            "one granule twice",
+            [(0x8000_0010, 1), (0x8000_0010, 1)].as_slice(),
+            false,
+        ),
+        (
+            "in falling order",
+            [(0x8000_0010, 1), (0x8000_0000, 1)].as_slice(),
+            false,
+        ),
+        (
+            "an untagged 0, which is not listed",
+            [(0x8000_0010, 0)].as_slice(),
+            false,
+        ),
     ];
-    for (words, is_taken) in rows {
+    for (why, words, is_taken) in rows {
         let listed = untagged(rt.alloc(), words)?;
         let image = image_with(rt.alloc(), 1, 48, listed.as_slice(), 1)?;
-        assert_eq!(rt; image.is_some(), is_taken, "{words:?}");
+        assert_eq!(rt; image.is_some(), is_taken, "{why}");
     }
     Ok(())
 }
@@ -111,15 +96,15 @@ fn each_part_counts(rt: HostRuntime) -> Result<(), Fail> {
     let moved = [(0x8000_0000, Value::raw(1))];
     let changed = [(0x8000_0010, Value::raw(2))];
     let rows = [
-        (2, 48, granules.as_slice(), 2),
-        (3, 32, granules.as_slice(), 2),
-        (3, 48, moved.as_slice(), 2),
-        (3, 48, changed.as_slice(), 2),
-        (3, 48, granules.as_slice(), 1),
+        ("an instruction less", 2, 48, granules.as_slice(), 2),
+        ("a granule less of RAM", 3, 32, granules.as_slice(), 2),
+        ("a granule at another place", 3, 48, moved.as_slice(), 2),
+        ("a granule of another value", 3, 48, changed.as_slice(), 2),
+        ("a hart less", 3, 48, granules.as_slice(), 1),
     ];
-    for (instructions, ram, listed, harts) in rows {
+    for (why, instructions, ram, listed, harts) in rows {
         let other = image_with(rt.alloc(), instructions, ram, listed, harts)?.ok_or("no image")?;
-        assert!(rt; image != other, "{other:?}");
+        assert!(rt; image != other, "{why}");
     }
     Ok(())
 }

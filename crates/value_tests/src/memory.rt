@@ -1,7 +1,8 @@
 //! Expected values are those of a plain list of bytes, the least significant first.
 
 use cap_ops::Cap;
-use cheri_model::{Perms, Width};
+use cheri_model::Width;
+use samples::{ALL, made};
 use std::alloc::Global;
 use std::process::Abort;
 use std::test::Fail;
@@ -36,8 +37,8 @@ const AFTER_STORES: [(u128, bool); 16] = [
 
 /// The sixteen bytes from 0x8000_0000 on, with the permissions Global and Load.
 fn readable(rt: &impl Abort) -> Cap {
-    let made = Cap::make(0x8000_0000, 16, 0x8000_0000, Perms::ALL);
-    made.expect(rt, "these bounds can be made").and_perm(5)
+    let made = made(0x8000_0000, 16, 0x8000_0000, 5);
+    made.expect(rt, "these bounds can be made")
 }
 
 fn load_at(rt: &impl Abort, ram: &Ram, addr: u64, width: Width) -> u64 {
@@ -82,19 +83,24 @@ fn numbers_the_refusals(rt: HostRuntime) {
 fn fits_in_sixteen_bytes(rt: HostRuntime) -> Result<(), Fail> {
     let ram = Ram::new(rt.alloc(), 16)?;
     let rows = [
-        (0x8000_0000, 16, true),
-        (0x8000_000F, 1, true),
-        (0x8000_0008, 8, true),
-        (0x8000_000F, 2, false),
-        (0x8000_0010, 1, false),
-        (0x8000_0000, 32, false),
-        (0x7FFF_FFFF, 1, false),
-        (0x8000_0000, 0, false),
-        (0xFFFF_FFFF_FFFF_FFFF, 1, false),
-        (0xFFFF_FFFF_FFFF_FFF0, 16, false),
+        ("all of RAM", 0x8000_0000, 16, true),
+        ("the last byte", 0x8000_000F, 1, true),
+        ("the upper half", 0x8000_0008, 8, true),
+        ("past the end, and not aligned", 0x8000_000F, 2, false),
+        ("right above RAM", 0x8000_0010, 1, false),
+        ("more than RAM", 0x8000_0000, 32, false),
+        ("right below RAM", 0x7FFF_FFFF, 1, false),
+        ("no bytes", 0x8000_0000, 0, false),
+        ("the last address", 0xFFFF_FFFF_FFFF_FFFF, 1, false),
+        (
+            "the last granule of the address space",
+            0xFFFF_FFFF_FFFF_FFF0,
+            16,
+            false,
+        ),
     ];
-    for (addr, bytes, fits) in rows {
-        assert_eq!(rt; ram.fits(addr, bytes), fits, "{bytes} bytes at {addr:x}");
+    for (why, addr, bytes, fits) in rows {
+        assert_eq!(rt; ram.fits(addr, bytes), fits, "{why}");
     }
     Ok(())
 }
@@ -263,7 +269,7 @@ impl Plain {
 
 /// The capability that is stored with this number: an open one, one of more bytes, or a sealed one.
 fn stored_number(rt: &impl Abort, n: u64) -> Cap {
-    let wide = Cap::make(0x8000_0000, 256, 0x8000_0010 + n % 200, Perms::ALL);
+    let wide = made(0x8000_0000, 256, 0x8000_0010 + n % 200, ALL);
     let wide = wide.expect(rt, "these bounds can be made");
     match n % 3 {
         0 => readable(rt),

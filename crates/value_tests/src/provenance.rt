@@ -14,8 +14,13 @@ fn instructions_name_their_sources(rt: HostRuntime) -> Result<(), Fail> {
     let into_c5 = |source| StepFlows::One(flow(Spot::Register(5), source));
     let granule = Spot::Granule(2);
     let rows = [
-        (Instr::CMove { cd: c5, c1: c6 }, into_c5(Spot::Register(6))),
         (
+            "a copy",
+            Instr::CMove { cd: c5, c1: c6 },
+            into_c5(Spot::Register(6)),
+        ),
+        (
+            "a rebuilt value is of its authority",
             Instr::CBuildCap {
                 cd: c5,
                 c1: c6,
@@ -23,8 +28,13 @@ fn instructions_name_their_sources(rt: HostRuntime) -> Result<(), Fail> {
             },
             into_c5(Spot::Register(6)),
         ),
-        (Instr::CMove { cd: c0, c1: c6 }, StepFlows::Nothing),
         (
+            "nothing is kept in c0",
+            Instr::CMove { cd: c0, c1: c6 },
+            StepFlows::Nothing,
+        ),
+        (
+            "a number",
             Instr::Add {
                 cd: c5,
                 c1: c6,
@@ -33,6 +43,7 @@ fn instructions_name_their_sources(rt: HostRuntime) -> Result<(), Fail> {
             StepFlows::Nothing,
         ),
         (
+            "a number that is stored",
             Instr::Sd {
                 c2: c5,
                 c1: c6,
@@ -40,8 +51,13 @@ fn instructions_name_their_sources(rt: HostRuntime) -> Result<(), Fail> {
             },
             StepFlows::Nothing,
         ),
-        (Instr::AuiPcc { cd: c5, imm: 1 }, into_c5(Spot::Pcc)),
         (
+            "an address of PCC",
+            Instr::AuiPcc { cd: c5, imm: 1 },
+            into_c5(Spot::Pcc),
+        ),
+        (
+            "a capability that is loaded",
             Instr::Lc {
                 cd: c5,
                 c1: c6,
@@ -50,6 +66,7 @@ fn instructions_name_their_sources(rt: HostRuntime) -> Result<(), Fail> {
             into_c5(granule),
         ),
         (
+            "a capability that is stored",
             Instr::Sc {
                 c2: c7,
                 c1: c6,
@@ -58,6 +75,7 @@ fn instructions_name_their_sources(rt: HostRuntime) -> Result<(), Fail> {
             StepFlows::One(flow(granule, Spot::Register(7))),
         ),
         (
+            "a swap",
             Instr::AmoSwapC {
                 cd: c5,
                 c2: c7,
@@ -69,6 +87,7 @@ fn instructions_name_their_sources(rt: HostRuntime) -> Result<(), Fail> {
             ),
         ),
         (
+            "a jump, and its link",
             Instr::CJalr {
                 cd: c5,
                 c1: c6,
@@ -80,6 +99,7 @@ fn instructions_name_their_sources(rt: HostRuntime) -> Result<(), Fail> {
             ),
         ),
         (
+            "an invoked pair",
             Instr::CInvoke { c1: c6, c2: c7 },
             StepFlows::Two(
                 flow(Spot::Pcc, Spot::Register(6)),
@@ -87,8 +107,8 @@ fn instructions_name_their_sources(rt: HostRuntime) -> Result<(), Fail> {
             ),
         ),
     ];
-    for (instr, expected) in rows {
-        assert_eq!(rt; flows(&instr, 0x8000_0020), expected);
+    for (why, instr, expected) in rows {
+        assert_eq!(rt; flows(&instr, 0x8000_0020), expected, "{why}");
     }
     Ok(())
 }

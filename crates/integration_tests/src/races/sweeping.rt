@@ -3,7 +3,8 @@
 ghost use Rattle.std.specs.Prelude.{◌≡◌};
 
 use super::gates::EndsAt;
-use super::{SWAP, assert_replayed, image_of};
+use super::{SWAP, assert_replayed};
+use crate::common::image_of;
 use cheri_model::Event;
 use harts::{HartReport, Shared, hart_loop};
 use machine::{Blanks, Core, Machine, Naming, Share, StepFault};

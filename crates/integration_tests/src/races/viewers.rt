@@ -2,7 +2,7 @@
 //! a look.
 
 use super::gates::Flag;
-use crate::samples::shows_the_same;
+use crate::common::shows_the_same;
 use cheri_model::Event;
 use harts::{Gate, Turn, Viewer};
 use machine::{Look, Naming, Watch};

@@ -5,7 +5,8 @@ ghost use Rattle.std.specs.Prelude.{◌≡◌};
 
 use super::gates::{EndsAt, Flag};
 use super::viewers::{Follower, Keeper, Kept, Spotter, Viewed, look_of};
-use super::{SWAP, assert_replayed, eight_loops, image_of};
+use super::{SWAP, assert_replayed, eight_loops};
+use crate::common::image_of;
 use harts::{Gate, HartReport, Shared, Viewer, Why, run_watched};
 use machine::{Blanks, Core, Machine, Naming, Watch};
 use std::alloc::Global;

@@ -1,9 +1,10 @@
 //! Reports of traces with sweeps, and the pieces in which a report is put.
 
-use super::{Shown, first_data, first_pcc, hart_at, image_of, sealed, step};
+use super::{Shown, first_data, first_pcc, image_of, sealed, step};
 use cap_ops::Cap;
 use cheri_model::{Event, Outcome, Reg, Status, Trap};
 use reports::{MemSink, Sink, SinkFailed, report_json, write_json, write_report};
+use samples::hart_at;
 use std::alloc::Global;
 use std::process::Abort;
 use std::test::Fail;
@@ -74,13 +75,13 @@ mem\":{},\"report\":2}";
 
 /// The first worked run, its data swept after two steps.
 fn swept(rt: &impl Abort, alloc: Global) -> Result<Shown, Fail> {
-    let mut first = hart_at(first_pcc(rt, 0x1000_000C));
-    first.put(Reg::new(5), first_data(rt, 4096).clear_tag());
+    let mut first = hart_at(first_pcc(0x1000_000C)?);
+    first.put(Reg::new(5), first_data(4096)?.clear_tag());
     first.put(Reg::new(6), Cap::of_int(100));
-    first.put(Reg::new(7), first_data(rt, 100).clear_tag());
+    first.put(Reg::new(7), first_data(100)?.clear_tag());
     first.put(Reg::new(8), Cap::of_int(100));
-    let mut second = hart_at(first_pcc(rt, 0x1000_0000));
-    second.put(Reg::new(5), first_data(rt, 4096).clear_tag());
+    let mut second = hart_at(first_pcc(0x1000_0000)?);
+    second.put(Reg::new(5), first_data(4096)?.clear_tag());
     let entries = vec![in alloc;
         step(0, 0x1000_0000, Outcome::Done),
         step(0, 0x1000_0004, Outcome::Done),
@@ -92,7 +93,7 @@ fn swept(rt: &impl Abort, alloc: Global) -> Result<Shown, Fail> {
         step(0, 0x1000_0008, Outcome::Done),
     ]?;
     Ok(Shown {
-        image: image_of(rt, alloc, 2, 4096, 4)?,
+        image: image_of(alloc, 2, 4096, 4)?,
         entries,
         harts: vec![in alloc; first, second]?,
         ram: Ram::new(alloc, 4096).expect(rt, "RAM can be made"),
@@ -101,11 +102,11 @@ fn swept(rt: &impl Abort, alloc: Global) -> Result<Shown, Fail> {
 
 /// The first worked run, the whole address space swept after one step.
 fn swept_last(rt: &impl Abort, alloc: Global) -> Result<Shown, Fail> {
-    let mut first = hart_at(first_pcc(rt, 0x1000_0004).clear_tag());
-    first.put(Reg::new(5), first_data(rt, 4096).clear_tag());
+    let mut first = hart_at(first_pcc(0x1000_0004)?.clear_tag());
+    first.put(Reg::new(5), first_data(4096)?.clear_tag());
     first.put(Reg::new(6), Cap::of_int(100));
-    let mut second = hart_at(first_pcc(rt, 0x1000_0000).clear_tag());
-    second.put(Reg::new(5), first_data(rt, 4096).clear_tag());
+    let mut second = hart_at(first_pcc(0x1000_0000)?.clear_tag());
+    second.put(Reg::new(5), first_data(4096)?.clear_tag());
     let entries = vec![in alloc;
         step(0, 0x1000_0000, Outcome::Done),
         Event::Sweep {
@@ -115,7 +116,7 @@ fn swept_last(rt: &impl Abort, alloc: Global) -> Result<Shown, Fail> {
         },
     ]?;
     Ok(Shown {
-        image: image_of(rt, alloc, 2, 4096, 4)?,
+        image: image_of(alloc, 2, 4096, 4)?,
         entries,
         harts: vec![in alloc; first, second]?,
         ram: Ram::new(alloc, 4096).expect(rt, "RAM can be made"),
@@ -170,15 +171,15 @@ fn long(rt: &impl Abort, alloc: Global, steps: usize) -> Result<Shown, Fail> {
     }
     let mut harts = Vec::new(alloc);
     for _ in 0..8 {
-        let mut hart = hart_at(sealed(rt, 262_139));
+        let mut hart = hart_at(sealed(262_139)?);
         for number in 1..32 {
-            hart.put(Reg::new(number), sealed(rt, 262_139));
+            hart.put(Reg::new(number), sealed(262_139)?);
         }
         hart.set_status(Status::Trapped(Trap { cause: 13, reg: 31 }));
         harts.push(hart)?;
     }
     Ok(Shown {
-        image: image_of(rt, alloc, 8, 16, 1)?,
+        image: image_of(alloc, 8, 16, 1)?,
         entries,
         harts,
         ram: Ram::new(alloc, 16).expect(rt, "RAM can be made"),

@@ -1,8 +1,12 @@
 //! The checks of accesses, and what loads and stores leave.
 
-use super::*;
-use cheri_model::Width;
+use super::{Trapped, after, hart_with, load, ram, store, traps};
+use cap_ops::{Cap, MakeFault};
+use cheri_model::form::{LoadOp, StoreOp};
+use cheri_model::{Instr, Outcome, Perms, Reg, Trap, Width};
 use hart_step::{Access, access_check};
+use samples::{Given, NULL, Tagged, made, tagged_word};
+use std::test::Fail;
 
 /// The cause of a trap of a check, or 0 where it passes.
 fn cause(checked: Result<(), Trap>) -> u8 {
@@ -26,188 +30,220 @@ enum Stored {
 }
 
 /// The value of a row, of which a tagged one has Load alone or Global alone.
-fn stored_value(rt: &impl Abort, stored: Stored) -> Option<Cap> {
+fn stored_value(stored: Stored) -> Result<Option<Cap>, MakeFault> {
     match stored {
-        Stored::Nothing => None,
-        Stored::Untagged => Some(Cap::of_int(1)),
-        Stored::Local => Some(made(rt, 0, 16, 0x4)),
-        Stored::Global => Some(made(rt, 0, 16, 0x1)),
+        Stored::Nothing => Ok(None),
+        Stored::Untagged => Ok(Some(Cap::of_int(1))),
+        Stored::Local => Ok(Some(made(0, 16, 0, 0x4)?)),
+        Stored::Global => Ok(Some(made(0, 16, 0, 0x1)?)),
     }
 }
 
 /// Permission bits, the address, the access, what is stored, and the cause. Bounds are
 /// [0x8000_0000, 0x8000_0080), of which RAM has the first 64 bytes. Where two checks fail the one
 /// that is earlier in the table is answered.
-const ACCESSES: [(u32, u64, Access, Stored, u8); 26] = [
-    (0x4, 0x8000_0000, WORD, Stored::Nothing, 0),
-    (0x8, 0x8000_007e, WORD, Stored::Nothing, 4),
-    (0x4, 0x8000_0000, STORED_WORD, Stored::Nothing, 5),
-    (0x8, 0x8000_0000, STORED_WORD, Stored::Nothing, 0),
-    (0x4, 0x8000_007d, WORD, Stored::Nothing, 8),
-    (0x4, 0x7fff_ffff, WORD, Stored::Nothing, 8),
-    (0x4, 0x8000_0041, WORD, Stored::Nothing, 9),
-    (0x4, 0x8000_0040, WORD, Stored::Nothing, 10),
-    (0x4, 0x8000_003c, WORD, Stored::Nothing, 0),
-    (0x0, 0x8000_0000, Access::LoadCap, Stored::Nothing, 4),
-    (0x4, 0x8000_0008, Access::LoadCap, Stored::Nothing, 9),
-    (0x4, 0x8000_0030, Access::LoadCap, Stored::Nothing, 0),
-    (0x4, 0x8000_0000, Access::StoreCap, Stored::Local, 5),
-    (0x8, 0x8000_0000, Access::StoreCap, Stored::Local, 6),
-    (0x28, 0x8000_0078, Access::StoreCap, Stored::Local, 7),
-    (0x28, 0x8000_0078, Access::StoreCap, Stored::Global, 8),
-    (0x28, 0x8000_0010, Access::StoreCap, Stored::Global, 0),
-    (0x68, 0x8000_0010, Access::StoreCap, Stored::Local, 0),
-    (0x8, 0x8000_0010, Access::StoreCap, Stored::Untagged, 0),
-    (0x0, 0x8000_0000, Access::Swap, Stored::Untagged, 4),
-    (0x4, 0x8000_0000, Access::Swap, Stored::Untagged, 5),
-    (0xc, 0x8000_0000, Access::Swap, Stored::Global, 6),
-    (0xc, 0x8000_0000, Access::Swap, Stored::Untagged, 0),
-    // Only a store of a capability asks for what its value needs.
-    (0x4, 0x8000_0000, WORD, Stored::Local, 0),
-    (0x8, 0x8000_0000, STORED_WORD, Stored::Local, 0),
-    (0x4, 0x8000_0000, Access::LoadCap, Stored::Global, 0),
+const ACCESSES: [(&str, u32, u64, Access, Stored, u8); 26] = [
+    ("a load", 0x4, 0x8000_0000, WORD, Stored::Nothing, 0),
+    ("no Load, and past the bounds", 0x8, 0x8000_007e, WORD, Stored::Nothing, 4),
+    ("no Store", 0x4, 0x8000_0000, STORED_WORD, Stored::Nothing, 5),
+    ("a store", 0x8, 0x8000_0000, STORED_WORD, Stored::Nothing, 0),
+    ("a byte past the bounds, and not aligned", 0x4, 0x8000_007d, WORD, Stored::Nothing, 8),
+    ("a byte below the bounds, and not aligned", 0x4, 0x7fff_ffff, WORD, Stored::Nothing, 8),
+    ("not aligned, and past RAM", 0x4, 0x8000_0041, WORD, Stored::Nothing, 9),
+    ("past RAM", 0x4, 0x8000_0040, WORD, Stored::Nothing, 10),
+    ("the last word of RAM", 0x4, 0x8000_003c, WORD, Stored::Nothing, 0),
+    ("a capability without Load", 0x0, 0x8000_0000, Access::LoadCap, Stored::Nothing, 4),
+    ("a capability that is not aligned", 0x4, 0x8000_0008, Access::LoadCap, Stored::Nothing, 9),
+    ("the last granule of RAM, without Load_Capability", 0x4, 0x8000_0030, Access::LoadCap, Stored::Nothing, 0),
+    ("no Store, and no Store_Capability", 0x4, 0x8000_0000, Access::StoreCap, Stored::Local, 5),
+    ("no Store_Capability, and no Store_Local", 0x8, 0x8000_0000, Access::StoreCap, Stored::Local, 6),
+    ("no Store_Local, and past the bounds", 0x28, 0x8000_0078, Access::StoreCap, Stored::Local, 7),
+    ("past the bounds, and not aligned", 0x28, 0x8000_0078, Access::StoreCap, Stored::Global, 8),
+    ("a global value needs no Store_Local", 0x28, 0x8000_0010, Access::StoreCap, Stored::Global, 0),
+    ("a local value under Store_Local", 0x68, 0x8000_0010, Access::StoreCap, Stored::Local, 0),
+    ("an untagged value needs Store alone", 0x8, 0x8000_0010, Access::StoreCap, Stored::Untagged, 0),
+    ("a swap without Load and Store", 0x0, 0x8000_0000, Access::Swap, Stored::Untagged, 4),
+    ("a swap without Store", 0x4, 0x8000_0000, Access::Swap, Stored::Untagged, 5),
+    ("a swap of a tagged value without Store_Capability", 0xc, 0x8000_0000, Access::Swap, Stored::Global, 6),
+    ("a swap of an untagged value", 0xc, 0x8000_0000, Access::Swap, Stored::Untagged, 0),
+    ("a load asks nothing of a value", 0x4, 0x8000_0000, WORD, Stored::Local, 0),
+    ("a store of data asks nothing of a value", 0x8, 0x8000_0000, STORED_WORD, Stored::Local, 0),
+    ("a load of a capability asks nothing of a value", 0x4, 0x8000_0000, Access::LoadCap, Stored::Global, 0),
 ];
 
 #[test]
-fn accesses_are_checked_in_order(rt: HostRuntime) {
+fn accesses_are_checked_in_order(rt: HostRuntime) -> Result<(), Fail> {
     let memory = ram(&rt, rt.alloc(), 64);
-    for (perms, addr, kind, stored, expected) in ACCESSES {
-        let auth = made(&rt, 0x8000_0000, 128, perms);
-        let value = stored_value(&rt, stored);
+    for (why, perms, addr, kind, stored, expected) in ACCESSES {
+        let auth = made(0x8000_0000, 128, 0x8000_0000, perms)?;
+        let value = stored_value(stored)?;
         let checked = access_check(auth, 5, addr, kind, value, &memory);
-        assert_eq!(rt; cause(checked), expected, "{perms:x} {addr:x}");
+        assert_eq!(rt; cause(checked), expected, "{why}");
     }
+    Ok(())
 }
 
 #[test]
-fn accesses_ask_for_open_capabilities(rt: HostRuntime) {
+fn accesses_ask_for_open_capabilities(rt: HostRuntime) -> Result<(), Fail> {
     let memory = ram(&rt, rt.alloc(), 64);
-    let sentry = made(&rt, 0x8000_0000, 16, 0x2).seal_entry();
+    let sentry = made(0x8000_0000, 16, 0x8000_0000, 0x2)?.seal_entry();
     let untagged = sentry.clear_tag();
     assert_eq!(rt; cause(access_check(untagged, 5, 0, WORD, None, &memory)), 1);
     assert_eq!(rt; cause(access_check(sentry, 5, 0, WORD, None, &memory)), 2);
+    Ok(())
 }
 
-/// Each load of a part of a granule, by the value in c5 and the offset, and what it leaves in c7.
+/// The granule that the loads read.
+const LOADED: Given = Given::Word(0x8182_8384_8586_8788, 0x7172_7374_7576_7778);
+
+/// A load of a part of that granule by its offset, and what it leaves in c7.
+const LOADS: [(&str, LoadOp, i16, u64); 9] = [
+    ("a byte with its sign", LoadOp::Lb, 8, 0xffff_ffff_ffff_ff88),
+    (
+        "the last byte with its sign",
+        LoadOp::Lb,
+        15,
+        0xffff_ffff_ffff_ff81,
+    ),
+    ("a byte without a sign", LoadOp::Lbu, 9, 0x87),
+    (
+        "a half-word with its sign",
+        LoadOp::Lh,
+        10,
+        0xffff_ffff_ffff_8586,
+    ),
+    ("a half-word without a sign", LoadOp::Lhu, 12, 0x8384),
+    (
+        "a word with its sign",
+        LoadOp::Lw,
+        12,
+        0xffff_ffff_8182_8384,
+    ),
+    ("a word without a sign", LoadOp::Lwu, 8, 0x8586_8788),
+    ("the upper half", LoadOp::Ld, 8, 0x8182_8384_8586_8788),
+    ("the lower half", LoadOp::Ld, 0, 0x7172_7374_7576_7778),
+];
+
 #[test]
-fn loads_extend_signs(rt: HostRuntime) {
-    let (cd, c1) = (Reg::new(7), Reg::new(5));
-    let rows: [(Instr, u64); 9] = [
-        (Instr::Lb { cd, c1, imm: 8 }, 0xffff_ffff_ffff_ff88),
-        (Instr::Lb { cd, c1, imm: 15 }, 0xffff_ffff_ffff_ff81),
-        (Instr::Lbu { cd, c1, imm: 9 }, 0x87),
-        (Instr::Lh { cd, c1, imm: 10 }, 0xffff_ffff_ffff_8586),
-        (Instr::Lhu { cd, c1, imm: 12 }, 0x8384),
-        (Instr::Lw { cd, c1, imm: 12 }, 0xffff_ffff_8182_8384),
-        (Instr::Lwu { cd, c1, imm: 8 }, 0x8586_8788),
-        (Instr::Ld { cd, c1, imm: 8 }, 0x8182_8384_8586_8788),
-        (Instr::Ld { cd, c1, imm: 0 }, 0x7172_7374_7576_7778),
-    ];
-    let granule = value(
-        &rt,
-        Given::Word(0x8182_8384_8586_8788, 0x7172_7374_7576_7778),
-    );
+fn loads_extend_signs(rt: HostRuntime) -> Result<(), Fail> {
+    let granule = LOADED.cap()?;
     let authority = Given::Open(0x8000_0000, 16, 0x8000_0000, 0x4);
-    for (instr, expected) in rows {
-        let hart = hart_with(&rt, authority, NULL);
-        let left = after(&rt, rt.alloc(), instr, hart, granule);
-        assert!(rt; matches!(&left.outcome, Outcome::Done), "{instr:?}");
+    for (why, op, imm, expected) in LOADS {
+        let hart = hart_with(authority, NULL)?;
+        let left = after(&rt, rt.alloc(), load(op, imm), hart, granule);
+        assert!(rt; matches!(&left.outcome, Outcome::Done), "{why}");
         assert_eq!(rt;
-            tagged_word(left.hart.register(cd)),
-            (false, 0, expected),
-            "{instr:?}"
+            tagged_word(left.hart.register(Reg::new(7))),
+            Tagged(false, 0, expected),
+            "{why}"
         );
-        assert_eq!(rt; left.hart.pcc().addr(), 0x1000_0004, "{instr:?}");
-        assert_eq!(rt; left.granule, granule, "{instr:?}");
+        assert_eq!(rt; left.hart.pcc().addr(), 0x1000_0004, "{why}");
+        assert_eq!(rt; left.granule, granule, "{why}");
     }
+    Ok(())
 }
 
-/// Each store of 0x1112_1314_1516_1718 over a granule with a tag, which loses it.
+/// A store of 0x1112_1314_1516_1718 by its offset, over a granule with a tag, which loses it.
+const STORES: [(&str, StoreOp, i16, u64, u64); 5] = [
+    (
+        "the lowest byte",
+        StoreOp::Sb,
+        8,
+        0x0005_0000_0405_8018,
+        0x8000_0000,
+    ),
+    (
+        "the lowest two bytes",
+        StoreOp::Sh,
+        8,
+        0x0005_0000_0405_1718,
+        0x8000_0000,
+    ),
+    (
+        "the lowest four bytes",
+        StoreOp::Sw,
+        8,
+        0x0005_0000_1516_1718,
+        0x8000_0000,
+    ),
+    (
+        "all eight bytes",
+        StoreOp::Sd,
+        8,
+        0x1112_1314_1516_1718,
+        0x8000_0000,
+    ),
+    (
+        "a byte of the lower half",
+        StoreOp::Sb,
+        3,
+        0x0005_0000_0405_8004,
+        0x1800_0000,
+    ),
+];
+
 #[test]
-fn stores_write_low_bytes(rt: HostRuntime) {
-    let (c1, c2) = (Reg::new(5), Reg::new(6));
-    let rows: [(Instr, u64, u64); 5] = [
-        (
-            Instr::Sb { c2, c1, imm: 8 },
-            0x0005_0000_0405_8018,
-            0x8000_0000,
-        ),
-        (
-            Instr::Sh { c2, c1, imm: 8 },
-            0x0005_0000_0405_1718,
-            0x8000_0000,
-        ),
-        (
-            Instr::Sw { c2, c1, imm: 8 },
-            0x0005_0000_1516_1718,
-            0x8000_0000,
-        ),
-        (
-            Instr::Sd { c2, c1, imm: 8 },
-            0x1112_1314_1516_1718,
-            0x8000_0000,
-        ),
-        (
-            Instr::Sb { c2, c1, imm: 3 },
-            0x0005_0000_0405_8004,
-            0x1800_0000,
-        ),
-    ];
+fn stores_write_low_bytes(rt: HostRuntime) -> Result<(), Fail> {
     let authority = Given::Open(0x8000_0000, 16, 0x8000_0000, 0x8);
-    for (instr, upper, lower) in rows {
-        let hart = hart_with(&rt, authority, Given::Int(0x1112_1314_1516_1718));
-        let granule = made(&rt, 0x8000_0000, 16, 0x5);
-        let left = after(&rt, rt.alloc(), instr, hart, granule);
-        assert!(rt; matches!(&left.outcome, Outcome::Done), "{instr:?}");
+    for (why, op, imm, upper, lower) in STORES {
+        let hart = hart_with(authority, Given::Int(0x1112_1314_1516_1718))?;
+        let granule = made(0x8000_0000, 16, 0x8000_0000, 0x5)?;
+        let left = after(&rt, rt.alloc(), store(op, imm), hart, granule);
+        assert!(rt; matches!(&left.outcome, Outcome::Done), "{why}");
         assert_eq!(rt;
             tagged_word(left.granule),
-            (false, upper, lower),
-            "{instr:?}"
+            Tagged(false, upper, lower),
+            "{why}"
         );
         let mut wanted = hart;
         wanted.set_pcc(hart.pcc().set_addr(0x1000_0004));
-        assert_eq!(rt; left.hart, wanted, "{instr:?}");
+        assert_eq!(rt; left.hart, wanted, "{why}");
     }
+    Ok(())
 }
 
 /// The byte at the end of a memory can be read, and a half-word there can not.
 #[test]
-fn accesses_trap_at_the_edges(rt: HostRuntime) {
+fn accesses_trap_at_the_edges(rt: HostRuntime) -> Result<(), Fail> {
     let (cd, c1) = (Reg::new(6), Reg::new(5));
-    let hart = hart_with(&rt, Given::Open(0x8000_0000, 16, 0x8000_0000, 0x4), NULL);
-    let rows: [(Instr, Trapped); 3] = [
-        (Instr::Lh { cd, c1, imm: 15 }, (8, 5)),
-        (Instr::Lh { cd, c1, imm: 13 }, (9, 5)),
-        (Instr::Lb { cd, c1, imm: -1 }, (8, 5)),
+    let hart = hart_with(Given::Open(0x8000_0000, 16, 0x8000_0000, 0x4), NULL)?;
+    let rows: [(&str, Instr, Trapped); 3] = [
+        (
+            "a byte past the bounds, and not aligned",
+            Instr::Lh { cd, c1, imm: 15 },
+            (8, 5),
+        ),
+        ("not aligned", Instr::Lh { cd, c1, imm: 13 }, (9, 5)),
+        (
+            "right below the bounds",
+            Instr::Lb { cd, c1, imm: -1 },
+            (8, 5),
+        ),
     ];
-    for (instr, expected) in rows {
-        traps(&rt, rt.alloc(), instr, hart, Cap::null(), expected);
+    for (why, instr, expected) in rows {
+        traps(&rt, rt.alloc(), why, instr, hart, Cap::null(), expected);
     }
-    let done = after(
-        &rt,
-        rt.alloc(),
-        Instr::Lb { cd, c1, imm: 15 },
-        hart,
-        Cap::null(),
-    );
+    let last = Instr::Lb { cd, c1, imm: 15 };
+    let done = after(&rt, rt.alloc(), last, hart, Cap::null());
     assert!(rt; matches!(&done.outcome, Outcome::Done));
-    let mut hart = hart;
-    hart.put(c1, Cap::root(Perms::LOAD).set_addr(0x8000_0010));
-    traps(
-        &rt,
-        rt.alloc(),
-        Instr::Lb { cd, c1, imm: 0 },
-        hart,
-        Cap::null(),
-        (10, 5),
-    );
-    hart.put(c1, Cap::root(Perms::LOAD).set_addr(0xffff_ffff_ffff_ffff));
-    traps(
-        &rt,
-        rt.alloc(),
-        Instr::Lb { cd, c1, imm: 1 },
-        hart,
-        Cap::null(),
-        (10, 5),
-    );
+    Ok(())
+}
+
+/// An address and an offset, under the authority to load from every address.
+const OUTSIDE: [(&str, u64, i16); 2] = [
+    ("right above RAM", 0x8000_0010, 0),
+    ("past the last address, which is 0", 0xffff_ffff_ffff_ffff, 1),
+];
+
+/// Accesses in the bounds of their authority reach RAM alone.
+#[test]
+fn accesses_trap_outside_memory(rt: HostRuntime) -> Result<(), Fail> {
+    let (cd, c1) = (Reg::new(6), Reg::new(5));
+    for (why, addr, imm) in OUTSIDE {
+        let mut hart = hart_with(NULL, NULL)?;
+        hart.put(c1, Cap::root(Perms::LOAD).set_addr(addr));
+        let instr = Instr::Lb { cd, c1, imm };
+        traps(&rt, rt.alloc(), why, instr, hart, Cap::null(), (10, 5));
+    }
+    Ok(())
 }

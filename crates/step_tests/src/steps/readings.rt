@@ -1,6 +1,9 @@
 //! The instructions that read a field of a value, or compare two.
 
-use super::*;
+use super::{hart_with, three, two, writes};
+use cheri_model::form::{ThreeOp, TwoOp};
+use samples::{ALL, Given, K, NULL, Tagged};
+use std::test::Fail;
 
 /// A sealed capability of 64 bytes at its 16th byte, which has Global, Load and Load_Capability.
 const PAIRED: Given = Given::Sealed(0x8000_0000, 64, 0x8000_0010, 0x15, 6);
@@ -19,61 +22,81 @@ const RESERVED_3: Given = Given::Word(0xffff_0000_1405_8004, 0x8000_0000);
 
 const RESERVED_4: Given = Given::Word(0xffff_0000_1c05_8004, 0x8000_0000);
 
-/// Each reading with the value of c5, and the number that it writes to c7.
+/// A reading with the value of c5, and the number that it writes to c7.
+const READINGS: [(&str, TwoOp, Given, u64); 24] = [
+    ("three permissions", TwoOp::CGetPerm, PAIRED, 0x15),
+    ("the type of a sealed value", TwoOp::CGetType, PAIRED, 6),
+    ("the base", TwoOp::CGetBase, PAIRED, 0x8000_0000),
+    ("the length", TwoOp::CGetLen, PAIRED, 64),
+    ("a tag", TwoOp::CGetTag, PAIRED, 1),
+    ("a seal", TwoOp::CGetSealed, PAIRED, 1),
+    ("the offset from the base", TwoOp::CGetOffset, PAIRED, 16),
+    ("no flag", TwoOp::CGetFlags, PAIRED, 0),
+    ("the address", TwoOp::CGetAddr, PAIRED, 0x8000_0010),
+    (
+        "the upper half",
+        TwoOp::CGetHigh,
+        PAIRED,
+        0x0015_1fff_cc11_8004,
+    ),
+    ("no tag", TwoOp::CGetTag, PAIRED_WORD, 0),
+    ("a seal without a tag", TwoOp::CGetSealed, PAIRED_WORD, 1),
+    ("a tag of an unsealed value", TwoOp::CGetTag, K, 1),
+    ("no seal", TwoOp::CGetSealed, K, 0),
+    (
+        "the type of unsealed values is -1",
+        TwoOp::CGetType,
+        K,
+        0xffff_ffff_ffff_ffff,
+    ),
+    (
+        "the reserved type 2^18 - 3 is -3",
+        TwoOp::CGetType,
+        RESERVED_3,
+        0xffff_ffff_ffff_fffd,
+    ),
+    (
+        "the reserved type 2^18 - 4 is -4",
+        TwoOp::CGetType,
+        RESERVED_4,
+        0xffff_ffff_ffff_fffc,
+    ),
+    ("every permission", TwoOp::CGetPerm, K, 0x7_8fff),
+    ("the flag", TwoOp::CGetFlags, FLAGGED_WORD, 1),
+    ("no seal and no tag", TwoOp::CGetSealed, FLAGGED_WORD, 0),
+    (
+        "a length of 2^64 is 2^64 - 1",
+        TwoOp::CGetLen,
+        LARGEST_WORD,
+        0xffff_ffff_ffff_ffff,
+    ),
+    (
+        "an exponent field of 60 counts as 52",
+        TwoOp::CGetBase,
+        LARGEST_WORD,
+        0,
+    ),
+    (
+        "a length raised to a multiple of 8",
+        TwoOp::Crrl,
+        Given::Int(4097),
+        4104,
+    ),
+    (
+        "its alignment of 8",
+        TwoOp::Cram,
+        Given::Int(4097),
+        0xffff_ffff_ffff_fff8,
+    ),
+];
+
 #[test]
-fn fields_are_read(rt: HostRuntime) {
-    let (cd, c1) = (Reg::new(7), Reg::new(5));
-    let rows: [(Instr, Given, u64); 24] = [
-        (Instr::CGetPerm { cd, c1 }, PAIRED, 0x15),
-        (Instr::CGetType { cd, c1 }, PAIRED, 6),
-        (Instr::CGetBase { cd, c1 }, PAIRED, 0x8000_0000),
-        (Instr::CGetLen { cd, c1 }, PAIRED, 64),
-        (Instr::CGetTag { cd, c1 }, PAIRED, 1),
-        (Instr::CGetSealed { cd, c1 }, PAIRED, 1),
-        (Instr::CGetOffset { cd, c1 }, PAIRED, 16),
-        (Instr::CGetFlags { cd, c1 }, PAIRED, 0),
-        (Instr::CGetAddr { cd, c1 }, PAIRED, 0x8000_0010),
-        (Instr::CGetHigh { cd, c1 }, PAIRED, 0x0015_1fff_cc11_8004),
-        (Instr::CGetTag { cd, c1 }, PAIRED_WORD, 0),
-        (Instr::CGetSealed { cd, c1 }, PAIRED_WORD, 1),
-        (Instr::CGetTag { cd, c1 }, K, 1),
-        (Instr::CGetSealed { cd, c1 }, K, 0),
-        (Instr::CGetType { cd, c1 }, K, 0xffff_ffff_ffff_ffff),
-        (
-            Instr::CGetType { cd, c1 },
-            RESERVED_3,
-            0xffff_ffff_ffff_fffd,
-        ),
-        (
-            Instr::CGetType { cd, c1 },
-            RESERVED_4,
-            0xffff_ffff_ffff_fffc,
-        ),
-        (Instr::CGetPerm { cd, c1 }, K, 0x7_8fff),
-        (Instr::CGetFlags { cd, c1 }, FLAGGED_WORD, 1),
-        (Instr::CGetSealed { cd, c1 }, FLAGGED_WORD, 0),
-        (
-            Instr::CGetLen { cd, c1 },
-            LARGEST_WORD,
-            0xffff_ffff_ffff_ffff,
-        ),
-        (Instr::CGetBase { cd, c1 }, LARGEST_WORD, 0),
-        (Instr::Crrl { cd, c1 }, Given::Int(4097), 4104),
-        (
-            Instr::Cram { cd, c1 },
-            Given::Int(4097),
-            0xffff_ffff_ffff_fff8,
-        ),
-    ];
-    for (instr, first, expected) in rows {
-        writes(
-            &rt,
-            rt.alloc(),
-            instr,
-            hart_with(&rt, first, NULL),
-            (false, 0, expected),
-        );
+fn fields_are_read(rt: HostRuntime) -> Result<(), Fail> {
+    for (why, op, first, expected) in READINGS {
+        let hart = hart_with(first, NULL)?;
+        writes(&rt, rt.alloc(), why, two(op), hart, Tagged(false, 0, expected));
     }
+    Ok(())
 }
 
 /// K without its tag.
@@ -84,32 +107,23 @@ const ROOT: Given = Given::Open(0, 0x1_0000_0000_0000_0000, 0, ALL);
 
 /// The values of c5 and c6, whether the second is a subset of the first, and whether they are
 /// equal.
+const COMPARED: [(&str, Given, Given, u64, u64); 6] = [
+    ("a part of the root", ROOT, K, 1, 0),
+    ("more than the first", K, ROOT, 0, 0),
+    ("a part of the root, but for the tag", ROOT, K_WORD, 0, 0),
+    ("the same, but for the tag", K, K_WORD, 0, 0),
+    ("the same", K, K, 1, 1),
+    ("the same, without tags", K_WORD, K_WORD, 1, 1),
+];
+
 #[test]
-fn values_are_compared(rt: HostRuntime) {
-    let (cd, c1, c2) = (Reg::new(7), Reg::new(5), Reg::new(6));
-    let rows = [
-        (ROOT, K, 1, 0),
-        (K, ROOT, 0, 0),
-        (ROOT, K_WORD, 0, 0),
-        (K, K_WORD, 0, 0),
-        (K, K, 1, 1),
-        (K_WORD, K_WORD, 1, 1),
-    ];
-    for (first, second, subset, equal) in rows {
-        let hart = hart_with(&rt, first, second);
-        writes(
-            &rt,
-            rt.alloc(),
-            Instr::CTestSubset { cd, c1, c2 },
-            hart,
-            (false, 0, subset),
-        );
-        writes(
-            &rt,
-            rt.alloc(),
-            Instr::CSetEqualExact { cd, c1, c2 },
-            hart,
-            (false, 0, equal),
-        );
+fn values_are_compared(rt: HostRuntime) -> Result<(), Fail> {
+    for (why, first, second, subset, equal) in COMPARED {
+        let hart = hart_with(first, second)?;
+        let is_subset = three(ThreeOp::CTestSubset);
+        let is_equal = three(ThreeOp::CSetEqualExact);
+        writes(&rt, rt.alloc(), why, is_subset, hart, Tagged(false, 0, subset));
+        writes(&rt, rt.alloc(), why, is_equal, hart, Tagged(false, 0, equal));
     }
+    Ok(())
 }

@@ -1,11 +1,8 @@
 //! Sealing, unsealing and sentries.
 
-use super::*;
-
-/// The capability of `len` addresses from `base` on, at `addr`, with these permissions.
-fn authority(rt: &impl Abort, base: u64, len: u128, addr: u64, bits: u32) -> Cap {
-    made(rt, base, len, addr, perms(bits))
-}
+use cap_ops::Cap;
+use samples::{ALL, Given, K, Tagged, made, tagged_word};
+use std::test::Fail;
 
 const SEAL: u32 = 0x80;
 
@@ -13,163 +10,243 @@ const UNSEAL: u32 = 0x200;
 
 const GLOBAL: u32 = 1;
 
+/// Why a row is there, an object type, and the upper half, the tag and the type of K sealed with it.
+const TYPES: [(&str, u64, u64, bool, u64); 7] = [
+    ("a sealable type", 5, 0xffff_1fff_d405_8004, true, 5),
+    (
+        "the greatest sealable type",
+        0x3_fffb,
+        0xffff_0000_2405_8004,
+        true,
+        262_139,
+    ),
+    (
+        "the reserved type 2^18 - 4",
+        0x3_fffc,
+        0xffff_0000_1c05_8004,
+        false,
+        0xffff_ffff_ffff_fffc,
+    ),
+    (
+        "the reserved type 2^18 - 3",
+        0x3_fffd,
+        0xffff_0000_1405_8004,
+        false,
+        0xffff_ffff_ffff_fffd,
+    ),
+    (
+        "the type of sentries",
+        0x3_fffe,
+        0xffff_0000_0c05_8004,
+        false,
+        0xffff_ffff_ffff_fffe,
+    ),
+    (
+        "the type of unsealed values",
+        0x3_ffff,
+        0xffff_0000_0405_8004,
+        false,
+        0xffff_ffff_ffff_ffff,
+    ),
+    (
+        "past all types, and 0 modulo 2^18",
+        0x4_0000,
+        0xffff_1fff_fc05_8004,
+        false,
+        0,
+    ),
+];
+
 #[test]
-fn seals_by_type(rt: HostRuntime) {
-    let k = sixteen_bytes(&rt);
-    let rows = [
-        (5, 0xffff_1fff_d405_8004, true, 5),
-        (0x3_fffb, 0xffff_0000_2405_8004, true, 262_139),
-        (
-            0x3_fffc,
-            0xffff_0000_1c05_8004,
-            false,
-            0xffff_ffff_ffff_fffc,
-        ),
-        (
-            0x3_fffd,
-            0xffff_0000_1405_8004,
-            false,
-            0xffff_ffff_ffff_fffd,
-        ),
-        (
-            0x3_fffe,
-            0xffff_0000_0c05_8004,
-            false,
-            0xffff_ffff_ffff_fffe,
-        ),
-        (
-            0x3_ffff,
-            0xffff_0000_0405_8004,
-            false,
-            0xffff_ffff_ffff_ffff,
-        ),
-        (0x4_0000, 0xffff_1fff_fc05_8004, false, 0),
-    ];
-    for (otype, upper, is_tagged, number) in rows {
-        let sealed = k.seal(authority(&rt, 0, 0x8_0000, otype, SEAL));
+fn seals_by_type(rt: HostRuntime) -> Result<(), Fail> {
+    let k = K.cap()?;
+    for (why, otype, upper, is_tagged, number) in TYPES {
+        let sealed = k.seal(made(0, 0x8_0000, otype, SEAL)?);
         assert_eq!(rt;
             tagged_word(sealed),
-            (upper, 0x8000_0000, is_tagged),
-            "type {otype:x}"
+            Tagged(is_tagged, upper, 0x8000_0000),
+            "{why}"
         );
-        assert_eq!(rt; sealed.otype(), number, "type {otype:x}");
+        assert_eq!(rt; sealed.otype(), number, "{why}");
     }
+    Ok(())
 }
 
 #[test]
-fn seals_under_authority(rt: HostRuntime) {
-    let k = sixteen_bytes(&rt);
-    let sealer = authority(&rt, 0, 0x4_0000, 5, SEAL);
-    let sealed_sealer = sealer.seal(authority(&rt, 0, 0x4_0000, 7, SEAL));
+fn seals_under_authority(rt: HostRuntime) -> Result<(), Fail> {
+    let k = K.cap()?;
+    let sealer = made(0, 0x4_0000, 5, SEAL)?;
+    let sealed_sealer = sealer.seal(made(0, 0x4_0000, 7, SEAL)?);
     assert_eq!(rt;
         tagged_word(sealed_sealer),
-        (0x0080_1fff_c001_8002, 5, true)
+        Tagged(true, 0x0080_1fff_c001_8002, 5)
     );
     let of_type_5 = 0xffff_1fff_d405_8004;
     let rows = [
-        (k, sealer, of_type_5, true),
+        ("both are open", k, sealer, of_type_5, true),
         (
+            "an authority without Seal",
             k,
-            authority(&rt, 0, 0x4_0000, 5, ALL - SEAL),
+            made(0, 0x4_0000, 5, ALL - SEAL)?,
             of_type_5,
             false,
         ),
-        (k, sealed_sealer, of_type_5, false),
-        (k, sealer.clear_tag(), of_type_5, false),
-        (k.clear_tag(), sealer, of_type_5, false),
-        (k.seal(sealer), sealer, of_type_5, false),
+        ("a sealed authority", k, sealed_sealer, of_type_5, false),
         (
+            "an untagged authority",
             k,
-            authority(&rt, 0, 16, 16, SEAL),
+            sealer.clear_tag(),
+            of_type_5,
+            false,
+        ),
+        ("an untagged value", k.clear_tag(), sealer, of_type_5, false),
+        (
+            "a value that is sealed",
+            k.seal(sealer),
+            sealer,
+            of_type_5,
+            false,
+        ),
+        (
+            "the type right past the authority's bounds",
+            k,
+            made(0, 16, 16, SEAL)?,
             0xffff_1fff_7c05_8004,
             false,
         ),
         (
+            "the last type in the authority's bounds",
             k,
-            authority(&rt, 0, 16, 15, SEAL),
+            made(0, 16, 15, SEAL)?,
             0xffff_1fff_8405_8004,
             true,
         ),
         (
+            "the type right below the authority's bounds",
             k,
-            authority(&rt, 16, 16, 15, SEAL),
+            made(16, 16, 15, SEAL)?,
             0xffff_1fff_8405_8004,
             false,
         ),
     ];
-    for (value, authority, upper, is_tagged) in rows {
+    for (why, value, authority, upper, is_tagged) in rows {
         assert_eq!(rt;
             tagged_word(value.seal(authority)),
-            (upper, 0x8000_0000, is_tagged),
-            "by {authority:?}"
+            Tagged(is_tagged, upper, 0x8000_0000),
+            "{why}"
         );
     }
+    Ok(())
+}
+
+/// The upper half of K, with and without Global.
+const WITH_GLOBAL: u64 = 0xffff_0000_0405_8004;
+
+const WITHOUT_GLOBAL: u64 = 0xfffe_0000_0405_8004;
+
+/// K sealed with a type, by the authority of so many types from 0 on.
+fn sealed_as(otype: u64, types: u128) -> Result<Cap, Fail> {
+    Ok(K.cap()?.seal(made(0, types, otype, SEAL)?))
 }
 
 #[test]
-fn unseals_under_authority(rt: HostRuntime) {
-    let k = sixteen_bytes(&rt);
-    let sealed = k.seal(authority(&rt, 0, 0x4_0000, 5, SEAL));
-    let of_type_16 = k.seal(authority(&rt, 0, 32, 16, SEAL));
-    let unsealer = authority(&rt, 0, 0x4_0000, 5, UNSEAL);
-    let sealed_unsealer = unsealer.seal(authority(&rt, 0, 0x4_0000, 5, SEAL));
-    let local = 0xfffe_0000_0405_8004;
-    let global = 0xffff_0000_0405_8004;
+fn unseals_under_authority(rt: HostRuntime) -> Result<(), Fail> {
+    let sealed = sealed_as(5, 0x4_0000)?;
+    let unsealer = made(0, 0x4_0000, 5, UNSEAL)?;
     let rows = [
-        (sealed, unsealer, local, true),
         (
-            sealed,
-            authority(&rt, 0, 0x4_0000, 5, UNSEAL + GLOBAL),
-            global,
+            "an authority without Global takes it away",
+            unsealer,
+            WITHOUT_GLOBAL,
             true,
         ),
-        (sealed, unsealer.set_addr(4), local, false),
         (
-            sealed,
-            authority(&rt, 0, 0x4_0000, 5, ALL - UNSEAL),
-            global,
-            false,
+            "an authority with Global leaves it",
+            made(0, 0x4_0000, 5, UNSEAL + GLOBAL)?,
+            WITH_GLOBAL,
+            true,
         ),
-        (sealed, sealed_unsealer, local, false),
-        (sealed.clear_tag(), unsealer, local, false),
-        (of_type_16, authority(&rt, 0, 16, 16, UNSEAL), local, false),
         (
-            k,
-            authority(&rt, 0, 0x8_0000, 0x3_ffff, UNSEAL),
-            local,
+            "an authority at another type",
+            unsealer.set_addr(4),
+            WITHOUT_GLOBAL,
             false,
         ),
         (
-            k.seal_entry(),
-            authority(&rt, 0, 0x8_0000, 0x3_fffe, UNSEAL),
-            local,
+            "an authority without Unseal",
+            made(0, 0x4_0000, 5, ALL - UNSEAL)?,
+            WITH_GLOBAL,
             false,
         ),
         (
-            k.seal(authority(&rt, 0, 0x8_0000, 0x3_fffc, SEAL)),
-            authority(&rt, 0, 0x8_0000, 0x3_fffc, UNSEAL),
-            local,
+            "a sealed authority",
+            unsealer.seal(made(0, 0x4_0000, 5, SEAL)?),
+            WITHOUT_GLOBAL,
             false,
         ),
     ];
-    for (value, authority, upper, is_tagged) in rows {
+    for (why, authority, upper, is_tagged) in rows {
         assert_eq!(rt;
-            tagged_word(value.unseal(authority)),
-            (upper, 0x8000_0000, is_tagged),
-            "{value:?} by {authority:?}"
+            tagged_word(sealed.unseal(authority)),
+            Tagged(is_tagged, upper, 0x8000_0000),
+            "{why}"
         );
     }
+    Ok(())
 }
 
-/// Words of K with a reserved type, and words with one and Seal and Unseal, that point at 5.
-const RESERVED: [(u64, u64, u64, u64); 2] = [
+#[test]
+fn keeps_what_is_not_unsealed(rt: HostRuntime) -> Result<(), Fail> {
+    let k = K.cap()?;
+    let rows = [
+        (
+            "an untagged value",
+            sealed_as(5, 0x4_0000)?.clear_tag(),
+            made(0, 0x4_0000, 5, UNSEAL)?,
+        ),
+        (
+            "the type right past the authority's bounds",
+            sealed_as(16, 32)?,
+            made(0, 16, 16, UNSEAL)?,
+        ),
+        (
+            "a value that is not sealed",
+            k,
+            made(0, 0x8_0000, 0x3_ffff, UNSEAL)?,
+        ),
+        (
+            "a sentry, by its type",
+            k.seal_entry(),
+            made(0, 0x8_0000, 0x3_fffe, UNSEAL)?,
+        ),
+        (
+            "the reserved type 2^18 - 4, which leaves no tag to keep",
+            sealed_as(0x3_fffc, 0x8_0000)?,
+            made(0, 0x8_0000, 0x3_fffc, UNSEAL)?,
+        ),
+    ];
+    for (why, value, authority) in rows {
+        assert_eq!(rt;
+            tagged_word(value.unseal(authority)),
+            Tagged(false, WITHOUT_GLOBAL, 0x8000_0000),
+            "{why}"
+        );
+    }
+    Ok(())
+}
+
+/// The reserved types: a word of K with one, the type, its number, and a word with it and Seal and
+/// Unseal, that points at 5.
+const RESERVED: [(&str, u64, u64, u64, u64); 2] = [
     (
+        "2^18 - 3",
         0xffff_0000_1405_8004,
         0x3_fffd,
         0xffff_ffff_ffff_fffd,
         0x0280_0000_1001_8002,
     ),
     (
+        "2^18 - 4",
         0xffff_0000_1c05_8004,
         0x3_fffc,
         0xffff_ffff_ffff_fffc,
@@ -179,45 +256,47 @@ const RESERVED: [(u64, u64, u64, u64); 2] = [
 
 /// A word of a reserved type is not sealed and not unsealed, and is no authority for either.
 #[test]
-fn reserved_types_stay_untagged(rt: HostRuntime) {
-    let k = sixteen_bytes(&rt);
-    let sealer = authority(&rt, 0, 0x4_0000, 5, SEAL);
-    for (upper, otype, number, authority_upper) in RESERVED {
-        let word = untagged(upper, 0x8000_0000);
-        let unsealer = authority(&rt, 0, 0x8_0000, otype, UNSEAL + GLOBAL);
-        let hostile = untagged(authority_upper, 5);
-        assert_eq!(rt; word.otype(), number, "type {otype:x}");
+fn reserved_types_stay_untagged(rt: HostRuntime) -> Result<(), Fail> {
+    let k = K.cap()?;
+    let sealer = made(0, 0x4_0000, 5, SEAL)?;
+    for (name, upper, otype, number, authority_upper) in RESERVED {
+        let word = Given::Word(upper, 0x8000_0000).cap()?;
+        let unsealer = made(0, 0x8_0000, otype, UNSEAL + GLOBAL)?;
+        let hostile = Given::Word(authority_upper, 5).cap()?;
+        assert_eq!(rt; word.otype(), number, "type {name}");
         let rows = [
-            (word.seal(sealer), 0xffff_1fff_d405_8004),
-            (word.unseal(unsealer), 0xffff_0000_0405_8004),
-            (k.seal(hostile), 0xffff_1fff_d405_8004),
-            (k.seal(sealer).unseal(hostile), 0xfffe_0000_0405_8004),
+            ("is sealed", word.seal(sealer), 0xffff_1fff_d405_8004),
+            ("is unsealed", word.unseal(unsealer), WITH_GLOBAL),
+            ("seals", k.seal(hostile), 0xffff_1fff_d405_8004),
+            ("unseals", k.seal(sealer).unseal(hostile), WITHOUT_GLOBAL),
         ];
-        for (left, expected) in rows {
+        for (what, left, expected) in rows {
             assert_eq!(rt;
                 tagged_word(left),
-                (expected, 0x8000_0000, false),
-                "type {otype:x}"
+                Tagged(false, expected, 0x8000_0000),
+                "type {name} {what}"
             );
         }
     }
+    Ok(())
 }
 
 /// Only Execute makes a sentry.
 #[test]
-fn seals_entries(rt: HostRuntime) {
+fn seals_entries(rt: HostRuntime) -> Result<(), Fail> {
     let rows = [
-        (ALL, 0xffff_0000_0c05_8004, true),
-        (ALL - 2, 0xfffd_0000_0c05_8004, false),
-        (2, 0x0002_0000_0c05_8004, true),
-        (4, 0x0004_0000_0c05_8004, false),
+        ("all permissions", ALL, 0xffff_0000_0c05_8004, true),
+        ("all but Execute", ALL - 2, 0xfffd_0000_0c05_8004, false),
+        ("Execute alone", 2, 0x0002_0000_0c05_8004, true),
+        ("Load alone", 4, 0x0004_0000_0c05_8004, false),
     ];
-    for (bits, upper, is_tagged) in rows {
-        let sentry = authority(&rt, 0x8000_0000, 16, 0x8000_0000, bits).seal_entry();
+    for (why, bits, upper, is_tagged) in rows {
+        let sentry = made(0x8000_0000, 16, 0x8000_0000, bits)?.seal_entry();
         assert_eq!(rt;
             tagged_word(sentry),
-            (upper, 0x8000_0000, is_tagged),
-            "{bits:x}"
+            Tagged(is_tagged, upper, 0x8000_0000),
+            "{why}"
         );
     }
+    Ok(())
 }

@@ -1,14 +1,20 @@
 //! Sweeps of memory. Expected words are those of an independent model of the definitions; which
 //! tags are left follows from each base.
 
-use super::*;
-use bitflags::Flags;
+use super::{AFTER_STORES, readable, store_cap_at, store_number};
+use cap_ops::Cap;
+use cheri_model::Perms;
+use samples::made;
+use std::alloc::Global;
+use std::process::Abort;
+use std::test::Fail;
+use tagged_mem::Ram;
 
 /// The base, length and address of a readable capability, the word that it has, and whether a
 /// sweep from 0x8000_0010 up to 0x8000_0030 clears its tag.
-const SWEPT: [(u64, u128, u64, u128, bool); 7] = [
-    // A base at the first address, and at the last.
+const SWEPT: [(&str, u64, u128, u64, u128, bool); 7] = [
     (
+        "a base at the first address",
         0x8000_0010,
         16,
         0x8000_0010,
@@ -16,14 +22,15 @@ const SWEPT: [(u64, u128, u64, u128, bool); 7] = [
         true,
     ),
     (
+        "a base at the last address",
         0x8000_002f,
         1,
         0x8000_002f,
         0x0005_0000_040d_802b_0000_0000_8000_002f,
         true,
     ),
-    // Right above them, and right below.
     (
+        "a base right above the range",
         0x8000_0030,
         16,
         0x8000_0030,
@@ -31,30 +38,31 @@ const SWEPT: [(u64, u128, u64, u128, bool); 7] = [
         false,
     ),
     (
+        "a base right below the range",
         0x8000_000f,
         1,
         0x8000_000f,
         0x0005_0000_0405_800b_0000_0000_8000_000f,
         false,
     ),
-    // Bounds that hold all of them, and an address among them.
     (
+        "bounds that hold the range, and an address in it",
         0x8000_0000,
         4096,
         0x8000_0020,
         0x0005_0000_0001_8004_0000_0000_8000_0020,
         false,
     ),
-    // A base among them, and neither the top nor the address.
     (
+        "a base in the range, and neither the top nor the address",
         0x8000_0020,
         4096,
         0x8000_0800,
         0x0005_0000_0009_8024_0000_0000_8000_0800,
         true,
     ),
-    // No length.
     (
+        "a base in the range, and no length",
         0x8000_0018,
         0,
         0x8000_0018,
@@ -70,31 +78,31 @@ const SEALED: u128 = 0x0005_1fff_d409_8014_0000_0000_8000_0010;
 const UNTAGGED: u128 = 0x0005_0000_0409_8014_0000_0000_8000_0010;
 
 /// A capability with the permissions Global and Load.
-fn made(rt: &impl Abort, base: u64, len: u128, addr: u64) -> Cap {
-    let made = Cap::make(base, len, addr, Perms::from_bits_retain(5));
-    made.expect(rt, "these bounds can be made")
+fn loadable(rt: &impl Abort, base: u64, len: u128, addr: u64) -> Cap {
+    made(base, len, addr, 5).expect(rt, "these bounds can be made")
 }
 
 /// A memory of nine granules: those of the rows, a sealed capability and an untagged word. The
 /// ninth tag stands in a byte of its own.
 fn memory_of_rows(rt: &impl Abort, alloc: Global) -> Ram {
     let mut ram = Ram::new(alloc, 144).expect(rt, "the size is one that RAM may have");
-    for (k, (base, len, addr, _, _)) in SWEPT.iter().enumerate() {
+    for (k, (_, base, len, addr, _, _)) in SWEPT.iter().enumerate() {
         let addr_of_granule = 0x8000_0000 + 16 * k as u64;
-        store_cap_at(rt, &mut ram, addr_of_granule, made(rt, *base, *len, *addr));
+        let value = loadable(rt, *base, *len, *addr);
+        store_cap_at(rt, &mut ram, addr_of_granule, value);
     }
     store_cap_at(rt, &mut ram, 0x8000_0070, Cap::from_word(UNTAGGED));
     let key = Cap::root(Perms::SEAL).set_addr(5);
-    let sealed = made(rt, 0x8000_0010, 16, 0x8000_0010).seal(key);
+    let sealed = loadable(rt, 0x8000_0010, 16, 0x8000_0010).seal(key);
     store_cap_at(rt, &mut ram, 0x8000_0080, sealed);
     ram
 }
 
-fn has_granule(rt: &impl Abort, ram: &Ram, k: usize, bits: u128, tag: bool) {
+fn has_granule(rt: &impl Abort, ram: &Ram, k: usize, bits: u128, tag: bool, why: &str) {
     assert!(rt; k < ram.granule_count());
     let value = ram.granule(k);
-    assert_eq!(rt; value.bits(), bits, "granule {k}");
-    assert_eq!(rt; value.tag(), tag, "granule {k}");
+    assert_eq!(rt; value.bits(), bits, "granule {k}: {why}");
+    assert_eq!(rt; value.tag(), tag, "granule {k}: {why}");
 }
 
 /// How many granules have a tag.
@@ -113,11 +121,11 @@ fn capabilities_go_by_their_bases(rt: HostRuntime) {
     let mut ram = memory_of_rows(&rt, rt.alloc());
     assert_eq!(rt; tag_count(&ram), 8);
     assert_eq!(rt; ram.sweep(0x8000_0010, 0x8000_0030), 5);
-    for (k, (_, _, _, bits, swept)) in SWEPT.iter().enumerate() {
-        has_granule(&rt, &ram, k, *bits, !*swept);
+    for (k, (why, _, _, _, bits, swept)) in SWEPT.iter().enumerate() {
+        has_granule(&rt, &ram, k, *bits, !*swept, why);
     }
-    has_granule(&rt, &ram, 7, UNTAGGED, false);
-    has_granule(&rt, &ram, 8, SEALED, false);
+    has_granule(&rt, &ram, 7, UNTAGGED, false, "an untagged word");
+    has_granule(&rt, &ram, 8, SEALED, false, "a sealed capability");
     assert_eq!(rt; ram.size(), 144);
     // Nothing is left in the range.
     assert_eq!(rt; ram.sweep(0x8000_0010, 0x8000_0030), 0);
@@ -126,41 +134,29 @@ fn capabilities_go_by_their_bases(rt: HostRuntime) {
 
 #[test]
 fn ranges_clear_so_many(rt: HostRuntime) {
-    let rows: [(u64, u128, u32); 14] = [
-        // Ranges with no address.
-        (0, 0, 0),
-        (0x8000_0010, 0x8000_0010, 0),
-        (0x8000_0030, 0x8000_0010, 0),
-        (0xffff_ffff_ffff_ffff, 0, 0),
-        // One address.
-        (0x8000_0000, 0x8000_0001, 1),
-        (0x8000_000f, 0x8000_0010, 1),
-        (0x8000_0010, 0x8000_0011, 2),
-        (0x8000_0030, 0x8000_0031, 1),
-        // Up to the first base, from after the last.
-        (0, 0x8000_0000, 0),
-        (0x8000_0031, 1 << 64, 0),
-        (0, 0x8000_0030, 7),
-        // All addresses.
-        (0, 1 << 64, 8),
-        (0, u128::MAX, 8),
-        (0x8000_0000, 1 << 64, 8),
+    let rows: [(&str, u64, u128, u32); 14] = [
+        ("no address, at 0", 0, 0, 0),
+        ("no address, at a base", 0x8000_0010, 0x8000_0010, 0),
+        ("an end below the beginning", 0x8000_0030, 0x8000_0010, 0),
+        ("from the last address to 0", 0xffff_ffff_ffff_ffff, 0, 0),
+        ("the lowest base alone", 0x8000_0000, 0x8000_0001, 1),
+        ("the base of one", 0x8000_000f, 0x8000_0010, 1),
+        ("the base of two", 0x8000_0010, 0x8000_0011, 2),
+        ("the highest base alone", 0x8000_0030, 0x8000_0031, 1),
+        ("up to the lowest base", 0, 0x8000_0000, 0),
+        ("from right above the highest base", 0x8000_0031, 1 << 64, 0),
+        ("all bases but the highest", 0, 0x8000_0030, 7),
+        ("all addresses", 0, 1 << 64, 8),
+        ("an end above all addresses", 0, u128::MAX, 8),
+        ("from the lowest base on", 0x8000_0000, 1 << 64, 8),
     ];
-    for (lo, hi, cleared) in rows {
+    for (why, lo, hi, cleared) in rows {
         let mut ram = memory_of_rows(&rt, rt.alloc());
-        assert_eq!(rt; ram.sweep(lo, hi), cleared, "{lo:x} to {hi:x}");
-        assert_eq!(rt;
-            Some(tag_count(&ram)),
-            8u32.checked_sub(cleared),
-            "{lo:x} to {hi:x}"
-        );
-        for (k, (_, _, _, bits, _)) in SWEPT.iter().enumerate() {
+        assert_eq!(rt; ram.sweep(lo, hi), cleared, "{why}");
+        assert_eq!(rt; Some(tag_count(&ram)), 8u32.checked_sub(cleared), "{why}");
+        for (k, (_, _, _, _, bits, _)) in SWEPT.iter().enumerate() {
             assert!(rt; k < ram.granule_count());
-            assert_eq!(rt;
-                ram.granule(k).bits(),
-                *bits,
-                "{lo:x} to {hi:x}: granule {k}"
-            );
+            assert_eq!(rt; ram.granule(k).bits(), *bits, "{why}: granule {k}");
         }
     }
 }
@@ -177,6 +173,7 @@ fn the_least_memory_is_swept(rt: HostRuntime) -> Result<(), Fail> {
         0,
         0x0005_0000_0405_8004_0000_0000_8000_0000,
         false,
+        "the only granule",
     );
     Ok(())
 }
@@ -189,7 +186,7 @@ fn the_greatest_memory_is_swept(rt: HostRuntime) -> Result<(), Fail> {
     for k in [0, 7, 8, 32_767, 65_535] {
         store_cap_at(&rt, &mut ram, 0x8000_0000 + 16 * k, readable(&rt));
     }
-    let kept = made(&rt, 0x8000_0030, 16, 0x8000_0030);
+    let kept = loadable(&rt, 0x8000_0030, 16, 0x8000_0030);
     for k in [6, 9, 32_768, 65_534] {
         store_cap_at(&rt, &mut ram, 0x8000_0000 + 16 * k, kept);
     }
@@ -201,6 +198,7 @@ fn the_greatest_memory_is_swept(rt: HostRuntime) -> Result<(), Fail> {
             k,
             0x0005_0000_0405_8004_0000_0000_8000_0000,
             false,
+            "a base in the range",
         );
     }
     for k in [6, 9, 32_768, 65_534] {
@@ -210,6 +208,7 @@ fn the_greatest_memory_is_swept(rt: HostRuntime) -> Result<(), Fail> {
             k,
             0x0005_0000_0411_8034_0000_0000_8000_0030,
             true,
+            "a base right above the range",
         );
     }
     assert_eq!(rt; tag_count(&ram), 4);
@@ -229,8 +228,8 @@ fn a_pattern_of_stores_is_swept(rt: HostRuntime) -> Result<(), Fail> {
     assert_eq!(rt; tag_count(&ram), 3);
     assert_eq!(rt; ram.sweep(0x8000_0000, 0x8000_0001), 3);
     for (k, (bits, tag)) in AFTER_STORES.iter().enumerate() {
-        has_granule(&rt, &ram, k, *bits, false);
-        has_granule(&rt, &copy, k, *bits, *tag);
+        has_granule(&rt, &ram, k, *bits, false, "swept");
+        has_granule(&rt, &copy, k, *bits, *tag, "the copy");
     }
     Ok(())
 }

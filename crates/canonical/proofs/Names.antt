@@ -1,0 +1,4 @@
+-- Short names for `using(..)`.
+use Rattle.canonical.proofs.round_trip.Back.{canon_reads_back}
+
+pub ruleset back = (canon_reads_back)

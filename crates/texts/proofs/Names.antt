@@ -1,4 +1,0 @@
--- Short names for `using(..)`.
-use Rattle.texts.proofs.round_trip.Back.{canon_reads_back}
-
-pub ruleset back = (canon_reads_back)

@@ -1,8 +1,0 @@
-use Rattle.std.proofs.Common.{arith}
-use Rattle.std.proofs.lemmas.Grind.{common_steps}
-use Rattle.texts.specs.Canon.{register_line}
-use Rattle.texts.proofs.writer.write_register.Goals as goal
-
-pub returns-in_ok-push_str : goal.returns-in_ok-push_str
-unfolding register_line
-returns-in_ok-push_str c = grind (arith, common_steps)

@@ -1,8 +1,0 @@
-use Rattle.std.proofs.Common.{arith}
-use Rattle.std.proofs.lemmas.Grind.{common_steps}
-use Rattle.texts.specs.Canon.{setting_text}
-use Rattle.texts.proofs.writer.write_setting.Goals as goal
-
-pub returns-in_ok-write : goal.returns-in_ok-write
-unfolding setting_text
-returns-in_ok-write c = grind (arith, common_steps)
