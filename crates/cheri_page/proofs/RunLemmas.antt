@@ -1,11 +1,8 @@
 -- What is told of a run, from what was written of it and how that ended.
-use Rattle.std.proofs.Common.{◌≡◌, ◌∙◌, refl, sym, ap, subst, ℕ, List, [], ◌∷◌, Option, Result, inl, inr}
+use Rattle.std.proofs.Common.{◌≡◌, ◌∙◌, refl, sym, ap, subst, ℕ, List, [], Option, Result, inl, inr}
 use Rattle.std.specs.Prelude.{Some, Ok, Err, IfOk, IfErr, ◌⊎◌}
 use Rattle.std.specs.Io.KnownBytes.{Appends}
-use Rattle.std.proofs.KnownBytes.{Appends-trans}
-use Rattle.report_lines.specs.Texts.{line}
-use Rattle.sinks.proofs.SinkLemmas.{begins_on, stops_on, puts_all}
-use Rattle.sinks.specs.Sinks.{TakesBeginning, Memory}
+use Rattle.sinks.specs.Sinks.{Memory}
 use Rattle.cores.specs.Runs.{IsConfinedRun, Run, Stop}
 use Rattle.listings.specs.declared.fault.ListingFault.{ListingFault}
 use Rattle.simulation.specs.declared.faults.SimFault.{SimFault}
@@ -15,21 +12,7 @@ use Rattle.cheri_page.specs.declared.answer.Answer.{Answer}
 use Rattle.cheri_page.specs.Answers.{Told, Answers, IsTold, out_of_memory}
 use Rattle.cheri_page.specs.Runs.{IsRunTold, longest_run, told_by, told_of_run}
 
--- ---- the JSON report, and then the end of its line
-
-pub line_printed : (old now new : Option (List ℕ)) (text : List ℕ) → Appends old now text → Appends now new (10 ∷ []) → Appends old new (line text)
-line_printed old now new text grown more = Appends-trans old now new text (10 ∷ []) grown more
-
-pub line_begins : (old new : Option (List ℕ)) (text : List ℕ) → TakesBeginning old new text → TakesBeginning old new (line text)
-line_begins old new text begun = begins_on old new text (10 ∷ []) begun
-
-pub line_stops : (old now new : Option (List ℕ)) (text : List ℕ) → Appends old now text → TakesBeginning now new (10 ∷ []) →
-    TakesBeginning old new (line text)
-line_stops old now new text grown stop = stops_on old now new [] text (10 ∷ []) (puts_all old now [] text text refl refl grown) stop
-
-pub ruleset json_lines = (line_printed, line_begins, line_stops)
-
--- ---- what was told says more
+-- what was told says more
 
 pub says_more : (Is IsMore : Told → Type 0) (old new : List ℕ) (answer : Answer) → ((told : Told) → Is told → IsMore told) →
     Answers Is old new answer → Answers IsMore old new answer

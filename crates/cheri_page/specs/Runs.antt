@@ -1,11 +1,8 @@
 -- What is told of a listing, and of its run in an order.
 use Rattle.std.specs.Prelude.{◌≡◌, ℕ, List, [], Option, Some, None, Result, Ok, Err, IfOk, ◌⊎◌}
-use Rattle.serde_json.specs.Written.{compact_text}
 use Rattle.cheri_model.specs.runs.Image.{ImageParts}
 use Rattle.listings.specs.declared.fault.ListingFault.{ListingFault}
 use Rattle.listings.specs.Meaning.{listing_meaning}
-use Rattle.report_lines.specs.Texts.{line}
-use Rattle.reports.specs.Json.{json_report}
 use Rattle.cores.specs.declared.cores.TheConstants.{GREATEST_TRACE_LIMIT}
 use Rattle.cores.specs.Runs.{IsConfinedRun, Run, Stop}
 use Rattle.simulation.specs.declared.faults.SimFault.{SimFault}
@@ -26,10 +23,6 @@ IsCheckTold listing told = IsTold (told_of_meaning (listing_meaning listing)) to
 -- the run of two texts, with the greatest limit of a trace
 abbrev pub longest_run : List ℕ → List ℕ → Result Run SimFault
 longest_run listing order = run_of_texts listing order GREATEST_TRACE_LIMIT
-
--- the JSON report of a run, in one line
-abbrev pub json_of : Run → List ℕ
-json_of run = line (compact_text (json_report run.0.image run.0.trace run.0.state))
 
 -- the operation that stopped a run
 abbrev pub stop_fault : Option Stop → Option Fault

@@ -6,6 +6,5 @@
 
 mod answer;
 mod fault;
-mod json;
 mod numbers;
 mod runs;

@@ -1,20 +1,19 @@
 //! Calls about a listing, and about its run in an order.
 
 ghost use Rattle.std.specs.Prelude.{◌≡◌, []};
-ghost use Rattle.simulation.specs.Simulation.{report_of};
+ghost use Rattle.simulation.specs.Simulation.{json_of, report_of};
 ghost use Rattle.explanations.specs.ExplainedRuns.{explained};
 ghost use Rattle.explanations.specs.declared.runs.Format.TheVariants as formats;
 ghost use Rattle.explanations.specs.declared.selection.Filter.TheVariants as filters;
 ghost use Rattle.cheri_page.specs.Answers.{Answers, IsTold};
-ghost use Rattle.cheri_page.specs.Runs.{IsCheckTold, IsRunTold, json_of, told_by};
+ghost use Rattle.cheri_page.specs.Runs.{IsCheckTold, IsRunTold, told_by};
 
 use crate::answer::{Answer, tell};
 use crate::fault::Fault;
-use crate::json::simulate_json;
 use cores::{GREATEST_TRACE_LIMIT, StepFault};
 use explanations::{Filter, Format, Selection, explain};
 use listings::read_listing;
-use simulation::{SimFault, simulate};
+use simulation::{SimFault, simulate, simulate_json};
 use sinks::MemSink;
 use std::alloc::Global;
 
@@ -83,7 +82,7 @@ pub extern "C" fn cheri_json(
     ensures { Answers (IsRunTold json_of listing.now order.now) out.old out.new answer.new }
 {
     let mut sink = keeper(alloc);
-    let ran = simulate_json(alloc, listing, order, &mut sink);
+    let ran = simulate_json(alloc, listing, order, GREATEST_TRACE_LIMIT, &mut sink);
     tell_run(alloc, ran, sink.bytes(), out, answer);
 }
 

@@ -3,7 +3,6 @@ use Rattle.std.proofs.Common.{◌≡◌, ◌≢◌, ◌∙◌, subst, sym, ap, �
 use Rattle.std.specs.Prelude.{◌⊎◌, OnOk, IfErr}
 use Rattle.std.specs.Io.KnownBytes.{Appends}
 use Rattle.cheri_model.specs.runs.Image.{ImageParts}
-use Rattle.cap_model.specs.declared.encoding.TheConstants.{ADDRESS_SPACE}
 use Rattle.report_lines.specs.Texts.{line}
 use Rattle.sinks.specs.Sinks.{TakesBeginning}
 use Rattle.cores.specs.Runs.{Stop}
@@ -16,16 +15,18 @@ use Rattle.inputs.specs.Files.{KnownFiles, AreBytesOf}
 use Rattle.inputs.specs.Reading.{AreTextsUnread, IsImageRefused, MeansImage}
 use Rattle.inputs.specs.declared.fault.InputFault.{InputFault}
 use Rattle.inputs.proofs.InputLemmas.{image_fails, of_image, texts_fail}
+use Rattle.number_lines.specs.Numbers.{IsNumberFault}
+use Rattle.number_lines.specs.declared.numbers.NumberFault.{NumberFault}
+use Rattle.number_lines.specs.declared.numbers.NumberFault.TheVariants as numbers
 use Rattle.printing.specs.Endings.{HasWhole}
 use Rattle.printing.proofs.EndingLemmas.{fails_more, whole_more, whole_printed}
 use Rattle.cheri_sim.specs.declared.faults.Fault.{Fault}
 use Rattle.cheri_sim.specs.declared.faults.Fault.TheVariants as faults
-use Rattle.cheri_sim.specs.declared.program.TheConstants.{GREATEST_ADDRESS, GREATEST_WORD}
-use Rattle.cheri_sim.specs.Answers.{number_given, bounds_line, check_line, decode_line}
+use Rattle.cheri_sim.specs.Answers.{check_line}
 use Rattle.cheri_sim.specs.Endings.{Answer, Fails}
-use Rattle.cheri_sim.specs.Faults.{command_fault, failure_of, fault_text, status_of}
-use Rattle.cheri_sim.specs.Program.{FailsWith, IsAnswer, IsBoundsAnswer, IsDecodeAnswer, IsQuiet}
-use Rattle.cheri_sim.specs.Program.{answer_of_range, answer_of_word, is_in_pieces, unread}
+use Rattle.cheri_sim.specs.Faults.{command_fault, failure_of, fault_text, number_fault, status_of}
+use Rattle.cheri_sim.specs.Program.{FailsWith, IsAnswer, IsNumbersAnswer, IsQuiet}
+use Rattle.cheri_sim.specs.Program.{answer_of_numbers, is_in_pieces, unread}
 use Rattle.cheri_sim.specs.Races.{IsRaceAnswer, TellsLooks}
 use Rattle.cheri_sim.specs.Runs.{IsRunAnswer}
 use Rattle.cheri_sim.proofs.FaultLemmas.{reported, unwritten_fails}
@@ -150,74 +151,27 @@ command_fails files request result commands.Usage old new is nothing same =
     subst (λ (r : Option Asked). Fails (IsAnswer files r) (is_in_pieces r) faults.Usage old new) (sym (nothing is)) (refl, same)
 command_fails files request result commands.NoMemory old new is nothing same = inl same
 
--- the line of a range, and of a word
-pub bounds_answer : (base len : List ℕ) (first span : ℕ) (text : List ℕ) → number_given GREATEST_ADDRESS base ≡ Ok first →
-    number_given ADDRESS_SPACE len ≡ Ok span → text ≡ bounds_line first span → IsBoundsAnswer base len (Ok (text, None))
-bounds_answer base len first span text base_is len_is same =
-    ap shown same
-    ∙ (sym (ap (λ n. answer_of_range (Ok first) n) len_is) ∙ sym (ap (λ n. answer_of_range n (number_given ADDRESS_SPACE len)) base_is))
-  where
-    shown : List ℕ → Answer
-    shown bytes = Ok (bytes, None)
+-- the line that answers numbers, and arguments that are none
+module _ (found : Option (List ℕ)) (old new : Option (List ℕ)) where
+  pub numbers_refused : (refused : NumberFault) → IsNumberFault found refused → new ≡ old →
+      Fails (IsNumbersAnswer found) false (number_fault refused) old new
+  numbers_refused numbers.NoMemory is same = inl same
+  numbers_refused numbers.BadNumber is same = (sym (ap answer_of_numbers is), same)
 
-pub decode_answer : (word : List ℕ) (number : ℕ) (text : List ℕ) → number_given GREATEST_WORD word ≡ Ok number →
-    text ≡ decode_line number → IsDecodeAnswer word (Ok (text, None))
-decode_answer word number text word_is same = ap shown same ∙ sym (ap answer_of_word word_is)
-  where
-    shown : List ℕ → Answer
-    shown bytes = Ok (bytes, None)
+  numbers_answer : (text : List ℕ) → found ≡ Some text → IsNumbersAnswer found (Ok (text, None))
+  numbers_answer text is = sym (ap answer_of_numbers is)
 
--- a number that is none
-bad_number_fails : (IsSo : Answer → Type 0) (old new : Option (List ℕ)) (fault : Fault) → fault ≡ faults.BadNumber → IsSo (Err fault) →
-    new ≡ old → Fails IsSo false fault old new
-bad_number_fails IsSo old new fault bad answer same =
-    subst (λ (f : Fault). Fails IsSo false f old new) (sym bad) (subst (λ (f : Fault). IsSo (Err f)) bad answer, same)
+  pub numbers_printed : {T : Type 0} (text : List ℕ) (result : Result (Unit {0}) T) → found ≡ Some text →
+      OnOk result (Appends old new text) → OnOk result (HasWhole (IsNumbersAnswer found) None old new)
+  numbers_printed text result is grown =
+      whole_printed (IsNumbersAnswer found) text None old new result (numbers_answer text is) grown
 
-pub bounds_base_fails : (base len : List ℕ) (fault : Fault) (old new : Option (List ℕ)) → number_given GREATEST_ADDRESS base ≡ Err fault →
-    fault ≡ faults.BadNumber → new ≡ old → Fails (IsBoundsAnswer base len) false fault old new
-bounds_base_fails base len fault old new base_is bad same =
-    bad_number_fails (IsBoundsAnswer base len) old new fault bad
-    (sym (ap (λ n. answer_of_range n (number_given ADDRESS_SPACE len)) base_is)) same
+  pub numbers_unwritten : (text : List ℕ) → found ≡ Some text → TakesBeginning old new text →
+      Fails (IsNumbersAnswer found) false faults.CannotWrite old new
+  numbers_unwritten text is begun =
+      unwritten_fails (IsNumbersAnswer found) false old new text None (numbers_answer text is) begun
 
-pub bounds_len_fails : (base len : List ℕ) (first : ℕ) (fault : Fault) (old new : Option (List ℕ)) →
-    number_given GREATEST_ADDRESS base ≡ Ok first → number_given ADDRESS_SPACE len ≡ Err fault →
-    fault ≡ faults.BadNumber → new ≡ old → Fails (IsBoundsAnswer base len) false fault old new
-bounds_len_fails base len first fault old new base_is len_is bad same =
-    bad_number_fails (IsBoundsAnswer base len) old new fault bad
-    (sym (ap (λ n. answer_of_range (Ok first) n) len_is) ∙ sym (ap (λ n. answer_of_range n (number_given ADDRESS_SPACE len)) base_is)) same
-
-pub decode_fails : (word : List ℕ) (fault : Fault) (old new : Option (List ℕ)) → number_given GREATEST_WORD word ≡ Err fault →
-    fault ≡ faults.BadNumber → new ≡ old → Fails (IsDecodeAnswer word) false fault old new
-decode_fails word fault old new word_is bad same =
-    bad_number_fails (IsDecodeAnswer word) old new fault bad (sym (ap answer_of_word word_is)) same
-
-pub bounds_unwritten : (base len : List ℕ) (first span : ℕ) (text : List ℕ) (old new : Option (List ℕ)) →
-    number_given GREATEST_ADDRESS base ≡ Ok first → number_given ADDRESS_SPACE len ≡ Ok span → text ≡ bounds_line first span →
-    TakesBeginning old new text → Fails (IsBoundsAnswer base len) false faults.CannotWrite old new
-bounds_unwritten base len first span text old new base_is len_is same begun =
-    unwritten_fails (IsBoundsAnswer base len) false old new text None (bounds_answer base len first span text base_is len_is same) begun
-
-pub bounds_printed : {T : Type 0} (base len : List ℕ) (first span : ℕ) (text : List ℕ) (result : Result (Unit {0}) T) (old new : Option (List ℕ)) →
-    number_given GREATEST_ADDRESS base ≡ Ok first → number_given ADDRESS_SPACE len ≡ Ok span → text ≡ bounds_line first span →
-    OnOk result (Appends old new text) → OnOk result (HasWhole (IsBoundsAnswer base len) None old new)
-bounds_printed base len first span text result old new base_is len_is same grown =
-    whole_printed (IsBoundsAnswer base len) text None old new result (bounds_answer base len first span text base_is len_is same) grown
-
-pub decode_unwritten : (word : List ℕ) (number : ℕ) (text : List ℕ) (old new : Option (List ℕ)) →
-    number_given GREATEST_WORD word ≡ Ok number → text ≡ decode_line number →
-    TakesBeginning old new text → Fails (IsDecodeAnswer word) false faults.CannotWrite old new
-decode_unwritten word number text old new word_is same begun =
-    unwritten_fails (IsDecodeAnswer word) false old new text None (decode_answer word number text word_is same) begun
-
-pub decode_printed : {T : Type 0} (word : List ℕ) (number : ℕ) (text : List ℕ) (result : Result (Unit {0}) T) (old new : Option (List ℕ)) →
-    number_given GREATEST_WORD word ≡ Ok number → text ≡ decode_line number →
-    OnOk result (Appends old new text) → OnOk result (HasWhole (IsDecodeAnswer word) None old new)
-decode_printed word number text result old new word_is same grown =
-    whole_printed (IsDecodeAnswer word) text None old new result (decode_answer word number text word_is same) grown
-
-pub ruleset bounds_answers = (bounds_base_fails, bounds_len_fails, bounds_printed, bounds_unwritten)
-
-pub ruleset decode_answers = (decode_fails, decode_printed, decode_unwritten)
+pub ruleset number_answers = (numbers_refused, numbers_printed, numbers_unwritten)
 
 -- a fault, its status and its line, before which nothing was written
 pub fails_with : (files : KnownFiles) (request : Option Asked) (fault : Fault) (status : ℕ) (old new err_old err_now err_new : Option (List ℕ)) →

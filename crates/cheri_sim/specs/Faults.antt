@@ -8,6 +8,8 @@ use Rattle.harts.specs.declared.faults.RunFault.{RunFault}
 use Rattle.harts.specs.declared.faults.RunFault.TheVariants as race
 use Rattle.inputs.specs.Faults.{fault_text as input_text, listing_fault, order_fault, status_of as input_status}
 use Rattle.inputs.specs.declared.fault.InputFault.TheVariants as inputs
+use Rattle.number_lines.specs.declared.numbers.NumberFault.{NumberFault}
+use Rattle.number_lines.specs.declared.numbers.NumberFault.TheVariants as numbers
 use Rattle.printing.specs.Endings.{Failure, Refused, Unwritten, OutOfMemory, Stopped}
 use Rattle.simulation.specs.declared.faults.SimFault.{SimFault}
 use Rattle.simulation.specs.declared.faults.SimFault.TheVariants as sim
@@ -50,6 +52,11 @@ no_memory = Input inputs.NoMemory
 abbrev pub command_fault : CommandFault → Fault
 command_fault commands.Usage = Usage
 command_fault commands.NoMemory = no_memory
+
+-- arguments that no line answers
+abbrev pub number_fault : NumberFault → Fault
+number_fault numbers.NoMemory = no_memory
+number_fault numbers.BadNumber = BadNumber
 
 -- a report that was not written whole
 abbrev pub written_fault : WriteFault → Fault

@@ -1,17 +1,17 @@
 -- What the program answers to its command line, and how it ends.
-use Rattle.std.specs.Prelude.{◌≡◌, ℕ, List, codes, Option, Some, None, Result, Ok, Err, Bool, true, false, String}
+use Rattle.std.specs.Prelude.{◌≡◌, ℕ, List, codes, Option, Some, None, Ok, Err, Bool, true, false}
+use Rattle.std.specs.Prelude.{String}
 use Rattle.std.specs.Global.{Global}
-use Rattle.cap_model.specs.declared.encoding.TheConstants.{ADDRESS_SPACE}
 use Rattle.command_line.specs.Requests.{Asked, Check, Run, Race, Bounds, Decode}
 use Rattle.inputs.specs.Arguments.{command_words}
 use Rattle.inputs.specs.Files.{KnownFiles}
 use Rattle.inputs.specs.Reading.{OfImage, OfTexts}
 use Rattle.inputs.specs.declared.fault.InputFault.{InputFault}
+use Rattle.number_lines.specs.Numbers.{range_answer, word_answer}
 use Rattle.printing.specs.Endings.{EndsBy}
-use Rattle.cheri_sim.specs.declared.program.TheConstants.{GREATEST_ADDRESS, GREATEST_WORD}
 use Rattle.cheri_sim.specs.declared.faults.Fault.{Fault}
 use Rattle.cheri_sim.specs.declared.faults.Fault.TheVariants as fault
-use Rattle.cheri_sim.specs.Answers.{number_given, bounds_line, check_line, decode_line}
+use Rattle.cheri_sim.specs.Answers.{check_line}
 use Rattle.cheri_sim.specs.Endings.{Answer, Fails}
 use Rattle.cheri_sim.specs.Faults.{fault_text, status_of}
 use Rattle.cheri_sim.specs.Races.{IsRaceAnswer, TellsLooks}
@@ -25,23 +25,13 @@ command_line words = command_words (codes "cheri_sim") words
 abbrev pub unread : InputFault → Answer
 unread input = Err (fault.Input input)
 
--- `bounds`: the line of the range
-abbrev pub answer_of_range : Result ℕ Fault → Result ℕ Fault → Answer
-answer_of_range (Ok base) (Ok len) = Ok (bounds_line base len, None)
-answer_of_range (Ok base) (Err refused) = Err refused
-answer_of_range (Err refused) len = Err refused
+-- `bounds` and `decode`: the line that answers their numbers, where they are numbers
+abbrev pub answer_of_numbers : Option (List ℕ) → Answer
+answer_of_numbers (Some text) = Ok (text, None)
+answer_of_numbers None = Err fault.BadNumber
 
-abbrev pub IsBoundsAnswer : List ℕ → List ℕ → Answer → Type 0
-IsBoundsAnswer base len answer =
-    answer ≡ answer_of_range (number_given GREATEST_ADDRESS base) (number_given ADDRESS_SPACE len)
-
--- `decode`: the line of the word
-abbrev pub answer_of_word : Result ℕ Fault → Answer
-answer_of_word (Ok word) = Ok (decode_line word, None)
-answer_of_word (Err refused) = Err refused
-
-abbrev pub IsDecodeAnswer : List ℕ → Answer → Type 0
-IsDecodeAnswer word answer = answer ≡ answer_of_word (number_given GREATEST_WORD word)
+abbrev pub IsNumbersAnswer : Option (List ℕ) → Answer → Type 0
+IsNumbersAnswer found answer = answer ≡ answer_of_numbers found
 
 -- the answers to a request
 abbrev pub IsAnswer : KnownFiles → Option Asked → Answer → Type 0
@@ -53,8 +43,8 @@ IsAnswer files (Some (Run listing order form)) answer =
     (λ first second. IsRunAnswer form first second answer) answer
 IsAnswer files (Some (Race listing turns watch)) answer =
     OfImage (files listing) unread (λ image. IsRaceAnswer image turns answer) answer
-IsAnswer files (Some (Bounds base len)) answer = IsBoundsAnswer base len answer
-IsAnswer files (Some (Decode word)) answer = IsDecodeAnswer word answer
+IsAnswer files (Some (Bounds base len)) answer = IsNumbersAnswer (range_answer base len) answer
+IsAnswer files (Some (Decode word)) answer = IsNumbersAnswer (word_answer word) answer
 
 -- whether a request's text is printed in pieces: a report is, and a line is not
 abbrev pub is_in_pieces : Option Asked → Bool

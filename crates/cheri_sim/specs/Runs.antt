@@ -1,20 +1,13 @@
 -- The run of a listing in an order, as the program answers it.
 use Rattle.std.specs.Prelude.{◌≡◌, ℕ, List, Result, Ok, Err, IfOk}
-use Rattle.serde_json.specs.Written.{compact_text}
-use Rattle.reports.specs.Json.{json_report}
-use Rattle.report_lines.specs.Texts.{line}
 use Rattle.cores.specs.declared.cores.TheConstants.{GREATEST_TRACE_LIMIT}
 use Rattle.simulation.specs.declared.faults.SimFault.{SimFault}
 use Rattle.cores.specs.Runs.{IsConfinedRun, Run}
-use Rattle.simulation.specs.Simulation.{report_of, run_of_texts}
+use Rattle.simulation.specs.Simulation.{json_of, report_of, run_of_texts}
 use Rattle.command_line.specs.declared.found.ReportForm.{ReportForm}
 use Rattle.command_line.specs.declared.found.ReportForm.TheVariants as forms
 use Rattle.cheri_sim.specs.Endings.{Answer}
 use Rattle.cheri_sim.specs.Faults.{sim_fault}
-
--- the JSON report of a run, in one line
-abbrev pub json_of : Run → List ℕ
-json_of run = line (compact_text (json_report run.0.image run.0.trace run.0.state))
 
 -- the report of a run in a form
 abbrev pub report_in : ReportForm → Run → List ℕ

@@ -7,6 +7,7 @@ use command_line::CommandFault;
 use harts::RunFault;
 use inputs::InputFault;
 use machine::{SimFault, StepFault};
+use number_lines::NumberFault;
 use reports::{ReportFault, SinkFailed};
 use std::alloc::AllocError;
 use std::fmt;
@@ -102,6 +103,19 @@ impl From<InputFault> for Fault {
 
     fn from(refused: InputFault) -> Fault {
         Fault::Input(refused)
+    }
+}
+
+impl From<NumberFault> for Fault {
+    ghost use Rattle.cheri_sim.specs.Faults.{number_fault};
+
+    ghost from_gives = { λ refused fault. fault ≡ number_fault refused };
+
+    fn from(refused: NumberFault) -> Fault {
+        match refused {
+            NumberFault::NoMemory => Fault::Input(InputFault::NoMemory),
+            NumberFault::BadNumber => Fault::BadNumber,
+        }
     }
 }
 

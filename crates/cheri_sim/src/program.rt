@@ -3,34 +3,27 @@
 ghost use Rattle.std.specs.Prelude.{None, ◌≡◌, ◌≢◌, ◌≤◌, ◌⊎◌, IfOk, IfErr, OnErr, OnOk, Err, Some, false, true};
 ghost use Rattle.command_line.specs.Requests.{asked, Check, Run, Race};
 ghost use Rattle.grammar.specs.Tokens.{texts};
+ghost use Rattle.number_lines.specs.Numbers.{range_answer, word_answer};
 ghost use Rattle.printing.specs.Endings.{HasWhole};
 ghost use Rattle.report_lines.specs.Texts.{line};
 ghost use Rattle.sinks.specs.Sinks.{TakesBeginning};
-ghost use Rattle.cheri_sim.specs.Answers.{number_given};
 ghost use Rattle.cheri_sim.specs.Endings.{Fails};
 ghost use Rattle.cheri_sim.specs.Faults.{fault_text, no_memory, status_of};
-ghost use Rattle.cheri_sim.specs.Program.{command_line, IsAnswer, IsBoundsAnswer, IsDecodeAnswer};
+ghost use Rattle.cheri_sim.specs.Program.{command_line, IsAnswer, IsNumbersAnswer};
 ghost use Rattle.cheri_sim.specs.Program.{FailsWith, IsQuiet, is_in_pieces};
 
-use crate::answers::{bounds_text, check_text, decode_text};
+use crate::answers::check_text;
 use crate::faults::Fault;
 use crate::races::print_race;
 use crate::runs::print_run;
-use cheri_model::ADDRESS_SPACE;
 use command_line::{ReportForm, Request, parse};
-use grammar::numerals::number_of;
 use inputs::{Files, command_words, read_image, read_texts};
+use number_lines::{range_line, word_line};
 use printing::{print, write_line};
 use std::alloc::{AllocError, Global};
 use std::io::Write;
 use std::sync::Wait;
 use std::thread::Threads;
-
-/// The greatest address.
-const GREATEST_ADDRESS: u128 = ADDRESS_SPACE - 1;
-
-/// The greatest word of a value.
-const GREATEST_WORD: u128 = u128::MAX;
 
 /// `check LISTING`.
 #[tactic(auto, using(crate::proofs::ProgramLemmas::check_answers))]
@@ -110,43 +103,29 @@ fn race<F: Files, O: Write, E: Write, R: Threads + Wait + Sync>(
     print_race(rt, alloc, image, turns, watch, out, err)
 }
 
-/// The number that an argument writes as in a listing, which is at most the limit.
-#[tactic(auto, unfolding(crate::specs::Answers::number_given))]
-fn number_given(limit: u128, word: &str) -> Result<u128, Fault>
-    ensures value { result ≡ number_given limit word.now }
-    ensures at_most { IfOk result (λ number. number ≤ limit) }
-    ensures refused { IfErr result (λ fault. fault ≡ Fault.BadNumber) }
-{
-    match number_of(word.as_bytes()) {
-        Ok(Some(number)) if number <= limit => Ok(number),
-        _ => Err(Fault::BadNumber),
-    }
-}
-
-/// `bounds BASE LEN`: both numbers are read before the range is rounded.
-#[tactic(auto, using(crate::proofs::ProgramLemmas::bounds_answers))]
+/// `bounds BASE LEN`.
+#[tactic(auto, using(crate::proofs::ProgramLemmas::number_answers))]
 fn bounds<O: Write>(alloc: Global, base: &str, len: &str, out: &mut O) -> Result<(), Fault>
-    ensures printed { OnOk result (HasWhole (IsBoundsAnswer base.now len.now) None
+    ensures printed { OnOk result (HasWhole (IsNumbersAnswer (range_answer base.now len.now)) None
         (O.contents out.old) (O.contents out.new)) }
-    ensures failed { IfErr result (λ fault. Fails (IsBoundsAnswer base.now len.now) false fault
-        (O.contents out.old) (O.contents out.new)) }
+    ensures failed { IfErr result (λ fault. Fails (IsNumbersAnswer (range_answer base.now len.now))
+        false fault (O.contents out.old) (O.contents out.new)) }
 {
-    let base = number_given(GREATEST_ADDRESS, base)?;
-    let len = number_given(ADDRESS_SPACE, len)?;
-    print(out, bounds_text(alloc, base as u64, len)?.as_str())?;
+    let text = range_line(alloc, base.as_bytes(), len.as_bytes())?;
+    print(out, text.as_str())?;
     Ok(())
 }
 
 /// `decode WORD`.
-#[tactic(auto, using(crate::proofs::ProgramLemmas::decode_answers))]
+#[tactic(auto, using(crate::proofs::ProgramLemmas::number_answers))]
 fn decode<O: Write>(alloc: Global, word: &str, out: &mut O) -> Result<(), Fault>
-    ensures printed { OnOk result (HasWhole (IsDecodeAnswer word.now) None
+    ensures printed { OnOk result (HasWhole (IsNumbersAnswer (word_answer word.now)) None
         (O.contents out.old) (O.contents out.new)) }
-    ensures failed { IfErr result (λ fault. Fails (IsDecodeAnswer word.now) false fault
-        (O.contents out.old) (O.contents out.new)) }
+    ensures failed { IfErr result (λ fault. Fails (IsNumbersAnswer (word_answer word.now)) false
+        fault (O.contents out.old) (O.contents out.new)) }
 {
-    let word = number_given(GREATEST_WORD, word)?;
-    print(out, decode_text(alloc, word)?.as_str())?;
+    let text = word_line(alloc, word.as_bytes())?;
+    print(out, text.as_str())?;
     Ok(())
 }
 

@@ -17,7 +17,6 @@ mod text;
 mod whole_json;
 
 pub use followed::follow;
-
 pub use names::OriginName;
 pub use runs::{Format, explain};
 pub use selection::{Filter, Selection};

@@ -13,10 +13,9 @@ ghost use Rattle.explanations.specs.ExplainedRuns.{explained, explained_core};
 use crate::selection::Selection;
 use crate::text::write_text;
 use crate::whole_json::write_json;
-use cores::{Core, GREATEST_TRACE_LIMIT, StepFault, run_judged};
-use listings::{instruction_lines, read_listing};
-use orders::judge_order;
-use simulation::SimFault;
+use cores::{Core, GREATEST_TRACE_LIMIT, StepFault};
+use listings::instruction_lines;
+use simulation::{SimFault, run_texts};
 use sinks::{Sink, WriteFault};
 use std::alloc::Global;
 
@@ -79,9 +78,7 @@ pub fn explain<S: Sink>(
     ensures failures { S.failures out.new ≡ S.failures out.old + failures_of_run result }
     ensures place { S.place out.new ≡ S.place out.old }
 {
-    let image = read_listing(alloc, listing)?;
-    let ops = judge_order(order)?;
-    let (core, refused) = run_judged(alloc, image, ops, GREATEST_TRACE_LIMIT)?;
+    let (core, refused) = run_texts(alloc, listing, order, GREATEST_TRACE_LIMIT)?;
     write_explained(alloc, &core, listing, selection, format, out)?;
     Ok(refused)
 }

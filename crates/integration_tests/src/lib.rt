@@ -3,8 +3,6 @@
 #![tactic(auto)]
 
 #[cfg(test)]
-mod canonical;
-#[cfg(test)]
 mod common;
 #[cfg(test)]
 mod machines;
@@ -22,3 +20,5 @@ mod sweeps;
 mod watches;
 #[cfg(test)]
 mod words;
+#[cfg(test)]
+mod writing;

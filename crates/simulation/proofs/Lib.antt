@@ -1,1 +1,2 @@
 pub mod SimulationLemmas
+pub mod LineLemmas

@@ -1,5 +1,6 @@
 -- What two texts mean as a run, and why a run of them is refused.
-use Rattle.std.proofs.Common.{◌≡◌, Bool, true, false, ℕ, List, refl, sym, ap, subst, ◌∙◌, inl, inr}
+use Rattle.std.proofs.Common.{◌≡◌, Bool, true, false, ℕ, ◌+◌, List, refl, sym, ap, subst, ◌∙◌, inl, inr, IsErrAnd, arith}
+use Rattle.std.proofs.lemmas.Result.{err_from_is_err_and}
 use Rattle.std.specs.Prelude.{◌↔◌, ◌⊎◌, if◌then◌else◌, Result, Ok, Err, IsOk}
 use Rattle.listings.specs.declared.fault.ListingFault.{ListingFault}
 use Rattle.listings.specs.Faults.{Gives, no_memory}
@@ -7,15 +8,14 @@ use Rattle.listings.specs.Meaning.{listing_meaning}
 use Rattle.orders.specs.declared.fault.OrderFault.{OrderFault}
 use Rattle.orders.specs.Orders.{order_of}
 use Rattle.cheri_model.specs.declared.operation.Op.{Op}
-use Rattle.cheri_model.specs.runs.Authority.{IsConfined}
 use Rattle.cheri_model.specs.runs.Image.{ImageParts}
 use Rattle.cores.specs.declared.faults.BootFault.{BootFault}
 use Rattle.cores.specs.declared.faults.BootFault.TheVariants as boot
 use Rattle.simulation.specs.declared.faults.SimFault.{SimFault}
 use Rattle.simulation.specs.declared.faults.SimFault.TheVariants as sim
-use Rattle.cores.specs.Cores.{IsCore, is_limit}
-use Rattle.cores.specs.Runs.{Run, run_of}
-use Rattle.simulation.specs.Simulation.{IsRunAnd, IsUnbooted, run_meant, run_of_texts}
+use Rattle.cores.specs.Cores.{is_limit}
+use Rattle.cores.specs.Runs.{IsConfinedRun, Run, run_of}
+use Rattle.simulation.specs.Simulation.{IsRefusedRun, IsRunAnd, IsUnbooted, IsUnrun, failures_of_run, run_meant, run_of_texts}
 
 -- a limit is good or not
 by_limit : {A : Type 0} (limit : ℕ) → (is_limit limit ≡ true → A) → (is_limit limit ≡ false → A) → A
@@ -63,11 +63,55 @@ module _ (listing order : List ℕ) (limit : ℕ) (image : ImageParts) (operatio
       no : ◌≡◌ {A = Result Run BootFault} (Err boot.NoMemory) (Err boot.Limit) → IsUnbooted boot.NoMemory (run_of_texts listing order limit)
       no is = absurd cc
 
+-- a listing of which there is a run has a meaning
+pub listing_means : (listing order : List ℕ) (limit : ℕ) (run : Run) → run_of_texts listing order limit ≡ Ok run →
+    (image : ImageParts) × (listing_meaning listing ≡ Ok image)
+unfolding run_meant
+listing_means listing order limit run is = by (listing_meaning listing) refl
+  where
+    no : (fault : ListingFault) → ◌≡◌ {A = Result Run SimFault} (Err (sim.Listing fault)) (Ok run) →
+        (image : ImageParts) × (listing_meaning listing ≡ Ok image)
+    no fault other = absurd cc
+
+    by : (meaning : Result ImageParts ListingFault) → listing_meaning listing ≡ meaning →
+        (image : ImageParts) × (listing_meaning listing ≡ Ok image)
+    by (Ok image) means = (image, means)
+    by (Err fault) means = no fault (sym (ap (λ m. run_meant m (order_of order) limit) means) ∙ is)
+
 -- what holds of a run holds of what means it
-pub of_run : (meaning : Result Run SimFault) (run : Run) (IsSo : Run → Type 0) → meaning ≡ Ok run → IsCore run.0 →
-    IsConfined run.0.image run.0.state → IsSo run → IsRunAnd meaning IsSo
-of_run meaning run IsSo is core confined so =
-    subst (λ (r : Result Run SimFault). IsRunAnd r IsSo) (sym is) (record { core = core; confined = confined }, so)
+pub of_run : (meaning : Result Run SimFault) (run : Run) (IsSo : Run → Type 0) → meaning ≡ Ok run → IsConfinedRun run →
+    IsSo run → IsRunAnd meaning IsSo
+of_run meaning run IsSo is confined so = subst (λ (r : Result Run SimFault). IsRunAnd r IsSo) (sym is) (confined, so)
+
+-- What was refused before any report says nothing of one.
+pub unrun_says : (run : Result Run SimFault) (fault : SimFault) (IsSo : Run → Type 0) → IsUnrun run fault →
+    IsRefusedRun run IsSo fault
+unrun_says run (sim.Listing fault) IsSo is = is
+unrun_says run (sim.Order fault) IsSo is = is
+unrun_says run (sim.Boot fault) IsSo is = is
+unrun_says (Ok run) (sim.Report fault) IsSo is = absurd is.1
+unrun_says (Err other) (sim.Report fault) IsSo is = absurd is
+
+unrun_fails_nothing : (X : Type 0) (run : Result Run SimFault) (fault : SimFault) → IsUnrun run fault →
+    failures_of_run {X = X} (Err fault) ≡ 0
+unrun_fails_nothing X run (sim.Listing fault) is = refl
+unrun_fails_nothing X run (sim.Order fault) is = refl
+unrun_fails_nothing X run (sim.Boot fault) is = refl
+unrun_fails_nothing X (Ok run) (sim.Report fault) is = absurd is.1
+unrun_fails_nothing X (Err other) (sim.Report fault) is = absurd is
+
+-- what the answer of a run says of failures is what its fault says
+pub failures_are : {X : Type 0} (answer : Result X SimFault) (fault : SimFault) → IsErrAnd answer (λ f. f ≡ fault) →
+    failures_of_run answer ≡ failures_of_run {X = X} (Err fault)
+failures_are answer fault is =
+    let p = err_from_is_err_and answer is in
+    ap failures_of_run (p.1 ∙ ap (λ f. Err f) p.2)
+
+-- a fault before the report is no failure of the sink
+pub none_fails : {X : Type 0} (run : Result Run SimFault) (answer : Result X SimFault) (fault : SimFault) (failures : ℕ) →
+    IsErrAnd answer (λ f. f ≡ fault) → IsUnrun run fault → failures ≡ failures + failures_of_run answer
+none_fails {X} run answer fault failures is unrun =
+    omega (arith, failures_are answer fault is, unrun_fails_nothing X run fault unrun)
 
 -- a listing that was refused
 pub listing_refused : (listing order : List ℕ) (limit : ℕ) (fault : ListingFault) →

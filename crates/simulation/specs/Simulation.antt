@@ -8,7 +8,10 @@ use Rattle.orders.specs.declared.fault.OrderFault.{OrderFault}
 use Rattle.orders.specs.Orders.{order_of}
 use Rattle.cheri_model.specs.declared.operation.Op.{Op}
 use Rattle.cheri_model.specs.runs.Image.{ImageParts}
+use Rattle.report_lines.specs.Texts.{line}
+use Rattle.reports.specs.Json.{json_report}
 use Rattle.reports.specs.Report.{report}
+use Rattle.serde_json.specs.Written.{compact_text}
 use Rattle.sinks.specs.WriteFaults.{failures_of}
 use Rattle.cores.specs.declared.faults.BootFault.{BootFault}
 use Rattle.cores.specs.declared.faults.BootFault.TheVariants as boot
@@ -33,6 +36,10 @@ run_of_texts listing order limit = run_meant (listing_meaning listing) (order_of
 abbrev pub report_of : Run → List ℕ
 report_of run = report run.0.image run.0.trace run.0.state
 
+-- the JSON report of a run, in one line
+abbrev pub json_of : Run → List ℕ
+json_of run = line (compact_text (json_report run.0.image run.0.trace run.0.state))
+
 -- a machine is not booted for its limit, or with a good one when out of memory
 abbrev pub IsUnbooted : BootFault → Result Run SimFault → Type 0
 IsUnbooted boot.Limit run = run ≡ Err (Boot boot.Limit)
@@ -50,6 +57,10 @@ IsRefusedRun run IsSo (Listing fault) = (fault ≡ no_memory) ⊎ (run ≡ Err (
 IsRefusedRun run IsSo (Order fault) = run ≡ Err (Order fault)
 IsRefusedRun run IsSo (Boot fault) = IsUnbooted fault run
 IsRefusedRun run IsSo (Report fault) = IsRunAnd run IsSo
+
+-- the same before any report is begun
+abbrev pub IsUnrun : Result Run SimFault → SimFault → Type 0
+IsUnrun run fault = IsRefusedRun run (λ _. ⊥) fault
 
 -- whether a run was refused after its report was begun
 abbrev pub is_reported : SimFault → Bool

@@ -7,9 +7,8 @@ ghost use Rattle.simulation.specs.Simulation.{IsRefusedRun, IsRunAnd, run_of_tex
 ghost use Rattle.simulation.specs.Simulation.{is_reported, failures_of_run};
 
 use crate::faults::SimFault;
-use cores::{StepFault, run_judged};
-use listings::read_listing;
-use orders::judge_order;
+use crate::runs::run_texts;
+use cores::StepFault;
 use reports::{Sink, write_report};
 use std::alloc::Global;
 
@@ -35,9 +34,7 @@ pub fn simulate<S: Sink>(
     ensures failures { S.failures out.new ≡ S.failures out.old + failures_of_run result }
     ensures place { S.place out.new ≡ S.place out.old }
 {
-    let image = read_listing(alloc, listing)?;
-    let ops = judge_order(order)?;
-    let (core, refused) = run_judged(alloc, image, ops, limit)?;
+    let (core, refused) = run_texts(alloc, listing, order, limit)?;
     write_report(alloc, core.view(), out)?;
     Ok(refused)
 }

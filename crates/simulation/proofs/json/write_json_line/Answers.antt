@@ -1,5 +1,5 @@
-use Rattle.cheri_page.proofs.RunLemmas.{line_stops}
-use Rattle.cheri_page.proofs.json.write_json_line.Goals as goal
+use Rattle.simulation.proofs.LineLemmas.{line_stops}
+use Rattle.simulation.proofs.json.write_json_line.Goals as goal
 
 pub returns-in_err-put_whole-clause-beginning : goal.returns-in_err-put_whole-clause-beginning
 returns-in_err-put_whole-clause-beginning g c = line_stops _ _ _ _ c.in_ok-write_json.ensures.whole c.put_whole.ensures.beginning
