@@ -5,6 +5,8 @@ use cap_ops::Cap;
 use cheri_model::form::{ImmediateOp, ThreeOp, TwoOp};
 use cheri_model::{Instr, Outcome, Reg};
 use samples::{ALL, Given, K, NULL, Tagged, tagged_word};
+use std::alloc::Global;
+use std::process::Abort;
 use std::test::Fail;
 
 /// K four bytes further on.
@@ -167,15 +169,20 @@ fn capabilities_are_copied(rt: HostRuntime) -> Result<(), Fail> {
     Ok(())
 }
 
-#[test]
-fn capabilities_are_changed(rt: HostRuntime) -> Result<(), Fail> {
-    for rows in [MOVED.as_slice(), BOUNDED.as_slice(), EDITED.as_slice()] {
-        for (why, op, first, second, expected) in rows {
-            let hart = hart_with(*first, *second)?;
-            writes(&rt, rt.alloc(), why, three(*op), hart, *expected);
-        }
+/// Each row is what its instruction writes.
+fn each_is_written(rt: &impl Abort, alloc: Global, rows: &[Row]) -> Result<(), Fail> {
+    for (why, op, first, second, expected) in rows {
+        let hart = hart_with(*first, *second)?;
+        writes(rt, alloc, why, three(*op), hart, *expected);
     }
     Ok(())
+}
+
+#[test]
+fn capabilities_are_changed(rt: HostRuntime) -> Result<(), Fail> {
+    each_is_written(&rt, rt.alloc(), &MOVED)?;
+    each_is_written(&rt, rt.alloc(), &BOUNDED)?;
+    each_is_written(&rt, rt.alloc(), &EDITED)
 }
 
 /// The word of K at 0x8000_0004, without its tag.
@@ -285,6 +292,15 @@ const RAISED: [(&str, ImmediateOp, i16, Given, Tagged); 3] = [
     ),
 ];
 
+#[test]
+fn immediates_raise_addresses(rt: HostRuntime) -> Result<(), Fail> {
+    for (why, op, imm, first, expected) in RAISED {
+        let hart = hart_with(first, NULL)?;
+        writes(&rt, rt.alloc(), why, immediate(op, imm), hart, expected);
+    }
+    Ok(())
+}
+
 /// CSETBOUNDSIMM's length and the value of c5, and what it writes to c7.
 const NARROWED: [(&str, u16, Given, Tagged); 2] = [
     (
@@ -300,6 +316,20 @@ const NARROWED: [(&str, u16, Given, Tagged); 2] = [
         Tagged(false, 0xffff_0000_0405_c004, 0x8000_0000),
     ),
 ];
+
+#[test]
+fn immediates_narrow_bounds(rt: HostRuntime) -> Result<(), Fail> {
+    for (why, len, first, expected) in NARROWED {
+        let instr = Instr::CSetBoundsImm {
+            cd: Reg::new(7),
+            c1: Reg::new(5),
+            len,
+        };
+        let hart = hart_with(first, NULL)?;
+        writes(&rt, rt.alloc(), why, instr, hart, expected);
+    }
+    Ok(())
+}
 
 /// AUIPCC's immediate, and what it writes to c7.
 const FROM_PCC: [(&str, u32, Tagged); 3] = [
@@ -321,20 +351,14 @@ const FROM_PCC: [(&str, u32, Tagged); 3] = [
 ];
 
 #[test]
-fn immediates_change_capabilities(rt: HostRuntime) -> Result<(), Fail> {
-    let (cd, c1) = (Reg::new(7), Reg::new(5));
-    for (why, op, imm, first, expected) in RAISED {
-        let hart = hart_with(first, NULL)?;
-        writes(&rt, rt.alloc(), why, immediate(op, imm), hart, expected);
-    }
-    for (why, len, first, expected) in NARROWED {
-        let instr = Instr::CSetBoundsImm { cd, c1, len };
-        let hart = hart_with(first, NULL)?;
-        writes(&rt, rt.alloc(), why, instr, hart, expected);
-    }
+fn immediates_are_added_to_pcc(rt: HostRuntime) -> Result<(), Fail> {
     for (why, imm, expected) in FROM_PCC {
+        let instr = Instr::AuiPcc {
+            cd: Reg::new(7),
+            imm,
+        };
         let hart = hart_with(NULL, NULL)?;
-        writes(&rt, rt.alloc(), why, Instr::AuiPcc { cd, imm }, hart, expected);
+        writes(&rt, rt.alloc(), why, instr, hart, expected);
     }
     Ok(())
 }

@@ -105,6 +105,16 @@ const SHIFTS_BY: [(&str, ShiftOp, u8, u64, u64); 4] = [
     ("by 65, which is by 1", ShiftOp::Slli, 65, 0x3, 0x6),
 ];
 
+#[test]
+fn integers_are_shifted(rt: HostRuntime) -> Result<(), Fail> {
+    for (why, op, amount, first, expected) in SHIFTS_BY {
+        let instr = Form::Shift(op, Reg::new(7), Reg::new(5), amount).instr();
+        let hart = hart_with(Given::Int(first), NULL)?;
+        writes(&rt, rt.alloc(), why, instr, hart, Tagged(false, 0, expected));
+    }
+    Ok(())
+}
+
 /// The same of 32 bits.
 const WORD_SHIFTS_BY: [(&str, WordShiftOp, u8, u64, u64); 4] = [
     (
@@ -138,15 +148,9 @@ const WORD_SHIFTS_BY: [(&str, WordShiftOp, u8, u64, u64); 4] = [
 ];
 
 #[test]
-fn integers_are_shifted(rt: HostRuntime) -> Result<(), Fail> {
-    let (cd, c1) = (Reg::new(7), Reg::new(5));
-    for (why, op, amount, first, expected) in SHIFTS_BY {
-        let instr = Form::Shift(op, cd, c1, amount).instr();
-        let hart = hart_with(Given::Int(first), NULL)?;
-        writes(&rt, rt.alloc(), why, instr, hart, Tagged(false, 0, expected));
-    }
+fn lower_halves_are_shifted(rt: HostRuntime) -> Result<(), Fail> {
     for (why, op, amount, first, expected) in WORD_SHIFTS_BY {
-        let instr = Form::WordShift(op, cd, c1, amount).instr();
+        let instr = Form::WordShift(op, Reg::new(7), Reg::new(5), amount).instr();
         let hart = hart_with(Given::Int(first), NULL)?;
         writes(&rt, rt.alloc(), why, instr, hart, Tagged(false, 0, expected));
     }

@@ -167,7 +167,18 @@ fn jumps_through_registers_without_a_link(rt: HostRuntime) -> Result<(), Fail> {
         wanted.set_pcc(left.hart.pcc());
         assert_eq!(rt; left.hart, wanted, "{why}");
     }
-    for (why, imm) in [("no multiple of 4", 6), ("nor without the lowest bit", 7)] {
+    Ok(())
+}
+
+/// A jump that would link to c0 is checked as every other.
+#[test]
+fn jumps_without_a_link_are_checked(rt: HostRuntime) -> Result<(), Fail> {
+    let (cd, c1) = (Reg::new(0), Reg::new(5));
+    let rows = [
+        ("no multiple of 4", 6),
+        ("no multiple of 4 without the lowest bit", 7),
+    ];
+    for (why, imm) in rows {
         let hart = hart_with(CODE, NULL)?;
         let instr = Instr::CJalr { cd, c1, imm };
         traps(&rt, rt.alloc(), why, instr, hart, Cap::null(), (9, 5));
