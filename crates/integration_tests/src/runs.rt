@@ -125,8 +125,8 @@ fn limits_are_from_one_to_a_hundred_thousand(rt: HostRuntime) -> Result<(), Fail
     ] {
         let booted = Core::boot(rt.alloc(), image_of(&rt, rt.alloc(), TWO_HARTS), limit);
         let refused = matches!(booted, Err(BootFault::Limit));
-        assert_eq!(rt; refused, !lawful);
-        assert_eq!(rt; booted.is_ok(), lawful);
+        assert_eq!(rt; refused, !lawful, "limit {limit}");
+        assert_eq!(rt; booted.is_ok(), lawful, "limit {limit}");
     }
     Ok(())
 }

@@ -58,9 +58,14 @@ fn sweeps_clear_by_the_base(rt: HostRuntime) -> Result<(), Fail> {
 #[test]
 fn bad_ranges_are_refused_before_full_traces(rt: HostRuntime) -> Result<(), Fail> {
     let mut core = first_core(&rt, rt.alloc(), 1);
-    for (lo, hi) in [(2, 1), (0, END + 1), (u64::MAX, 0)] {
-        assert!(rt; core.sweep(lo, hi) == Err(StepFault::BadRange));
-        assert!(rt; core.view().entries.is_empty());
+    let ranges = [
+        ("an end below the beginning", 2, 1),
+        ("an end past the address space", 0, END + 1),
+        ("from the last address to 0", u64::MAX, 0),
+    ];
+    for (why, lo, hi) in ranges {
+        assert!(rt; core.sweep(lo, hi) == Err(StepFault::BadRange), "{why}");
+        assert!(rt; core.view().entries.is_empty(), "{why}");
     }
     assert!(rt; core.sweep(u64::MAX, END).is_ok());
     assert!(rt; core.sweep(2, 1) == Err(StepFault::BadRange));
