@@ -59,12 +59,7 @@ fn facts_at(
 }
 
 /// The same from the program's start.
-fn facts_of(
-    alloc: Global,
-    instr: Instr,
-    first: Given,
-    second: Given,
-) -> Result<StepFacts, Fail> {
+fn facts_of(alloc: Global, instr: Instr, first: Given, second: Given) -> Result<StepFacts, Fail> {
     facts_at(alloc, CODE_BASE, instr, first, second)
 }
 

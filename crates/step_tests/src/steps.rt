@@ -95,14 +95,7 @@ fn after(rt: &impl Abort, alloc: Global, instr: Instr, hart: Hart, granule: Cap)
 }
 
 /// The instruction goes on to the next one, leaves this value in c7, and changes nothing else.
-fn writes(
-    rt: &impl Abort,
-    alloc: Global,
-    why: &str,
-    instr: Instr,
-    hart: Hart,
-    expected: Tagged,
-) {
+fn writes(rt: &impl Abort, alloc: Global, why: &str, instr: Instr, hart: Hart, expected: Tagged) {
     let left = after(rt, alloc, instr, hart, Cap::null());
     let c7 = Reg::new(7);
     let written = left.hart.register(c7);

@@ -48,7 +48,12 @@ fn bounds_and_addresses(rt: HostRuntime) -> Result<(), Fail> {
     let root = Given::Open(0, 1 << 64, 1, ALL);
     let rows = [
         (Instr::CClearTag { cd, c1 }, BLOCK, BLOCK, Why::AskedFor),
-        (Instr::CSetHigh { cd, c1, c2 }, BLOCK, BLOCK, Why::UpperReplaced),
+        (
+            Instr::CSetHigh { cd, c1, c2 },
+            BLOCK,
+            BLOCK,
+            Why::UpperReplaced,
+        ),
         (
             Instr::CSetAddr { cd, c1, c2 },
             SEALED,
@@ -205,12 +210,7 @@ fn unseals(rt: HostRuntime) -> Result<(), Fail> {
         ),
     ];
     for (first, second, why) in rows {
-        let clears = cleared_by(
-            rt.alloc(),
-            Instr::CUnseal { cd, c1, c2 },
-            first,
-            second,
-        )?;
+        let clears = cleared_by(rt.alloc(), Instr::CUnseal { cd, c1, c2 }, first, second)?;
         assert_eq!(rt;
             clears,
             Some(Cleared {
@@ -286,12 +286,7 @@ fn rebuilt(rt: HostRuntime) -> Result<(), Fail> {
         ),
     ];
     for (first, second, why) in rows {
-        let clears = cleared_by(
-            rt.alloc(),
-            Instr::CBuildCap { cd, c1, c2 },
-            first,
-            second,
-        )?;
+        let clears = cleared_by(rt.alloc(), Instr::CBuildCap { cd, c1, c2 }, first, second)?;
         assert_eq!(rt;
             clears,
             Some(Cleared {

@@ -128,7 +128,11 @@ fn invokes(rt: HostRuntime) -> Result<(), Fail> {
         data: OType::new(6),
     };
     let rows = [
-        (BLOCK, data(5), trap(2, 5, TrapWhy::NotInvocable { name: R })),
+        (
+            BLOCK,
+            data(5),
+            trap(2, 5, TrapWhy::NotInvocable { name: R }),
+        ),
         (code(0x102), data(6), trap(12, 5, differ)),
         (code(0x2), data(5), trap(13, 5, lacks(CINVOKE))),
         (

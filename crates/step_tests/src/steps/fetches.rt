@@ -10,18 +10,59 @@ use std::test::Fail;
 /// PCC of a hart, and the cause of its trap. The program is one instruction at 0x1000_0000. Where
 /// two checks fail the one that is earlier in the table is answered.
 const FETCHES: [(&str, Given, u8); 12] = [
-    ("a sealed word without a tag", Given::Word(0x0004_1fff_d405_8004, 0x1000_0000), 1),
+    (
+        "a sealed word without a tag",
+        Given::Word(0x0004_1fff_d405_8004, 0x1000_0000),
+        1,
+    ),
     ("an integer", Given::Int(0x1000_0000), 1),
-    ("sealed, and without Execute", Given::Sealed(0x1000_0000, 16, 0x1000_0000, 0x4, 5), 2),
-    ("a sentry", Given::Sentry(0x1000_0000, 16, 0x1000_0000, 0x2), 2),
-    ("without Execute, and out of bounds", Given::Open(0x1000_0000, 16, 0x1000_0010, 0x4), 3),
-    ("past the bounds, and no multiple of 4", Given::Open(0x1000_0000, 16, 0x1000_000d, 0x2), 8),
-    ("bounds of less than an instruction", Given::Open(0x1000_0000, 3, 0x1000_0000, 0x2), 8),
-    ("right below the bounds", Given::Open(0x1000_0004, 16, 0x1000_0000, 0x2), 8),
-    ("no multiple of 4, and no place of an instruction", Given::Open(0x1000_0000, 16, 0x1000_0006, 0x2), 9),
-    ("right above the program", Given::Open(0x1000_0000, 16, 0x1000_0004, 0x2), 11),
-    ("right below the program", Given::Open(0x0fff_fff0, 32, 0x0fff_fffc, 0x2), 11),
-    ("the last place of the address space", 
+    (
+        "sealed, and without Execute",
+        Given::Sealed(0x1000_0000, 16, 0x1000_0000, 0x4, 5),
+        2,
+    ),
+    (
+        "a sentry",
+        Given::Sentry(0x1000_0000, 16, 0x1000_0000, 0x2),
+        2,
+    ),
+    (
+        "without Execute, and out of bounds",
+        Given::Open(0x1000_0000, 16, 0x1000_0010, 0x4),
+        3,
+    ),
+    (
+        "past the bounds, and no multiple of 4",
+        Given::Open(0x1000_0000, 16, 0x1000_000d, 0x2),
+        8,
+    ),
+    (
+        "bounds of less than an instruction",
+        Given::Open(0x1000_0000, 3, 0x1000_0000, 0x2),
+        8,
+    ),
+    (
+        "right below the bounds",
+        Given::Open(0x1000_0004, 16, 0x1000_0000, 0x2),
+        8,
+    ),
+    (
+        "no multiple of 4, and no place of an instruction",
+        Given::Open(0x1000_0000, 16, 0x1000_0006, 0x2),
+        9,
+    ),
+    (
+        "right above the program",
+        Given::Open(0x1000_0000, 16, 0x1000_0004, 0x2),
+        11,
+    ),
+    (
+        "right below the program",
+        Given::Open(0x0fff_fff0, 32, 0x0fff_fffc, 0x2),
+        11,
+    ),
+    (
+        "the last place of the address space",
         Given::Open(0xffff_ffff_ffff_fff0, 16, 0xffff_ffff_ffff_fffc, 0x2),
         11,
     ),
@@ -79,7 +120,15 @@ fn the_end_of_a_program_traps(rt: HostRuntime) -> Result<(), Fail> {
         let hart = hart_at(made(0x1000_0000, len, 0x1000_0000, 0x2)?);
         let left = after(&rt, rt.alloc(), instr, hart, Cap::null());
         assert!(rt; matches!(&left.outcome, Outcome::Done), "{why}");
-        traps(&rt, rt.alloc(), why, instr, left.hart, Cap::null(), (cause, 32));
+        traps(
+            &rt,
+            rt.alloc(),
+            why,
+            instr,
+            left.hart,
+            Cap::null(),
+            (cause, 32),
+        );
     }
     Ok(())
 }

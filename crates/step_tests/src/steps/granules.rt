@@ -27,10 +27,30 @@ const WORD: Given = Given::Word(UPPER, 0x8000_0000);
 fn tags_are_loaded_by_permission(rt: HostRuntime) -> Result<(), Fail> {
     let (cd, c1) = (Reg::new(7), Reg::new(5));
     let rows = [
-        ("a tag under Load_Capability", 0x14, GLOBAL, Tagged(true, UPPER, 0x8000_0000)),
-        ("a tag without Load_Capability", 0x4, GLOBAL, Tagged(false, UPPER, 0x8000_0000)),
-        ("a word without a tag", 0x14, WORD, Tagged(false, UPPER, 0x8000_0000)),
-        ("a word that no capability has", 0x14, Given::Word(0x4000, 0), Tagged(false, 0x4000, 0)),
+        (
+            "a tag under Load_Capability",
+            0x14,
+            GLOBAL,
+            Tagged(true, UPPER, 0x8000_0000),
+        ),
+        (
+            "a tag without Load_Capability",
+            0x4,
+            GLOBAL,
+            Tagged(false, UPPER, 0x8000_0000),
+        ),
+        (
+            "a word without a tag",
+            0x14,
+            WORD,
+            Tagged(false, UPPER, 0x8000_0000),
+        ),
+        (
+            "a word that no capability has",
+            0x14,
+            Given::Word(0x4000, 0),
+            Tagged(false, 0x4000, 0),
+        ),
     ];
     for (why, bits, held, expected) in rows {
         let hart = hart_with(Given::Open(0x8000_0000, 16, 0x8000_0000, bits), NULL)?;
@@ -66,9 +86,24 @@ fn reserved_types_load_nothing(rt: HostRuntime) -> Result<(), Fail> {
 fn capabilities_are_stored(rt: HostRuntime) -> Result<(), Fail> {
     let (c1, c2) = (Reg::new(5), Reg::new(6));
     let rows = [
-        ("a global value under Store_Capability", 0x28, GLOBAL, Tagged(true, UPPER, 0x8000_0000)),
-        ("an untagged value under Store alone", 0x8, WORD, Tagged(false, UPPER, 0x8000_0000)),
-        ("a local value under Store_Local", 0x68, LOCAL, Tagged(true, 0x0004_0000_0405_8004, 0x8000_0000)),
+        (
+            "a global value under Store_Capability",
+            0x28,
+            GLOBAL,
+            Tagged(true, UPPER, 0x8000_0000),
+        ),
+        (
+            "an untagged value under Store alone",
+            0x8,
+            WORD,
+            Tagged(false, UPPER, 0x8000_0000),
+        ),
+        (
+            "a local value under Store_Local",
+            0x68,
+            LOCAL,
+            Tagged(true, 0x0004_0000_0405_8004, 0x8000_0000),
+        ),
     ];
     for (why, bits, stored, expected) in rows {
         let authority = Given::Open(0x8000_0000, 16, 0x8000_0000, bits);
@@ -201,7 +236,10 @@ fn a_stored_byte_clears_the_tag(rt: HostRuntime) -> Result<(), Fail> {
         hart,
         Cap::null(),
     );
-    assert_eq!(rt; tagged_word(stored.granule), Tagged(true, UPPER, 0x8000_0000));
+    assert_eq!(rt;
+        tagged_word(stored.granule),
+        Tagged(true, UPPER, 0x8000_0000)
+    );
     let hart = hart_with(K, Given::Int(0xaa))?;
     let left = after(
         &rt,
@@ -230,7 +268,12 @@ fn a_stored_byte_clears_the_tag(rt: HostRuntime) -> Result<(), Fail> {
 
 /// What two harts leave that swap c6 with one granule, one after the other: c7 of both, and the
 /// granule.
-fn swapped(rt: &impl Abort, alloc: Global, first: Given, second: Given) -> Result<(Cap, Cap, Cap), Fail> {
+fn swapped(
+    rt: &impl Abort,
+    alloc: Global,
+    first: Given,
+    second: Given,
+) -> Result<(Cap, Cap, Cap), Fail> {
     let (cd, c1, c2) = (Reg::new(7), Reg::new(5), Reg::new(6));
     let program = [Instr::AmoSwapC { cd, c2, c1 }, Instr::Ecall];
     let mut memory = ram(rt, alloc, 16);

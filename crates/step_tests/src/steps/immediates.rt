@@ -15,7 +15,13 @@ const IMMEDIATES: [(&str, ImmediateOp, i16, u64, u64); 11] = [
         0x0,
         0xffff_ffff_ffff_ffff,
     ),
-    ("a sum of 2^31", ImmediateOp::Addi, 1, 0x7fff_ffff, 0x8000_0000),
+    (
+        "a sum of 2^31",
+        ImmediateOp::Addi,
+        1,
+        0x7fff_ffff,
+        0x8000_0000,
+    ),
     (
         "-2 is less than -1",
         ImmediateOp::Slti,
@@ -110,7 +116,14 @@ fn integers_are_shifted(rt: HostRuntime) -> Result<(), Fail> {
     for (why, op, amount, first, expected) in SHIFTS_BY {
         let instr = Form::Shift(op, Reg::new(7), Reg::new(5), amount).instr();
         let hart = hart_with(Given::Int(first), NULL)?;
-        writes(&rt, rt.alloc(), why, instr, hart, Tagged(false, 0, expected));
+        writes(
+            &rt,
+            rt.alloc(),
+            why,
+            instr,
+            hart,
+            Tagged(false, 0, expected),
+        );
     }
     Ok(())
 }
@@ -152,7 +165,14 @@ fn lower_halves_are_shifted(rt: HostRuntime) -> Result<(), Fail> {
     for (why, op, amount, first, expected) in WORD_SHIFTS_BY {
         let instr = Form::WordShift(op, Reg::new(7), Reg::new(5), amount).instr();
         let hart = hart_with(Given::Int(first), NULL)?;
-        writes(&rt, rt.alloc(), why, instr, hart, Tagged(false, 0, expected));
+        writes(
+            &rt,
+            rt.alloc(),
+            why,
+            instr,
+            hart,
+            Tagged(false, 0, expected),
+        );
     }
     Ok(())
 }
@@ -169,7 +189,14 @@ fn upper_immediates_are_loaded(rt: HostRuntime) -> Result<(), Fail> {
             imm,
         };
         let hart = hart_with(NULL, NULL)?;
-        writes(&rt, rt.alloc(), why, instr, hart, Tagged(false, 0, expected));
+        writes(
+            &rt,
+            rt.alloc(),
+            why,
+            instr,
+            hart,
+            Tagged(false, 0, expected),
+        );
     }
     Ok(())
 }

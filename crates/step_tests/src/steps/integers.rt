@@ -25,13 +25,7 @@ const SUMS: [Row; 5] = [
         0x2,
         0x1,
     ),
-    (
-        "a sum of 2^31",
-        ThreeOp::Add,
-        0x7fff_ffff,
-        0x1,
-        0x8000_0000,
-    ),
+    ("a sum of 2^31", ThreeOp::Add, 0x7fff_ffff, 0x1, 0x8000_0000),
     (
         "a difference below 0",
         ThreeOp::Sub,
@@ -206,7 +200,14 @@ const WORDS: [Row; 9] = [
 fn each_is_written(rt: &impl Abort, alloc: Global, rows: &[Row]) -> Result<(), Fail> {
     for (why, op, first, second, expected) in rows {
         let hart = hart_with(Given::Int(*first), Given::Int(*second))?;
-        writes(rt, alloc, why, three(*op), hart, Tagged(false, 0, *expected));
+        writes(
+            rt,
+            alloc,
+            why,
+            three(*op),
+            hart,
+            Tagged(false, 0, *expected),
+        );
     }
     Ok(())
 }

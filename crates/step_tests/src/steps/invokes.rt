@@ -50,34 +50,101 @@ const DATA_4: Given = Given::Word(0x0104_0000_1c05_8004, 0x8000_0000);
 /// The code in c5, the data in c6, and the trap. Where two checks fail the one that is earlier in
 /// the table is answered.
 const INVOKES: [(&str, Given, Given, Trapped); 20] = [
-    ("both untagged: the code comes first", CODE_WORD, DATA_WORD, (1, 5)),
-    ("untagged data, and unsealed code", UNSEALED_CODE, DATA_WORD, (1, 6)),
-    ("both unsealed: the code comes first", UNSEALED_CODE, UNSEALED_DATA, (2, 5)),
-    ("a sentry as code", 
+    (
+        "both untagged: the code comes first",
+        CODE_WORD,
+        DATA_WORD,
+        (1, 5),
+    ),
+    (
+        "untagged data, and unsealed code",
+        UNSEALED_CODE,
+        DATA_WORD,
+        (1, 6),
+    ),
+    (
+        "both unsealed: the code comes first",
+        UNSEALED_CODE,
+        UNSEALED_DATA,
+        (2, 5),
+    ),
+    (
+        "a sentry as code",
         Given::Sentry(0x1000_0000, 16, 0x1000_0000, 0x102),
         DATA,
         (2, 5),
     ),
     ("unsealed data", CODE, UNSEALED_DATA, (2, 6)),
-    ("a sentry as data", 
+    (
+        "a sentry as data",
         CODE,
         Given::Sentry(0x8000_0000, 16, 0x8000_0000, 0x106),
         (2, 6),
     ),
-    ("two types, and code without CInvoke", CODE_ALONE, OTHER_DATA, (12, 5)),
+    (
+        "two types, and code without CInvoke",
+        CODE_ALONE,
+        OTHER_DATA,
+        (12, 5),
+    ),
     ("two types", CODE, OTHER_DATA, (12, 5)),
-    ("both without CInvoke: the code comes first", CODE_ALONE, DATA_ALONE, (13, 5)),
-    ("data without CInvoke, and code without Execute", IDLE_CODE, DATA_ALONE, (13, 6)),
-    ("code without Execute, and data with it", IDLE_CODE, LIVE_DATA, (3, 5)),
-    ("data with Execute, and code past its end", CODE_PAST, LIVE_DATA, (3, 6)),
+    (
+        "both without CInvoke: the code comes first",
+        CODE_ALONE,
+        DATA_ALONE,
+        (13, 5),
+    ),
+    (
+        "data without CInvoke, and code without Execute",
+        IDLE_CODE,
+        DATA_ALONE,
+        (13, 6),
+    ),
+    (
+        "code without Execute, and data with it",
+        IDLE_CODE,
+        LIVE_DATA,
+        (3, 5),
+    ),
+    (
+        "data with Execute, and code past its end",
+        CODE_PAST,
+        LIVE_DATA,
+        (3, 6),
+    ),
     ("data with Execute", CODE, LIVE_DATA, (3, 6)),
     ("code past its end", CODE_PAST, DATA, (8, 5)),
-    ("code past its end at no multiple of 4", CODE_AT_14, DATA, (8, 5)),
+    (
+        "code past its end at no multiple of 4",
+        CODE_AT_14,
+        DATA,
+        (8, 5),
+    ),
     ("code at no multiple of 4", CODE_AT_6, DATA, (9, 5)),
-    ("untagged words of the reserved type 2^18 - 3", CODE_3, DATA_3, (1, 5)),
-    ("untagged words of the reserved type 2^18 - 4", CODE_4, DATA_4, (1, 5)),
-    ("an untagged word of the reserved type 2^18 - 3 as data", CODE, DATA_3, (1, 6)),
-    ("an untagged word of the reserved type 2^18 - 4 as data", CODE, DATA_4, (1, 6)),
+    (
+        "untagged words of the reserved type 2^18 - 3",
+        CODE_3,
+        DATA_3,
+        (1, 5),
+    ),
+    (
+        "untagged words of the reserved type 2^18 - 4",
+        CODE_4,
+        DATA_4,
+        (1, 5),
+    ),
+    (
+        "an untagged word of the reserved type 2^18 - 3 as data",
+        CODE,
+        DATA_3,
+        (1, 6),
+    ),
+    (
+        "an untagged word of the reserved type 2^18 - 4 as data",
+        CODE,
+        DATA_4,
+        (1, 6),
+    ),
 ];
 
 #[test]
@@ -104,28 +171,32 @@ const CODE_AT_5: Given = Given::Sealed(0x1000_0000, 16, 0x1000_0005, 0x102, 5);
 
 /// The pair, the upper half and the address of PCC, and the upper half of c31.
 const INVOKED: [(&str, Given, Given, u64, u64, u64); 4] = [
-    ("without Global", 
+    (
+        "without Global",
         CODE,
         DATA,
         0x0102_0000_0405_8004,
         0x1000_0000,
         0x0104_0000_0405_8004,
     ),
-    ("with Global, which stays", 
+    (
+        "with Global, which stays",
         GLOBAL_CODE,
         GLOBAL_DATA,
         0x0103_0000_0405_8004,
         0x1000_0000,
         0x0105_0000_0405_8004,
     ),
-    ("at the last instruction", 
+    (
+        "at the last instruction",
         CODE_AT_12,
         DATA,
         0x0102_0000_0405_8004,
         0x1000_000c,
         0x0104_0000_0405_8004,
     ),
-    ("at an odd address, whose lowest bit is dropped", 
+    (
+        "at an odd address, whose lowest bit is dropped",
         CODE_AT_5,
         DATA,
         0x0102_0000_0405_8004,
@@ -147,8 +218,16 @@ fn invokes_unseal_a_pair(rt: HostRuntime) -> Result<(), Fail> {
         let left = after(&rt, rt.alloc(), instr, hart, Cap::null());
         let invoked = left.hart.register(c31);
         assert!(rt; matches!(&left.outcome, Outcome::Done), "{why}");
-        assert_eq!(rt; tagged_word(left.hart.pcc()), Tagged(true, upper, addr), "{why}");
-        assert_eq!(rt; tagged_word(invoked), Tagged(true, data_upper, 0x8000_0000), "{why}");
+        assert_eq!(rt;
+            tagged_word(left.hart.pcc()),
+            Tagged(true, upper, addr),
+            "{why}"
+        );
+        assert_eq!(rt;
+            tagged_word(invoked),
+            Tagged(true, data_upper, 0x8000_0000),
+            "{why}"
+        );
         let mut wanted = hart;
         wanted.put(c31, invoked);
         wanted.set_pcc(left.hart.pcc());

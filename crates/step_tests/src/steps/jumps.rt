@@ -24,12 +24,42 @@ fn branch(op: BranchOp, target: u32) -> Instr {
 #[test]
 fn branches_compare(rt: HostRuntime) -> Result<(), Fail> {
     let rows = [
-        ("taken where they are equal", BranchOp::Beq, AT_3, NEXT, NEXT),
+        (
+            "taken where they are equal",
+            BranchOp::Beq,
+            AT_3,
+            NEXT,
+            NEXT,
+        ),
         ("taken where they differ", BranchOp::Bne, NEXT, AT_3, AT_3),
-        ("taken where the first is less", BranchOp::Blt, NEXT, NEXT, AT_3),
-        ("taken where the first is not less", BranchOp::Bge, AT_3, AT_3, NEXT),
-        ("taken where it is less without signs", BranchOp::Bltu, NEXT, AT_3, NEXT),
-        ("taken where it is not less without signs", BranchOp::Bgeu, AT_3, NEXT, AT_3),
+        (
+            "taken where the first is less",
+            BranchOp::Blt,
+            NEXT,
+            NEXT,
+            AT_3,
+        ),
+        (
+            "taken where the first is not less",
+            BranchOp::Bge,
+            AT_3,
+            AT_3,
+            NEXT,
+        ),
+        (
+            "taken where it is less without signs",
+            BranchOp::Bltu,
+            NEXT,
+            AT_3,
+            NEXT,
+        ),
+        (
+            "taken where it is not less without signs",
+            BranchOp::Bgeu,
+            AT_3,
+            NEXT,
+            AT_3,
+        ),
     ];
     for (why, op, equal, above, below) in rows {
         goes(&rt, rt.alloc(), why, op, (5, 5), equal)?;
@@ -142,7 +172,14 @@ fn jumps_through_registers_link(rt: HostRuntime) -> Result<(), Fail> {
     for (why, through, imm, addr) in rows {
         let hart = hart_with(through, NULL)?;
         let pcc = Tagged(true, 0x0002_0000_0405_8004, addr);
-        links(&rt, rt.alloc(), why, Instr::CJalr { cd, c1, imm }, hart, pcc);
+        links(
+            &rt,
+            rt.alloc(),
+            why,
+            Instr::CJalr { cd, c1, imm },
+            hart,
+            pcc,
+        );
     }
     Ok(())
 }
@@ -158,7 +195,13 @@ fn jumps_through_registers_without_a_link(rt: HostRuntime) -> Result<(), Fail> {
     ];
     for (why, through, imm, addr) in rows {
         let hart = hart_with(through, NULL)?;
-        let left = after(&rt, rt.alloc(), Instr::CJalr { cd, c1, imm }, hart, Cap::null());
+        let left = after(
+            &rt,
+            rt.alloc(),
+            Instr::CJalr { cd, c1, imm },
+            hart,
+            Cap::null(),
+        );
         assert!(rt; matches!(&left.outcome, Outcome::Done), "{why}");
         let pcc = Tagged(true, 0x0002_0000_0405_8004, addr);
         assert_eq!(rt; tagged_word(left.hart.pcc()), pcc, "{why}");
@@ -192,15 +235,45 @@ fn jumps_without_a_link_are_checked(rt: HostRuntime) -> Result<(), Fail> {
 fn jumps_through_registers_are_checked_in_order(rt: HostRuntime) -> Result<(), Fail> {
     let (cd, c1) = (Reg::new(7), Reg::new(5));
     let rows = [
-        ("a sentry's word without the tag, with an offset", Given::Word(0x0002_0000_0c05_8004, 0x1000_0000), 4, 1),
+        (
+            "a sentry's word without the tag, with an offset",
+            Given::Word(0x0002_0000_0c05_8004, 0x1000_0000),
+            4,
+            1,
+        ),
         ("an integer", Given::Int(0x1000_0000), 0, 1),
-        ("an untagged word of the reserved type 2^18 - 3", Given::Word(0x0002_0000_1405_8004, 0x1000_0000), 0, 1),
-        ("an untagged word of the reserved type 2^18 - 4", Given::Word(0x0002_0000_1c05_8004, 0x1000_0000), 0, 1),
-        ("sealed, and without Execute", Given::Sealed(0x1000_0000, 16, 0x1000_0000, 0x4, 5), 0, 2),
-        ("sealed", Given::Sealed(0x1000_0000, 16, 0x1000_0000, 0x2, 5), 0, 2),
+        (
+            "an untagged word of the reserved type 2^18 - 3",
+            Given::Word(0x0002_0000_1405_8004, 0x1000_0000),
+            0,
+            1,
+        ),
+        (
+            "an untagged word of the reserved type 2^18 - 4",
+            Given::Word(0x0002_0000_1c05_8004, 0x1000_0000),
+            0,
+            1,
+        ),
+        (
+            "sealed, and without Execute",
+            Given::Sealed(0x1000_0000, 16, 0x1000_0000, 0x4, 5),
+            0,
+            2,
+        ),
+        (
+            "sealed",
+            Given::Sealed(0x1000_0000, 16, 0x1000_0000, 0x2, 5),
+            0,
+            2,
+        ),
         ("a sentry with an offset", ENTRY, 4, 2),
         ("a sentry with an offset of 1", ENTRY, 1, 2),
-        ("without Execute, and out of bounds", Given::Open(0x1000_0000, 16, 0x1000_0000, 0x4), 16, 3),
+        (
+            "without Execute, and out of bounds",
+            Given::Open(0x1000_0000, 16, 0x1000_0000, 0x4),
+            16,
+            3,
+        ),
         ("past the bounds, and no multiple of 4", CODE, 14, 8),
         ("right past the bounds", CODE, 16, 8),
         ("right below the bounds", CODE, -4, 8),

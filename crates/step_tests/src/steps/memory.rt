@@ -146,7 +146,11 @@ fn accesses_trap_at_the_edges(rt: HostRuntime) -> Result<(), Fail> {
 /// An address and an offset, under the authority to load from every address.
 const OUTSIDE: [(&str, u64, i16); 2] = [
     ("right above RAM", 0x8000_0010, 0),
-    ("past the last address, which is 0", 0xffff_ffff_ffff_ffff, 1),
+    (
+        "past the last address, which is 0",
+        0xffff_ffff_ffff_ffff,
+        1,
+    ),
 ];
 
 /// Accesses in the bounds of their authority reach RAM alone.

@@ -94,7 +94,14 @@ const READINGS: [(&str, TwoOp, Given, u64); 24] = [
 fn fields_are_read(rt: HostRuntime) -> Result<(), Fail> {
     for (why, op, first, expected) in READINGS {
         let hart = hart_with(first, NULL)?;
-        writes(&rt, rt.alloc(), why, two(op), hart, Tagged(false, 0, expected));
+        writes(
+            &rt,
+            rt.alloc(),
+            why,
+            two(op),
+            hart,
+            Tagged(false, 0, expected),
+        );
     }
     Ok(())
 }
@@ -122,8 +129,22 @@ fn values_are_compared(rt: HostRuntime) -> Result<(), Fail> {
         let hart = hart_with(first, second)?;
         let is_subset = three(ThreeOp::CTestSubset);
         let is_equal = three(ThreeOp::CSetEqualExact);
-        writes(&rt, rt.alloc(), why, is_subset, hart, Tagged(false, 0, subset));
-        writes(&rt, rt.alloc(), why, is_equal, hart, Tagged(false, 0, equal));
+        writes(
+            &rt,
+            rt.alloc(),
+            why,
+            is_subset,
+            hart,
+            Tagged(false, 0, subset),
+        );
+        writes(
+            &rt,
+            rt.alloc(),
+            why,
+            is_equal,
+            hart,
+            Tagged(false, 0, equal),
+        );
     }
     Ok(())
 }

@@ -12,39 +12,57 @@ use std::test::Fail;
 /// The register, the value in it, its word, and whether a sweep from 0x8000_0000 up to 0x8000_0020
 /// clears its tag.
 const HELD: [(&str, u8, Given, Tagged, bool); 8] = [
-    ("a base at the first address", 1, K, Tagged(true, 0xffff_0000_0405_8004, 0x8000_0000), true),
-    ("an untagged word", 
+    (
+        "a base at the first address",
+        1,
+        K,
+        Tagged(true, 0xffff_0000_0405_8004, 0x8000_0000),
+        true,
+    ),
+    (
+        "an untagged word",
         2,
         Given::Word(0xffff_0000_0405_8004, 0x8000_0000),
         Tagged(false, 0xffff_0000_0405_8004, 0x8000_0000),
         false,
     ),
-    ("a base right above the range", 
+    (
+        "a base right above the range",
         5,
         Given::Open(0x8000_0020, 16, 0x8000_0020, ALL),
         Tagged(true, 0xffff_0000_040d_8024, 0x8000_0020),
         false,
     ),
-    ("sealed, and its base in the range", 
+    (
+        "sealed, and its base in the range",
         6,
         Given::Sealed(0x8000_0010, 16, 0x8000_0010, ALL, 5),
         Tagged(true, 0xffff_1fff_d409_8014, 0x8000_0010),
         true,
     ),
-    ("a sentry, and its base elsewhere", 
+    (
+        "a sentry, and its base elsewhere",
         7,
         Given::Sentry(0x1000_0000, 16, 0x1000_0000, 0x6),
         Tagged(true, 0x0006_0000_0c05_8004, 0x1000_0000),
         false,
     ),
-    ("an integer in the range", 8, Given::Int(0x8000_0000), Tagged(false, 0, 0x8000_0000), false),
-    ("an address in the range, and the base below it", 
+    (
+        "an integer in the range",
+        8,
+        Given::Int(0x8000_0000),
+        Tagged(false, 0, 0x8000_0000),
+        false,
+    ),
+    (
+        "an address in the range, and the base below it",
         9,
         Given::Open(0, 1 << 64, 0x8000_0000, ALL),
         Tagged(true, 0xffff_0000_0000_0000, 0x8000_0000),
         false,
     ),
-    ("a base in the range, and the address above it", 
+    (
+        "a base in the range, and the address above it",
         31,
         Given::Open(0x8000_0000, 4096, 0x8000_0800, ALL),
         Tagged(true, 0xffff_0000_0001_8004, 0x8000_0800),
@@ -111,7 +129,12 @@ fn registers_lose_their_tags(rt: HostRuntime) -> Result<(), Fail> {
 fn ranges_clear_so_many(rt: HostRuntime) -> Result<(), Fail> {
     let rows: [(&str, u64, u128, u32); 12] = [
         ("no address, at PCC's base", 0x1000_0000, 0x1000_0000, 0),
-        ("no address, at the base of two", 0x8000_0000, 0x8000_0000, 0),
+        (
+            "no address, at the base of two",
+            0x8000_0000,
+            0x8000_0000,
+            0,
+        ),
         ("an end below the beginning", 0x8000_0020, 0x8000_0000, 0),
         ("the base of PCC and a sentry", 0x1000_0000, 0x1000_0001, 2),
         ("the base of the whole address space", 0, 1, 1),
@@ -145,7 +168,10 @@ fn all_addresses_leave_no_tag(rt: HostRuntime) -> Result<(), Fail> {
         assert_eq!(rt; found, Tagged(false, upper, addr), "{why}");
     }
     assert_eq!(rt; hart.register(Reg::new(0)), Cap::null());
-    assert_eq!(rt; tagged_word(hart.pcc()), Tagged(false, COUNTER.0, COUNTER.1));
+    assert_eq!(rt;
+        tagged_word(hart.pcc()),
+        Tagged(false, COUNTER.0, COUNTER.1)
+    );
     Ok(())
 }
 
@@ -153,7 +179,10 @@ fn all_addresses_leave_no_tag(rt: HostRuntime) -> Result<(), Fail> {
 fn a_swept_counter_traps_at_the_fetch(rt: HostRuntime) -> Result<(), Fail> {
     let mut hart = hart_with(K, NULL)?;
     assert_eq!(rt; hart.sweep(0x1000_0000, 0x1000_0001), 1);
-    assert_eq!(rt; tagged_word(hart.pcc()), Tagged(false, COUNTER.0, COUNTER.1));
+    assert_eq!(rt;
+        tagged_word(hart.pcc()),
+        Tagged(false, COUNTER.0, COUNTER.1)
+    );
     assert_eq!(rt; hart.status(), Status::Running);
     traps(
         &rt,
