@@ -10,7 +10,7 @@ use std::process::Abort;
 use std::test::Fail;
 
 /// The sixteen bytes from 0x8000_0000 on, with Global and Load.
-const GLOBAL: Given = Given::Open(0x8000_0000, 16, 0x8000_0000, 0x5);
+const WITH_GLOBAL: Given = Given::Open(0x8000_0000, 16, 0x8000_0000, 0x5);
 
 /// The upper half of its word.
 const UPPER: u64 = 0x0005_0000_0405_8004;
@@ -18,7 +18,7 @@ const UPPER: u64 = 0x0005_0000_0405_8004;
 /// The same with Load alone.
 const LOCAL: Given = Given::Open(0x8000_0000, 16, 0x8000_0000, 0x4);
 
-/// The word of `GLOBAL` without its tag.
+/// The word of `WITH_GLOBAL` without its tag.
 const WORD: Given = Given::Word(UPPER, 0x8000_0000);
 
 /// The permission bits of c5, the granule, and what is loaded from it: a tag is loaded only under
@@ -30,13 +30,13 @@ fn tags_are_loaded_by_permission(rt: HostRuntime) -> Result<(), Fail> {
         (
             "a tag under Load_Capability",
             0x14,
-            GLOBAL,
+            WITH_GLOBAL,
             Tagged(true, UPPER, 0x8000_0000),
         ),
         (
             "a tag without Load_Capability",
             0x4,
-            GLOBAL,
+            WITH_GLOBAL,
             Tagged(false, UPPER, 0x8000_0000),
         ),
         (
@@ -74,7 +74,7 @@ fn reserved_types_load_nothing(rt: HostRuntime) -> Result<(), Fail> {
     ];
     for (why, upper) in rows {
         let hart = hart_with(Given::Word(upper, 0x8000_0000), NULL)?;
-        let granule = GLOBAL.cap()?;
+        let granule = WITH_GLOBAL.cap()?;
         let instr = Instr::Lc { cd, c1, imm: 0 };
         traps(&rt, rt.alloc(), why, instr, hart, granule, (1, 5));
     }
@@ -89,7 +89,7 @@ fn capabilities_are_stored(rt: HostRuntime) -> Result<(), Fail> {
         (
             "a global value under Store_Capability",
             0x28,
-            GLOBAL,
+            WITH_GLOBAL,
             Tagged(true, UPPER, 0x8000_0000),
         ),
         (
@@ -130,8 +130,8 @@ fn capabilities_are_stored(rt: HostRuntime) -> Result<(), Fail> {
 fn stores_of_capabilities_ask_for_permissions(rt: HostRuntime) -> Result<(), Fail> {
     let (c1, c2) = (Reg::new(5), Reg::new(6));
     let rows = [
-        ("no Store", 0x24, GLOBAL, 5),
-        ("no Store_Capability", 0x8, GLOBAL, 6),
+        ("no Store", 0x24, WITH_GLOBAL, 5),
+        ("no Store_Capability", 0x8, WITH_GLOBAL, 6),
         ("no Store_Capability, and no Store_Local", 0x8, LOCAL, 6),
         ("no Store_Local", 0x28, LOCAL, 7),
     ];
@@ -182,7 +182,7 @@ fn swaps_load_and_store(rt: HostRuntime) -> Result<(), Fail> {
         let authority = Given::Open(0x8000_0000, 16, 0x8000_0000, bits);
         let hart = hart_with(authority, Given::Int(9))?;
         let instr = Instr::AmoSwapC { cd, c2, c1 };
-        let left = after(&rt, rt.alloc(), instr, hart, GLOBAL.cap()?);
+        let left = after(&rt, rt.alloc(), instr, hart, WITH_GLOBAL.cap()?);
         assert!(rt; matches!(&left.outcome, Outcome::Done), "{why}");
         assert_eq!(rt;
             tagged_word(left.hart.register(cd)),
@@ -205,7 +205,7 @@ fn memory_is_reached_before_the_write(rt: HostRuntime) -> Result<(), Fail> {
         c1: c5,
         imm: 0,
     };
-    let left = after(&rt, rt.alloc(), load, hart, GLOBAL.cap()?);
+    let left = after(&rt, rt.alloc(), load, hart, WITH_GLOBAL.cap()?);
     assert_eq!(rt;
         tagged_word(left.hart.register(c5)),
         Tagged(true, UPPER, 0x8000_0000)
@@ -215,7 +215,7 @@ fn memory_is_reached_before_the_write(rt: HostRuntime) -> Result<(), Fail> {
         c2: c5,
         c1: c5,
     };
-    let left = after(&rt, rt.alloc(), swap, hart, GLOBAL.cap()?);
+    let left = after(&rt, rt.alloc(), swap, hart, WITH_GLOBAL.cap()?);
     assert_eq!(rt;
         tagged_word(left.hart.register(c5)),
         Tagged(true, UPPER, 0x8000_0000)
@@ -228,7 +228,7 @@ fn memory_is_reached_before_the_write(rt: HostRuntime) -> Result<(), Fail> {
 #[test]
 fn a_stored_byte_clears_the_tag(rt: HostRuntime) -> Result<(), Fail> {
     let (cd, c1, c2) = (Reg::new(7), Reg::new(5), Reg::new(6));
-    let hart = hart_with(K, GLOBAL)?;
+    let hart = hart_with(K, WITH_GLOBAL)?;
     let stored = after(
         &rt,
         rt.alloc(),
@@ -289,11 +289,11 @@ fn swapped(
 #[test]
 fn harts_swap_one_granule(rt: HostRuntime) -> Result<(), Fail> {
     let tagged = Tagged(true, UPPER, 0x8000_0000);
-    let (first, second, granule) = swapped(&rt, rt.alloc(), Given::Int(1), GLOBAL)?;
+    let (first, second, granule) = swapped(&rt, rt.alloc(), Given::Int(1), WITH_GLOBAL)?;
     assert_eq!(rt; tagged_word(first), Tagged(false, 0, 0));
     assert_eq!(rt; tagged_word(second), Tagged(false, 0, 1));
     assert_eq!(rt; tagged_word(granule), tagged);
-    let (first, second, granule) = swapped(&rt, rt.alloc(), GLOBAL, Given::Int(1))?;
+    let (first, second, granule) = swapped(&rt, rt.alloc(), WITH_GLOBAL, Given::Int(1))?;
     assert_eq!(rt; tagged_word(first), Tagged(false, 0, 0));
     assert_eq!(rt; tagged_word(second), tagged);
     assert_eq!(rt; tagged_word(granule), Tagged(false, 0, 1));
