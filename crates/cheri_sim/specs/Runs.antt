@@ -10,7 +10,7 @@ use Rattle.cheri_sim.specs.Endings.{Answer}
 use Rattle.cheri_sim.specs.Faults.{sim_fault}
 
 -- the report of a run in a form
-abbrev pub report_in : ReportForm → Run → List ℕ
+unfoldable pub report_in : ReportForm → Run → List ℕ
 report_in forms.Text run = report_of run
 report_in forms.Json run = json_of run
 

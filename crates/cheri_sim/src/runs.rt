@@ -18,6 +18,7 @@ use std::alloc::Global;
 use std::io::Write;
 
 /// Runs a listing in an order, and writes its report in this form.
+#[tactic(auto, unfolding(crate::specs::Runs::report_in))]
 fn simulate_in<S: Sink>(
     alloc: Global,
     form: ReportForm,

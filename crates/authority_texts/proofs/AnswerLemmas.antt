@@ -1,0 +1,181 @@
+-- What was found is an answer.
+use Rattle.std.proofs.Common.{◌≡◌, ℕ, suc, ◌<◌, List, [], ◌∷◌, length, Bool, true, refl, sym, ap, ◌∙◌, subst, inl, inr}
+use Rattle.std.specs.Prelude.{Option, Some, IfSome, Result, Ok, Err, IfOk, IfErr, slice_get, option_and_then, Vec}
+use Rattle.std.specs.Global.{Global}
+use Rattle.std.specs.Io.KnownBytes.{Appends}
+use Rattle.std.proofs.lemmas.Bool.{cases_lt}
+use Rattle.std.proofs.lemmas.Option.{none-some, slice_get_past}
+use Rattle.authorities.specs.Authorities.{AreGreatest, IsHeld, hart_values, memory_values}
+use Rattle.authorities.specs.declared.rights.Authority.{Authority}
+use Rattle.authorities.specs.declared.authority.Authorities.{Authorities}
+use Rattle.authority_texts.specs.Answers.{AreBounds, AreFound, IsAuthorityAnswer, ending_of}
+use Rattle.authority_texts.specs.AuthorityTexts.{said}
+use Rattle.authority_texts.specs.Told.{AreKnown, AreAllKnown, AreTold, AreAllTold}
+use Rattle.authority_texts.specs.declared.told.Told.{Told}
+use Rattle.cap_model.specs.values.CapValue.{CapValue}
+use Rattle.cheri_model.specs.runs.Image.{ImageParts}
+use Rattle.cheri_model.specs.runs.Machine.{MachineState}
+use Rattle.cheri_model.specs.runs.Replay.{replayed_state}
+use Rattle.found_texts.proofs.FindLemmas.{written_as, err_as}
+use Rattle.schedules.specs.declared.ranges.SweepRange.{SweepRange}
+use Rattle.shown_states.specs.Endings.{IsWritten, IsUnwritten}
+use Rattle.shown_states.specs.declared.form.Ending.{Ending}
+use Rattle.shown_states.specs.declared.form.Format.{Format}
+use Rattle.sinks.specs.Sinks.{TakesBeginning}
+use Rattle.sinks.specs.declared.fault.WriteFault.{WriteFault}
+use Rattle.states.specs.Graphs.{state_in}
+use Rattle.states.specs.Kept.{KeptParts, count, at, graph_of, IsSearch, AreAllKept}
+
+-- ---- the states are kept
+
+at_within : (kept : KeptParts) (i : ℕ) (s : MachineState) → at kept i ≡ Some s → i < count kept
+at_within kept i s is = elim (cases_lt i (count kept)) [
+  | inl within ↦ within
+  | inr past ↦
+      absurd (none-some s (sym (ap (λ (row : Option (List ℕ)). option_and_then (state_in (graph_of kept)) row)
+      (slice_get_past kept.nodes i past)) ∙ is))
+]
+
+known_list : (end : ℕ) (xs : List Authority) → ((k : ℕ) (a : Authority) → slice_get xs k ≡ Some a → a.first < end) → AreKnown end xs
+known_list end [] each = tt
+known_list end (x ∷ xs) each = (each 0 x refl, known_list end xs (λ k a is. each (suc k) a is))
+
+pub greatest_known : (kept : KeptParts) (values : MachineState → List CapValue) (xs : List Authority) → AreGreatest (at kept) values xs
+    → AreKnown (count kept) xs
+unfolding IsHeld
+greatest_known kept values xs greatest = known_list (count kept) xs (λ k a is.
+    let held = (greatest.first k a is).held in at_within kept a.first held.0 held.1)
+
+all_known_lists : (end : ℕ) (xs : List (Vec Authority Global))
+    → ((k : ℕ) (a : Vec Authority Global) → slice_get xs k ≡ Some a → AreKnown end a.items) → AreAllKnown end xs
+all_known_lists end [] each = tt
+all_known_lists end (x ∷ xs) each = (each 0 x refl, all_known_lists end xs (λ k a is. each (suc k) a is))
+
+pub harts_known : (kept : KeptParts) (harts : List (Vec Authority Global)) (memory : List Authority) → AreFound kept harts memory
+    → AreAllKnown (count kept) harts
+harts_known kept harts memory found = all_known_lists (count kept) harts (λ k xs is.
+    greatest_known kept (hart_values k) xs.items (found.of_hart k xs is))
+
+pub memory_known : (kept : KeptParts) (harts : List (Vec Authority Global)) (memory : List Authority) → AreFound kept harts memory
+    → AreKnown (count kept) memory
+memory_known kept harts memory found = greatest_known kept memory_values memory found.of_memory
+
+-- ---- what was found
+
+bounds_of : (kept : KeptParts) (values : MachineState → List CapValue) (xs : List Authority) → AreGreatest (at kept) values xs
+    → AreAllKept kept → AreBounds kept.image kept.sweeps values xs
+unfolding IsHeld
+bounds_of kept values xs greatest all order allowed legal r holds =
+    let there = all order allowed legal in
+    greatest.bounded there.0 r (replayed_state kept.image order, there.1, holds)
+
+at_some : {X : Type 0} (P : X → Type 0) (o : Option X) (x : X) → o ≡ Some x → IfSome o P → P x
+at_some P o x is so = subst (λ (q : Option _). IfSome q P) is so
+
+are_found : (kept final : KeptParts) (harts : List (Vec Authority Global)) (memory : List Authority) (complete : Bool)
+    → final ≡ kept → length harts ≡ length kept.image.harts
+    → ((n : ℕ) → IfSome (slice_get harts n) (λ list. AreGreatest (at kept) (hart_values n) list.items))
+    → AreGreatest (at kept) memory_values memory → complete ≡ kept.complete → (complete ≡ true → AreAllKept kept)
+    → AreFound final harts memory
+are_found kept final harts memory complete same size of_hart of_memory complete_is all =
+    subst (λ (k : KeptParts). AreFound k harts memory) (sym same) (record {
+      one_each = size;
+      of_hart = λ n list is.
+          at_some (λ (l : Vec Authority Global). AreGreatest (at kept) (hart_values n) l.items) (slice_get harts n) list is (of_hart n);
+      of_memory = of_memory;
+      hart_bounds = λ whole n list is.
+          bounds_of kept (hart_values n) list.items
+          (at_some (λ (l : Vec Authority Global). AreGreatest (at kept) (hart_values n) l.items) (slice_get harts n) list is (of_hart n))
+          (all (complete_is ∙ whole));
+      memory_bounds = λ whole. bounds_of kept memory_values memory of_memory (all (complete_is ∙ whole));
+    })
+
+pub found_is : {E : Type 0} (kept : KeptParts) (result : Result Authorities E) (complete : Bool)
+    → IfOk result (λ found. found.kept ≡ kept)
+    → IfOk result (λ found. length found.harts.items ≡ length kept.image.harts)
+    → IfOk result (λ found. (n : ℕ) → IfSome (slice_get found.harts.items n)
+    (λ list. AreGreatest (at kept) (hart_values n) list.items))
+    → IfOk result (λ found. AreGreatest (at kept) memory_values found.memory.items)
+    → complete ≡ kept.complete → (complete ≡ true → AreAllKept kept)
+    → IfOk result (λ found. AreFound found.kept found.harts.items found.memory.items)
+found_is kept (Ok found) complete same size of_hart of_memory complete_is all =
+    are_found kept found.kept found.harts.items found.memory.items complete same size of_hart of_memory complete_is all
+found_is kept (Err fault) complete same size of_hart of_memory complete_is all = tt
+
+-- ---- the answer
+
+pub answer_is : (kept : KeptParts) (format : Format) (harts : List (Vec Authority Global)) (memory : List Authority)
+    (told_harts : List (Vec Told Global)) (told_memory : List Told) → IsSearch kept → AreFound kept harts memory
+    → AreAllTold kept harts told_harts → AreTold kept memory told_memory
+    → IsAuthorityAnswer kept.image kept.sweeps kept.limit format
+    (said format kept.complete kept.image (count kept) told_harts told_memory) (ending_of kept.complete)
+answer_is kept format harts memory told_harts told_memory search found harts_told memory_told = record {
+  kept = kept;
+  image_is = refl;
+  sweeps_are = refl;
+  limit_is = refl;
+  search = search;
+  harts = harts;
+  memory = memory;
+  found = found;
+  told_harts = told_harts;
+  told_memory = told_memory;
+  harts_told = harts_told;
+  memory_told = memory_told;
+  text_is = refl;
+  ending_is = refl;
+}
+
+pub said_written : (kept : KeptParts) (format : Format) (text : List ℕ) (ending : Ending) (old new : Option (List ℕ))
+    → IsAuthorityAnswer kept.image kept.sweeps kept.limit format text (ending_of kept.complete) → ending ≡ ending_of kept.complete
+    → Appends old new text
+    → IsWritten (λ t. IsAuthorityAnswer kept.image kept.sweeps kept.limit format t ending) old new
+said_written kept format text ending old new answer is taken =
+    (text, subst (λ (e : Ending). IsAuthorityAnswer kept.image kept.sweeps kept.limit format text e) (sym is) answer, taken)
+
+pub said_begun : (kept : KeptParts) (format : Format) (text : List ℕ) (fault : WriteFault) (old new : Option (List ℕ))
+    → IsAuthorityAnswer kept.image kept.sweeps kept.limit format text (ending_of kept.complete) → TakesBeginning old new text
+    → IsUnwritten (λ t. (ending : Ending) × IsAuthorityAnswer kept.image kept.sweeps kept.limit format t ending) old new fault
+said_begun kept format text fault old new answer begun = inr (text, (ending_of kept.complete, answer), begun)
+
+-- of the image, the sweeps and the limit that were asked for
+asked : (kept : KeptParts) (image : ImageParts) (sweeps : List SweepRange) (limit : ℕ) (format : Format) (text : List ℕ) (ending : Ending)
+    → kept.image ≡ image → kept.sweeps ≡ sweeps → kept.limit ≡ limit
+    → IsAuthorityAnswer kept.image kept.sweeps kept.limit format text ending
+    → IsAuthorityAnswer image sweeps limit format text ending
+asked kept image sweeps limit format text ending image_is sweeps_are limit_is answer = record {
+  kept = answer.kept;
+  image_is = answer.image_is ∙ image_is;
+  sweeps_are = answer.sweeps_are ∙ sweeps_are;
+  limit_is = answer.limit_is ∙ limit_is;
+  search = answer.search;
+  harts = answer.harts;
+  memory = answer.memory;
+  found = answer.found;
+  told_harts = answer.told_harts;
+  told_memory = answer.told_memory;
+  harts_told = answer.harts_told;
+  memory_told = answer.memory_told;
+  text_is = answer.text_is;
+  ending_is = answer.ending_is;
+}
+
+pub asked_written : {E : Type 0} (kept : KeptParts) (image : ImageParts) (sweeps : List SweepRange) (limit : ℕ) (format : Format)
+    (result : Result Ending E) (old new : Option (List ℕ)) → kept.image ≡ image → kept.sweeps ≡ sweeps → kept.limit ≡ limit
+    → IfOk result (λ ending. IsWritten (λ text. IsAuthorityAnswer kept.image kept.sweeps kept.limit format text ending) old new)
+    → IfOk result (λ ending. IsWritten (λ text. IsAuthorityAnswer image sweeps limit format text ending) old new)
+asked_written kept image sweeps limit format (Ok ending) old new image_is sweeps_are limit_is written =
+    written_as (λ text. IsAuthorityAnswer kept.image kept.sweeps kept.limit format text ending)
+    (λ text. IsAuthorityAnswer image sweeps limit format text ending) old new
+    (λ text answer. asked kept image sweeps limit format text ending image_is sweeps_are limit_is answer) written
+asked_written kept image sweeps limit format (Err fault) old new image_is sweeps_are limit_is written = tt
+
+pub asked_begun : {T : Type 0} (kept : KeptParts) (image : ImageParts) (sweeps : List SweepRange) (limit : ℕ) (format : Format)
+    (result : Result T WriteFault) (old new : Option (List ℕ)) → kept.image ≡ image → kept.sweeps ≡ sweeps → kept.limit ≡ limit
+    → IfErr result (IsUnwritten (λ text. (ending : Ending)
+    × IsAuthorityAnswer kept.image kept.sweeps kept.limit format text ending) old new)
+    → IfErr result (IsUnwritten (λ text. (ending : Ending) × IsAuthorityAnswer image sweeps limit format text ending) old new)
+asked_begun kept image sweeps limit format result old new image_is sweeps_are limit_is begun =
+    err_as (λ text. (ending : Ending) × IsAuthorityAnswer kept.image kept.sweeps kept.limit format text ending)
+    (λ text. (ending : Ending) × IsAuthorityAnswer image sweeps limit format text ending) result old new
+    (λ text answer. (answer.0, asked kept image sweeps limit format text answer.0 image_is sweeps_are limit_is answer.1)) begun

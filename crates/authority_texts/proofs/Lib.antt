@@ -1,0 +1,3 @@
+pub mod ToldLemmas
+pub mod AnswerLemmas
+pub mod JsonLemmas

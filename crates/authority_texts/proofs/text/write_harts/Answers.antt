@@ -1,0 +1,12 @@
+use Rattle.authority_texts.specs.AuthorityTexts.{hart_block}
+use Rattle.report_lines.proofs.Items.{numbered_step, numbered_end}
+use Rattle.authority_texts.proofs.text.write_harts.Goals as goal
+
+pub loop-number-preserved : goal.loop-number-preserved
+loop-number-preserved c =
+    numbered_step hart_block c.args.harts.now c.loop-number.number _ _ _ _ _ c.loop-number-test.true c.index-harts-number.is
+    c.in_ok-write_hart.ensures c.loop-number.invariant
+
+pub returns : goal.returns
+returns c =
+    numbered_end hart_block c.args.harts.now c.loop-number.number _ _ c.loop-number-test.false c.loop-number.invariant

@@ -1,0 +1,157 @@
+//! The search, and its answer.
+
+ghost use Rattle.std.specs.Prelude.{◌≡◌, ◌++◌, ◌<◌, ◌≤◌, length, IfOk, IfErr, OnOk, string_bytes};
+ghost use Rattle.std.specs.Io.KnownBytes.{Appends};
+ghost use Rattle.authority_texts.specs.Answers.{AreFound, IsAuthorityAnswer, ending_of};
+ghost use Rattle.authority_texts.specs.AuthorityTexts.{said};
+ghost use Rattle.authority_texts.specs.Told.{AreTold, AreAllTold};
+ghost use Rattle.shown_states.specs.Endings.{IsUnwritten, IsWritten};
+ghost use Rattle.shown_states.specs.declared.form.Ending.{Ending};
+ghost use Rattle.sinks.specs.Sinks.{TakesBeginning};
+ghost use Rattle.states.specs.Kept.{count};
+
+use crate::json::write_json;
+use crate::text::write_text;
+use crate::told::{Told, all_told_of, told_of};
+use authorities::{Authorities, authorities_of};
+use cheri_model::{Image, NoMemory};
+use found_texts::opened;
+use graph_search::Progress;
+use schedules::SweepRange;
+use shown_states::{Ending, Format};
+use sinks::{Sink, WriteFault, put_whole};
+use states::{Kept, MAX_SWEEPS, search_from};
+use std::alloc::{AllocError, Global};
+
+/// Appends an answer in a form.
+fn write_said(
+    alloc: Global,
+    format: Format,
+    out: &mut String,
+    kept: &Kept,
+    harts: &[Vec<Told>],
+    memory: &[Told],
+) -> Result<(), NoMemory>
+    ensures { OnOk result (string_bytes out.new ≡ string_bytes out.old
+        ++ said format kept.now.complete kept.now.image (count kept.now) harts.now memory.now) }
+{
+    let (complete, image, states) = (kept.is_complete(), kept.image(), kept.len());
+    match format {
+        Format::Text => write_text(out, complete, image, states, harts, memory),
+        Format::Json => write_json(alloc, out, complete, image, states, harts, memory),
+    }
+}
+
+/// Writes an answer. After a fault of the writing the sink took a beginning of it.
+fn put_said<S: Sink>(
+    alloc: Global,
+    format: Format,
+    kept: &Kept,
+    harts: &[Vec<Told>],
+    memory: &[Told],
+    sink: &mut S,
+) -> Result<(), WriteFault>
+    ensures whole { OnOk result (Appends (S.taken sink.old) (S.taken sink.new)
+        (said format kept.now.complete kept.now.image (count kept.now) harts.now memory.now)) }
+    ensures beginning { TakesBeginning (S.taken sink.old) (S.taken sink.new)
+        (said format kept.now.complete kept.now.image (count kept.now) harts.now memory.now) }
+    ensures place { S.place sink.new ≡ S.place sink.old }
+{
+    let mut out = String::new(alloc);
+    write_said(alloc, format, &mut out, kept, harts, memory)?;
+    put_whole(sink, out.as_bytes())?;
+    Ok(())
+}
+
+/// Searches the states that an image reaches, and gathers the greatest rights over them.
+fn found_authorities<P: Progress>(
+    alloc: Global,
+    image: &Image,
+    sweeps: &[SweepRange],
+    limit: u32,
+    progress: &mut P,
+) -> Result<Authorities, AllocError>
+    requires some { 0 < limit }
+    requires few { length sweeps.now ≤ MAX_SWEEPS }
+    ensures image { IfOk result (λ found. found.kept.image ≡ image.now) }
+    ensures sweeps { IfOk result (λ found. found.kept.sweeps ≡ sweeps.now) }
+    ensures limit { IfOk result (λ found. found.kept.limit ≡ limit) }
+    ensures found { IfOk result (λ found.
+        AreFound found.kept found.harts.items found.memory.items) }
+{
+    let core = opened(alloc, image)?;
+    let view = core.view();
+    let kept = search_from(alloc, image, view.harts, view.ram, sweeps, limit, progress)?;
+    // Its clause says that, where it is so, every order leads to a kept state.
+    let _complete = kept.is_complete();
+    authorities_of(alloc, kept)
+}
+
+/// Writes what was found.
+fn put_found<S: Sink>(
+    alloc: Global,
+    format: Format,
+    found: &Authorities,
+    sink: &mut S,
+) -> Result<Ending, WriteFault>
+    requires { AreFound found.now.kept found.now.harts.items found.now.memory.items }
+    ensures written { IfOk result (λ ending. IsWritten
+        (λ text. IsAuthorityAnswer found.now.kept.image found.now.kept.sweeps found.now.kept.limit
+        format text ending) (S.taken sink.old) (S.taken sink.new)) }
+    ensures begun { IfErr result (IsUnwritten (λ text. (ending : Ending)
+        × IsAuthorityAnswer found.now.kept.image found.now.kept.sweeps found.now.kept.limit
+        format text ending) (S.taken sink.old) (S.taken sink.new)) }
+    ensures place { S.place sink.new ≡ S.place sink.old }
+{
+    // Its clause says that this is a search.
+    let _count = found.kept.len();
+    let harts = all_told_of(alloc, &found.kept, found.harts.as_slice())?;
+    let memory = told_of(alloc, &found.kept, found.memory.as_slice())?;
+    put_said(
+        alloc,
+        format,
+        &found.kept,
+        harts.as_slice(),
+        memory.as_slice(),
+        sink,
+    )?;
+    Ok(ending_of(&found.kept))
+}
+
+/// Whether an answer speaks of all states.
+fn ending_of(kept: &Kept) -> Ending
+    ensures { result ≡ ending_of kept.now.complete }
+{
+    if kept.is_complete() {
+        Ending::Done
+    } else {
+        Ending::Unfinished
+    }
+}
+
+/// Searches the states that an image reaches, by steps of its harts and these sweeps, and writes the
+/// greatest rights that each hart and memory ever hold, each with the order that leads to the first
+/// state in which just these are held. At most `limit` states are kept. Nothing is written before
+/// the search has ended. After a fault of the writing the sink took a beginning of the answer.
+pub fn authority<P: Progress, S: Sink>(
+    alloc: Global,
+    image: &Image,
+    sweeps: &[SweepRange],
+    limit: u32,
+    format: Format,
+    progress: &mut P,
+    sink: &mut S,
+) -> Result<Ending, WriteFault>
+    requires some { 0 < limit }
+    requires few { length sweeps.now ≤ MAX_SWEEPS }
+    ensures written { IfOk result (λ ending. IsWritten
+        (λ text. IsAuthorityAnswer image.now sweeps.now limit format text ending)
+        (S.taken sink.old) (S.taken sink.new)) }
+    ensures begun { IfErr result (IsUnwritten (λ text. (ending : Ending)
+        × IsAuthorityAnswer image.now sweeps.now limit format text ending)
+        (S.taken sink.old) (S.taken sink.new)) }
+    ensures place { S.place sink.new ≡ S.place sink.old }
+{
+    let found = found_authorities(alloc, image, sweeps, limit, progress)?;
+    put_found(alloc, format, &found, sink)
+}

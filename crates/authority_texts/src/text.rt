@@ -1,0 +1,92 @@
+//! The text of an answer.
+
+ghost use Rattle.std.specs.Prelude.{◌≡◌, ◌++◌, OnOk, string_bytes};
+ghost use Rattle.authority_texts.specs.AuthorityTexts.{
+  authority_text,
+  hart_block,
+  head_lines,
+  rights_line,
+  rights_lines,
+};
+ghost use Rattle.report_lines.specs.Texts.{numbered};
+
+use crate::told::Told;
+use cheri_model::{Image, NoMemory};
+use order_texts::write_order;
+use report_lines::{Hex, HexWord, write_image_line};
+use shown_states::write_states_line;
+
+/// Appends the line of rights.
+#[tactic(auto, unfolding(crate::specs::AuthorityTexts::rights_line))]
+fn write_rights(out: &mut String, told: &Told) -> Result<(), NoMemory>
+    ensures { OnOk result (string_bytes out.new ≡ string_bytes out.old ++ rights_line told.now) }
+{
+    let base = HexWord(told.rights.base);
+    let top = Hex::of_top(told.rights.top);
+    let perms = Hex::of_perms(told.rights.perms);
+    write!(out, "{base} {top} {perms} first=")?;
+    write_order(out, told.order.as_slice())?;
+    out.push_str("\n")
+}
+
+/// Appends the lines of a list.
+fn write_list(out: &mut String, list: &[Told]) -> Result<(), NoMemory>
+    ensures { OnOk result (string_bytes out.new ≡ string_bytes out.old ++ rights_lines list.now) }
+{
+    for told in list {
+        write_rights(out, told)?;
+    }
+    Ok(())
+}
+
+/// Appends the block of a hart.
+#[tactic(auto, unfolding(crate::specs::AuthorityTexts::hart_block))]
+fn write_hart(out: &mut String, number: usize, list: &Vec<Told>) -> Result<(), NoMemory>
+    ensures { OnOk result (string_bytes out.new
+        ≡ string_bytes out.old ++ hart_block number list.now) }
+{
+    writeln!(out, "hart {number}")?;
+    write_list(out, list.as_slice())
+}
+
+/// Appends the blocks of all harts.
+fn write_harts(out: &mut String, harts: &[Vec<Told>]) -> Result<(), NoMemory>
+    ensures { OnOk result (string_bytes out.new
+        ≡ string_bytes out.old ++ numbered hart_block 0 harts.now) }
+{
+    for (number, list) in harts.iter().enumerate() {
+        write_hart(out, number, list)?;
+    }
+    Ok(())
+}
+
+/// Appends the lines before the first block.
+#[tactic(auto, unfolding(crate::specs::AuthorityTexts::head_lines))]
+fn write_head(out: &mut String, complete: bool, image: &Image, states: u32) -> Result<(), NoMemory>
+    ensures { OnOk result (string_bytes out.new
+        ≡ string_bytes out.old ++ head_lines complete image.now states) }
+{
+    out.push_str("cheri-sim authority 1\n")?;
+    write_image_line(out, image)?;
+    write_states_line(out, complete, states)
+}
+
+/// Appends the whole text.
+#[tactic(auto, unfolding(crate::specs::AuthorityTexts::authority_text))]
+pub fn write_text(
+    out: &mut String,
+    complete: bool,
+    image: &Image,
+    states: u32,
+    harts: &[Vec<Told>],
+    memory: &[Told],
+) -> Result<(), NoMemory>
+    ensures { OnOk result (string_bytes out.new ≡ string_bytes out.old
+        ++ authority_text complete image.now states harts.now memory.now) }
+{
+    write_head(out, complete, image, states)?;
+    write_harts(out, harts)?;
+    out.push_str("memory\n")?;
+    write_list(out, memory)?;
+    out.push_str("end\n")
+}
