@@ -1,16 +1,16 @@
 -- What the program answers, as the ending of its command line.
-use Rattle.std.proofs.Common.{◌≡◌, ℕ, List, map, true, Option, Some, None, Result, Ok, Err, refl, sym, ap, subst, inl, inr}
-use Rattle.std.specs.Prelude.{◌⊎◌, ⊤, IfErr, IfOk}
+use Rattle.std.proofs.Common.{◌≡◌, ℕ, List, map, true, Option, Some, None, Result, Ok, Err, refl, sym, subst, inl}
+use Rattle.std.specs.Prelude.{IfErr, IfOk}
 use Rattle.cheri_model.specs.runs.Image.{ImageParts}
 use Rattle.command_line.specs.ExploreWords.{ExploreAsked, AskedQuestion, Find, Outcomes, Authority}
 use Rattle.conditions.specs.Conditions.{condition_of}
 use Rattle.schedules.specs.declared.ranges.SweepRange.{SweepRange}
 use Rattle.shown_states.specs.declared.form.Format.{Format}
-use Rattle.cheri_explore.specs.Questions.{IsFindSaid, range_of}
+use Rattle.cheri_explore.specs.Questions.{IsAuthoritySaid, IsFindSaid, range_of}
 use Rattle.command_line.specs.declared.faults.CommandFault.{CommandFault}
 use Rattle.command_line.specs.declared.faults.CommandFault.TheVariants as commands
 use Rattle.inputs.specs.Files.{KnownFiles}
-use Rattle.inputs.specs.Reading.{OfImage, MeansImage, IsImageRefused}
+use Rattle.inputs.specs.Reading.{MeansImage, IsImageRefused}
 use Rattle.inputs.specs.declared.fault.InputFault.{InputFault}
 use Rattle.inputs.specs.declared.fault.InputFault.TheVariants as faults
 use Rattle.inputs.proofs.InputLemmas.{IsReported, image_fails, of_image}
@@ -109,11 +109,13 @@ outcomes_fail files asked image show old new means question same = (
   same,
 )
 
-pub authority_fails : (files : KnownFiles) (asked : ExploreAsked) (image : ImageParts) (old new : Option (List ℕ))
-    → MeansImage (files asked.listing) image → asked.question ≡ Authority → new ≡ old
-    → FailsBy (failure_of fault.Usage) (IsAnswer files (Some asked)) fault.Usage old new
-authority_fails files asked image old new means question same = (
-  of_question files asked image means (Err fault.Usage)
-      (subst (λ (q : AskedQuestion). IsQuestionAnswer image asked q (Err fault.Usage)) (sym question) refl),
-  same,
-)
+-- the rights that were asked for
+pub authority_asked : (image : ImageParts) (asked : ExploreAsked) (sweeps : List SweepRange) (states : ℕ) (format : Format)
+    (answer : Answer Ending Fault) → asked.question ≡ Authority → sweeps ≡ map range_of asked.sweeps → states ≡ asked.states
+    → format ≡ format_of asked.form → IsAuthoritySaid image sweeps states format answer
+    → IsQuestionAnswer image asked asked.question answer
+authority_asked image asked sweeps states format answer question sweeps_are states_are format_is said =
+    subst (λ (q : AskedQuestion). IsQuestionAnswer image asked q answer) (sym question)
+    (subst (λ (f : Format). IsAuthoritySaid image (map range_of asked.sweeps) asked.states f answer) format_is
+    (subst (λ (n : ℕ). IsAuthoritySaid image (map range_of asked.sweeps) n format answer) states_are
+    (subst (λ (s : List SweepRange). IsAuthoritySaid image s states format answer) sweeps_are said)))

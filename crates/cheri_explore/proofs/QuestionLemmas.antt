@@ -1,7 +1,6 @@
 -- What was printed to a question, as the ending of a command.
-use Rattle.std.proofs.Common.{◌≡◌, ℕ, List, Bool, true, Option, Result, Ok, Err, refl, sym, subst, inl, inr}
-use Rattle.std.specs.Prelude.{◌⊎◌}
-use Rattle.std.specs.Io.KnownBytes.{Appends, Keeps}
+use Rattle.std.proofs.Common.{◌≡◌, ℕ, List, Option, Result, Ok, Err, refl, sym, subst, inl, inr}
+use Rattle.std.specs.Io.KnownBytes.{Keeps}
 use Rattle.std.proofs.KnownBytes.{Appends-kept}
 use Rattle.cheri_model.specs.runs.Image.{ImageParts}
 use Rattle.conditions.specs.declared.parts.Atom.{Atom}
@@ -9,13 +8,12 @@ use Rattle.conditions.specs.declared.fault.TextFault.{TextFault}
 use Rattle.conditions.specs.declared.fault.TextFault.TheVariants as texts
 use Rattle.conditions.specs.Conditions.{GivesCondition}
 use Rattle.found_texts.specs.Find.{IsFindAnswer}
-use Rattle.printing.specs.Endings.{Answer, HasWhole, HasPrefix, FailsBy}
+use Rattle.printing.specs.Endings.{Answer, HasWhole, FailsBy}
 use Rattle.printing.proofs.EndingLemmas.{begins_whole}
 use Rattle.schedules.specs.declared.ranges.SweepRange.{SweepRange}
 use Rattle.shown_states.specs.Endings.{IsWritten, IsUnwritten}
 use Rattle.shown_states.specs.declared.form.Ending.{Ending}
 use Rattle.shown_states.specs.declared.form.Format.{Format}
-use Rattle.sinks.specs.Sinks.{TakesBeginning}
 use Rattle.sinks.specs.declared.fault.WriteFault.{WriteFault}
 use Rattle.sinks.specs.declared.fault.WriteFault.TheVariants as written
 use Rattle.cheri_explore.specs.declared.faults.Fault.{Fault}

@@ -1,5 +1,5 @@
 -- What the program answers to its command line, and how it ends.
-use Rattle.std.specs.Prelude.{◌≡◌, ℕ, List, map, codes, Option, Some, None, Result, Ok, Err}
+use Rattle.std.specs.Prelude.{◌≡◌, ℕ, List, map, codes, Option, Some, None, Err}
 use Rattle.std.specs.Prelude.{String}
 use Rattle.std.specs.Global.{Global}
 use Rattle.cheri_model.specs.runs.Image.{ImageParts}
@@ -20,7 +20,7 @@ use Rattle.sinks.specs.Sinks.{TakesBeginning}
 use Rattle.cheri_explore.specs.declared.faults.Fault.{Fault}
 use Rattle.cheri_explore.specs.declared.faults.Fault.TheVariants as fault
 use Rattle.cheri_explore.specs.Faults.{failure_of, fault_text, status_of}
-use Rattle.cheri_explore.specs.Questions.{IsFindSaid, range_of}
+use Rattle.cheri_explore.specs.Questions.{IsAuthoritySaid, IsFindSaid, range_of}
 
 -- the command line of the words that are given after the program's name
 abbrev pub command_line : List (String Global) → List (List ℕ)
@@ -37,7 +37,8 @@ IsQuestionAnswer image asked (Find condition) answer =
     IsFindSaid image (condition_of image condition) (map range_of asked.sweeps) asked.states
     (format_of asked.form) answer
 IsQuestionAnswer image asked (Outcomes show) answer = answer ≡ Err fault.Usage
-IsQuestionAnswer image asked Authority answer = answer ≡ Err fault.Usage
+IsQuestionAnswer image asked Authority answer =
+    IsAuthoritySaid image (map range_of asked.sweeps) asked.states (format_of asked.form) answer
 
 -- the answers to a request; `usage` where the words ask for nothing
 abbrev pub IsAnswer : KnownFiles → Option ExploreAsked → Answer Ending Fault → Type 0

@@ -1,5 +1,6 @@
 -- What is answered to each question, of the image of a listing.
 use Rattle.std.specs.Prelude.{◌≡◌, ℕ, List, Result, Ok, Err}
+use Rattle.authority_texts.specs.Answers.{IsAuthorityAnswer}
 use Rattle.cheri_model.specs.runs.Image.{ImageParts}
 use Rattle.command_line.specs.declared.sweeps.Sweep.{Sweep}
 use Rattle.conditions.specs.declared.parts.Atom.{Atom}
@@ -23,3 +24,10 @@ IsFindSaid image (Ok condition) sweeps states format (Ok (text, ending)) =
     IsFindAnswer image condition sweeps states format text ending
 IsFindSaid image (Ok condition) sweeps states format (Err fault) = ⊥
 IsFindSaid image (Err byte) sweeps states format answer = answer ≡ Err (Text (Condition byte))
+
+-- `authority`
+abbrev pub IsAuthoritySaid : ImageParts → List SweepRange → ℕ → Format → Answer Ending Fault
+    → Type 0
+IsAuthoritySaid image sweeps states format (Ok (text, ending)) =
+    IsAuthorityAnswer image sweeps states format text ending
+IsAuthoritySaid image sweeps states format (Err fault) = ⊥

@@ -9,7 +9,7 @@ ghost use Rattle.cheri_explore.specs.Faults.{failure_of, fault_text, status_of};
 ghost use Rattle.cheri_explore.specs.Program.{Done, Failed, IsAnswer, command_line, format_of};
 
 use crate::faults::Fault;
-use crate::questions::{Search, answer_find, ranges_of};
+use crate::questions::{Search, answer_authority, answer_find, ranges_of};
 use command_line::{ExploreRequest, Question, ReportForm, explore_request};
 use graph_search::Progress;
 use inputs::{Files, command_words, read_image};
@@ -56,8 +56,8 @@ fn answer_request<F: Files, O: Write, P: Progress>(
     };
     match request.question {
         Question::Find { condition } => answer_find(alloc, search, condition, progress, out),
+        Question::Authority => answer_authority(alloc, search, progress, out),
         Question::Outcomes { .. } => Err(Fault::Usage),
-        Question::Authority => Err(Fault::Usage),
     }
 }
 

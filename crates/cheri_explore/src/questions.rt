@@ -1,15 +1,17 @@
 //! The questions, each asked of the image of a listing.
 
 ghost use Rattle.std.specs.Prelude.{◌≡◌, ℕ, List, ◌<◌, ◌≤◌, length, map, IfOk, IfErr, OnOk};
+ghost use Rattle.authority_texts.specs.Answers.{IsAuthorityAnswer};
 ghost use Rattle.conditions.specs.Conditions.{condition_of};
 ghost use Rattle.found_texts.specs.Find.{IsFindAnswer};
 ghost use Rattle.printing.specs.Endings.{HasWhole, FailsBy};
 ghost use Rattle.shown_states.specs.Endings.{IsUnwritten, IsWritten};
 ghost use Rattle.shown_states.specs.declared.form.Ending.{Ending};
 ghost use Rattle.cheri_explore.specs.Faults.{failure_of};
-ghost use Rattle.cheri_explore.specs.Questions.{IsFindSaid, range_of};
+ghost use Rattle.cheri_explore.specs.Questions.{IsAuthoritySaid, IsFindSaid, range_of};
 
 use crate::faults::Fault;
+use authority_texts::authority;
 use cheri_model::{Image, NoMemory};
 use command_line::Sweep;
 use conditions::{Condition, read_condition};
@@ -104,6 +106,61 @@ pub fn answer_find<O: Write, P: Progress>(
 {
     let condition = read_condition(alloc, search.image, condition)?;
     let ending = find_to(alloc, search, &condition, progress, out)?;
+    flush(out)?;
+    Ok(ending)
+}
+
+/// `authority`, to a writer.
+fn authority_to<O: Write, P: Progress>(
+    alloc: Global,
+    search: Search<'_>,
+    progress: &mut P,
+    out: &mut O,
+) -> Result<Ending, WriteFault>
+    requires some { 0 < search.states }
+    requires few { length search.sweeps.now ≤ MAX_SWEEPS }
+    ensures written { IfOk result (λ ending. IsWritten
+        (λ text. IsAuthorityAnswer search.entry.image.now search.entry.sweeps.now
+        search.entry.states search.entry.format text ending)
+        (O.contents out.old) (O.contents out.new)) }
+    ensures begun { IfErr result (IsUnwritten (λ text. (ending : Ending)
+        × IsAuthorityAnswer search.entry.image.now search.entry.sweeps.now
+        search.entry.states search.entry.format text ending)
+        (O.contents out.old) (O.contents out.new)) }
+{
+    let mut sink = ToWrite::new(out);
+    let found = authority(
+        alloc,
+        search.image,
+        search.sweeps,
+        search.states,
+        search.format,
+        progress,
+        &mut sink,
+    );
+    let writer = sink.into_writer();
+    // A last look at the writer tells the caller what it holds now.
+    let _ = &*writer;
+    found
+}
+
+/// `authority LISTING`.
+pub fn answer_authority<O: Write, P: Progress>(
+    alloc: Global,
+    search: Search<'_>,
+    progress: &mut P,
+    out: &mut O,
+) -> Result<Ending, Fault>
+    requires some { 0 < search.states }
+    requires few { length search.sweeps.now ≤ MAX_SWEEPS }
+    ensures printed { IfOk result (λ ending. HasWhole
+        (IsAuthoritySaid search.entry.image.now search.entry.sweeps.now search.entry.states
+        search.entry.format) ending (O.contents out.old) (O.contents out.new)) }
+    ensures failed { IfErr result (λ fault. FailsBy (failure_of fault)
+        (IsAuthoritySaid search.entry.image.now search.entry.sweeps.now search.entry.states
+        search.entry.format) fault (O.contents out.old) (O.contents out.new)) }
+{
+    let ending = authority_to(alloc, search, progress, out)?;
     flush(out)?;
     Ok(ending)
 }

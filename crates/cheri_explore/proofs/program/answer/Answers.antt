@@ -1,4 +1,4 @@
-use Rattle.std.proofs.Common.{◌≡◌, List, refl, inl, ◌∙◌, ap, sym, map}
+use Rattle.std.proofs.Common.{◌≡◌, refl, ◌∙◌, ap, sym, map}
 use Rattle.std.proofs.lemmas.Result.{err_from_is_err_and}
 use Rattle.command_line.specs.ExploreWords.{explore_asked, explore_asked_by}
 use Rattle.cheri_explore.specs.Program.{command_line}

@@ -1,9 +1,9 @@
-use Rattle.std.proofs.Common.{refl, inl, ◌∙◌, ap, map}
+use Rattle.std.proofs.Common.{refl, ◌∙◌, ap, map}
 use Rattle.std.proofs.lemmas.Result.{err_from_is_err_and}
 use Rattle.command_line.specs.ExploreWords.{explore_asked_by, question_asked_by}
 use Rattle.conditions.specs.Conditions.{condition_of}
-use Rattle.cheri_explore.specs.Questions.{IsFindSaid, range_of}
-use Rattle.cheri_explore.proofs.ProgramLemmas.{listing_fails, question_printed, question_fails, find_asked, outcomes_fail, authority_fails}
+use Rattle.cheri_explore.specs.Questions.{IsAuthoritySaid, IsFindSaid, range_of}
+use Rattle.cheri_explore.proofs.ProgramLemmas.{listing_fails, question_printed, question_fails, find_asked, authority_asked, outcomes_fail}
 use Rattle.cheri_explore.proofs.program.answer_request.Goals as goal
 
 pub returns-in_err-image-clause-failed : goal.returns-in_err-image-clause-failed
@@ -33,12 +33,27 @@ returns-in-Find-clause-failed g c =
     (c.as_slice-2.ensures.value ∙ (c.in_ok-sweeps.ensures ∙ ap (map range_of) c.as_slice.ensures.value)) refl c.format_of.ensures said)
     c.answer_find.ensures.failed
 
-pub returns-in-Outcomes-clause-failed : goal.returns-in-Outcomes-clause-failed
-returns-in-Outcomes-clause-failed g c =
-    outcomes_fail (g.F.Files.bytes_of c.args.files.now) (explore_asked_by c.args.request.now) c.in_ok-image.image _ _ _
-    c.in_ok-image.ensures.meaning (ap question_asked_by c.in-Outcomes.is) refl
+pub returns-in-Authority-clause-printed : goal.returns-in-Authority-clause-printed
+returns-in-Authority-clause-printed g c =
+    question_printed (g.F.Files.bytes_of c.args.files.now) (explore_asked_by c.args.request.now) c.in_ok-image.image
+    (IsAuthoritySaid c.in_ok-image.image c.as_slice-2.result.now c.args.request.now.states c.format_of.result)
+    c.answer_authority.result _ _ c.in_ok-image.ensures.meaning
+    (λ answer said. authority_asked c.in_ok-image.image (explore_asked_by c.args.request.now) c.as_slice-2.result.now
+    c.args.request.now.states c.format_of.result answer (ap question_asked_by c.in-Authority.is)
+    (c.as_slice-2.ensures.value ∙ (c.in_ok-sweeps.ensures ∙ ap (map range_of) c.as_slice.ensures.value)) refl c.format_of.ensures said)
+    c.answer_authority.ensures.printed
+
+pub returns-in-Authority-clause-failed : goal.returns-in-Authority-clause-failed
+returns-in-Authority-clause-failed g c =
+    question_fails (g.F.Files.bytes_of c.args.files.now) (explore_asked_by c.args.request.now) c.in_ok-image.image
+    (IsAuthoritySaid c.in_ok-image.image c.as_slice-2.result.now c.args.request.now.states c.format_of.result)
+    c.answer_authority.result _ _ c.in_ok-image.ensures.meaning
+    (λ answer said. authority_asked c.in_ok-image.image (explore_asked_by c.args.request.now) c.as_slice-2.result.now
+    c.args.request.now.states c.format_of.result answer (ap question_asked_by c.in-Authority.is)
+    (c.as_slice-2.ensures.value ∙ (c.in_ok-sweeps.ensures ∙ ap (map range_of) c.as_slice.ensures.value)) refl c.format_of.ensures said)
+    c.answer_authority.ensures.failed
 
 pub returns-clause-failed : goal.returns-clause-failed
 returns-clause-failed g c =
-    authority_fails (g.F.Files.bytes_of c.args.files.now) (explore_asked_by c.args.request.now) c.in_ok-image.image _ _
-    c.in_ok-image.ensures.meaning (ap question_asked_by c.in-Authority.is) refl
+    outcomes_fail (g.F.Files.bytes_of c.args.files.now) (explore_asked_by c.args.request.now) c.in_ok-image.image _ _ _
+    c.in_ok-image.ensures.meaning (ap question_asked_by c.in-Outcomes.is) refl

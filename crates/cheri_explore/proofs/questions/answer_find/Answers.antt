@@ -2,7 +2,6 @@ use Rattle.std.proofs.Common.{ℕ, List, refl}
 use Rattle.std.proofs.lemmas.Result.{err_from_is_err_and}
 use Rattle.conditions.specs.Conditions.{condition_of}
 use Rattle.found_texts.specs.Find.{IsFindAnswer}
-use Rattle.shown_states.specs.declared.form.Ending.{Ending}
 use Rattle.cheri_explore.specs.Questions.{IsFindSaid}
 use Rattle.cheri_explore.proofs.QuestionLemmas.{condition_fails, find_said, printed, unflushed, unwritten}
 use Rattle.cheri_explore.proofs.questions.answer_find.Goals as goal
