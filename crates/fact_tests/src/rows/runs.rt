@@ -53,7 +53,7 @@ fn register(number: u8) -> Place {
 #[test]
 fn swaps_store_with_the_origin(rt: HostRuntime) -> Result<(), Fail> {
     let name = Spot::Granule(0);
-    let (at, finds, leaves) = accessed_by_swap(&rt, rt.alloc())?;
+    let (at, finds, leaves) = accessed_by_swap(rt.alloc())?;
     assert_eq!(rt;
         at,
         Some(Extent {
@@ -78,7 +78,7 @@ fn swaps_store_with_the_origin(rt: HostRuntime) -> Result<(), Fail> {
 
 #[test]
 fn swaps_load_with_the_origin(rt: HostRuntime) -> Result<(), Fail> {
-    let (reads, sets) = moved_by_swap(&rt, rt.alloc())?;
+    let (reads, sets) = moved_by_swap(rt.alloc())?;
     let stored = NamedValue {
         name: Spot::Register(6),
         value: STORED.cap()?,
