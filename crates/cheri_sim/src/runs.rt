@@ -33,6 +33,7 @@ fn simulate_in<S: Sink>(
         IsRefusedRun (longest_run listing.now order.now)
         (λ run. TakesBeginning (S.taken out.old) (S.taken out.new) (report_in form run)) fault) }
     ensures untouched { IfErr result (λ fault. is_reported fault ≡ false → out.new ≡ out.old) }
+    ensures place { S.place out.new ≡ S.place out.old }
 {
     match form {
         ReportForm::Text => simulate(alloc, listing, order, GREATEST_TRACE_LIMIT, out),
