@@ -1,0 +1,110 @@
+//! The program: explains one run, or reports why it failed.
+
+ghost use Rattle.std.specs.Prelude.{◌≡◌, ◌≢◌, ◌≤◌, ◌⊎◌, IfErr, OnOk, Err, None, Some};
+ghost use Rattle.command_line.specs.ExplainWords.{explain_asked, explain_asked_by};
+ghost use Rattle.report_lines.specs.Texts.{line};
+ghost use Rattle.sinks.specs.Sinks.{TakesBeginning};
+ghost use Rattle.printing.specs.Endings.{FailsBy, HasWhole};
+ghost use Rattle.cheri_explain.specs.Faults.{failure_of, fault_text, status_of, no_memory};
+ghost use Rattle.cheri_explain.specs.Program.{command_line, IsAnswer, FailsWith};
+
+use crate::explaining::print_asked;
+use crate::faults::Fault;
+use command_line::{ExplainRequest, explain_request};
+use inputs::{Files, command_words, read_texts};
+use printing::write_line;
+use std::alloc::Global;
+use std::io::Write;
+
+/// Explains what a request asks for.
+#[tactic(auto, using(crate::proofs::ProgramLemmas::answers))]
+fn explain<F: Files, O: Write>(
+    alloc: Global,
+    request: ExplainRequest<'_>,
+    files: &mut F,
+    out: &mut O,
+) -> Result<(), Fault>
+    ensures printed { OnOk result (HasWhole
+        (IsAnswer (F.bytes_of files.old) (Some (explain_asked_by request.entry))) None
+        (O.contents out.old) (O.contents out.new)) }
+    ensures failed { IfErr result (λ fault. FailsBy (failure_of fault)
+        (IsAnswer (F.bytes_of files.old) (Some (explain_asked_by request.entry))) fault
+        (O.contents out.old) (O.contents out.new)) }
+{
+    let texts = read_texts(files, request.listing, request.order)?;
+    let (listing, order) = (texts.listing.as_slice(), texts.order.as_slice());
+    let refused = print_asked(alloc, request, listing, order, out)?;
+    match refused {
+        None => Ok(()),
+        Some((place, fault)) => Err(Fault::Step(place, fault)),
+    }
+}
+
+/// Does what the words ask for. The command line is judged first.
+#[tactic(auto, using(crate::proofs::ProgramLemmas::command_fails))]
+fn answer<F: Files, O: Write>(
+    alloc: Global,
+    words: &[String],
+    files: &mut F,
+    out: &mut O,
+) -> Result<(), Fault>
+    ensures printed { OnOk result (HasWhole
+        (IsAnswer (F.bytes_of files.old) (explain_asked (command_line words.now))) None
+        (O.contents out.old) (O.contents out.new)) }
+    ensures failed { IfErr result (λ fault. FailsBy (failure_of fault)
+        (IsAnswer (F.bytes_of files.old) (explain_asked (command_line words.now))) fault
+        (O.contents out.old) (O.contents out.new)) }
+    ensures nothing { explain_asked (command_line words.now) ≡ None
+        → (result ≡ Err Fault.Usage) ⊎ (result ≡ Err no_memory) }
+{
+    let words = command_words(alloc, "cheri_explain", words)?;
+    let request = explain_request(alloc, words.as_slice())?;
+    explain(alloc, request, files, out)
+}
+
+/// Reports a fault in one line, and gives its status, whether the line was taken or not.
+pub fn report_fault<E: Write>(err: &mut E, fault: Fault) -> u8
+    ensures status { result ≡ status_of fault }
+    ensures told { TakesBeginning (E.contents err.old) (E.contents err.new)
+        (line (fault_text fault)) }
+{
+    let _ = write_line(err, fault);
+    fault.status()
+}
+
+/// Does what the words of a command line ask for, which are those after the program's name, and
+/// gives the exit status: 0 where the whole explanation was printed, 1 where a text or a step was
+/// refused or a page has too many events, 2 where the command line was, and 3 for every other
+/// fault. With status 0 `out` got the whole answer and `err` nothing. With any other status `err`
+/// gets the one line of the fault; where a step was refused, after the explanation of the steps
+/// before it. A write to `err` that fails does not change the status.
+#[tactic(auto, using(crate::proofs::ProgramLemmas::fails_with))]
+pub fn perform<F: Files, O: Write, E: Write>(
+    alloc: Global,
+    words: &[String],
+    files: &mut F,
+    out: &mut O,
+    err: &mut E,
+) -> u8
+    ensures status { result ≤ 3 }
+    ensures printed { result ≡ 0 → HasWhole
+        (IsAnswer (F.bytes_of files.old) (explain_asked (command_line words.now))) None
+        (O.contents out.old) (O.contents out.new) }
+    ensures quiet { result ≡ 0 → E.contents err.new ≡ E.contents err.old }
+
+    // With any other status there is a fault that has this status, what it says is so, and `err`
+    // got its line, or a beginning of it where a write failed.
+    ensures failed { result ≢ 0 → FailsWith (F.bytes_of files.old)
+        (explain_asked (command_line words.now)) result (O.contents out.old) (O.contents out.new)
+        (E.contents err.old) (E.contents err.new) }
+    ensures nothing { explain_asked (command_line words.now) ≡ None
+        → (result ≡ 2) ⊎ (result ≡ 3) }
+{
+    match answer(alloc, words, files, out) {
+        Ok(()) => 0,
+        Err(fault) => report_fault(err, fault),
+    }
+}
+
+#[cfg(test)]
+mod tests;

@@ -1,0 +1,6 @@
+pub mod Open
+pub mod StateLemmas
+pub mod PageLemmas
+pub mod PlainTexts
+pub mod PlainNames
+pub mod PlainFacts

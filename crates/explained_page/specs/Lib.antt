@@ -1,0 +1,4 @@
+pub mod State
+pub mod ScriptText
+pub mod Page
+pub mod PagedRuns

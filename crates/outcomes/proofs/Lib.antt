@@ -1,0 +1,5 @@
+pub mod Open
+pub mod CountLemmas
+pub mod TableLemmas
+pub mod CodeLemmas
+pub mod OutcomeLemmas

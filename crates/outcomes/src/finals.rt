@@ -1,0 +1,60 @@
+//! States in which no hart runs.
+#![tactic(auto, using(crate::proofs::OutcomeLemmas::finals))]
+
+ghost use Rattle.std.specs.Prelude.{◌≡◌, ◌+◌, ◌<◌, not, IfOk, OnOk};
+ghost use Rattle.cheri_model.specs.runs.Machine.{is_running};
+ghost use Rattle.outcomes.specs.Outcomes.{is_final, AreOutcomes, AreOutcomesBelow};
+ghost use Rattle.states.specs.Kept.{at, count};
+
+use cheri_model::Status;
+use conditions::StateView;
+use shown_states::SeenState;
+use states::Kept;
+use std::alloc::{AllocError, Global};
+
+/// Whether a hart of this status does not run.
+fn is_stopped(status: Status) -> bool
+    ensures { result ≡ not (is_running status) }
+{
+    match status {
+        Status::Running => false,
+        Status::Halted | Status::Trapped(_) => true,
+    }
+}
+
+/// Whether no hart runs.
+fn is_final<V: StateView>(view: &V) -> bool
+    ensures { result ≡ is_final (V.state view.now) }
+{
+    for hart in 0..view.hart_count() {
+        if !is_stopped(view.status(hart)) {
+            return false;
+        }
+    }
+    true
+}
+
+/// Adds the next state to the outcomes of those before it, if no hart runs in it.
+fn judge(kept: &Kept, number: u32, numbers: &mut Vec<u32>) -> Result<(), AllocError>
+    requires there { number < count kept.now }
+    requires before { AreOutcomesBelow (at kept.now) number numbers.old.items }
+    ensures { OnOk result (AreOutcomesBelow (at kept.now) (number + 1) numbers.new.items) }
+{
+    let state = SeenState::new(kept.state(number));
+    if !is_final(&state) {
+        return Ok(());
+    }
+    numbers.push(number)?;
+    Ok(())
+}
+
+/// The numbers of the kept states in which no hart runs, ascending. Fails only when out of memory.
+pub fn outcomes_of(alloc: Global, kept: &Kept) -> Result<Vec<u32>, AllocError>
+    ensures { IfOk result (λ numbers. AreOutcomes kept.now numbers.items) }
+{
+    let mut numbers = Vec::new(alloc);
+    for number in 0..kept.len() {
+        judge(kept, number, &mut numbers)?;
+    }
+    Ok(numbers)
+}

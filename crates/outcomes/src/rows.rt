@@ -1,0 +1,112 @@
+//! The rows of values that outcomes show.
+
+ghost use Rattle.std.specs.Prelude.{◌≡◌, ℕ, ◌*◌, ◌<◌, ◌≤◌, Some, IfOk, OnOk, length, slice_get};
+ghost use Rattle.outcomes.specs.Items.{codes_of};
+ghost use Rattle.outcomes.specs.declared.rows.Row.{Row};
+ghost use Rattle.outcomes.specs.Rows.{AreRows, counted, values_at};
+ghost use Rattle.outcomes.specs.Outcomes.{AreOutcomes};
+ghost use Rattle.states.specs.Kept.{count};
+
+use crate::items::{ItemValue, values_of};
+use conditions::Shown;
+use interner::Interner;
+use states::Kept;
+use std::alloc::{AllocError, Global};
+
+/// A row of values that outcomes have: the first outcome that has it, and how many do.
+#[derive(Clone, Copy, Debug, PartialEq, Eq)]
+pub struct Row {
+    pub first: u32,
+    pub states: usize,
+}
+
+/// The numbers that stand for values.
+fn code_of(alloc: Global, values: &[ItemValue]) -> Result<Vec<u32>, AllocError>
+    ensures { IfOk result (λ code. code.items ≡ codes_of values.now) }
+{
+    let mut code = Vec::new(alloc);
+    for value in values {
+        value.push_code(&mut code)?;
+    }
+    Ok(code)
+}
+
+/// The numbers that stand for the values of a kept state.
+fn row_code(
+    alloc: Global,
+    kept: &Kept,
+    shown: &[Shown],
+    number: u32,
+) -> Result<Vec<u32>, AllocError>
+    requires { number < count kept.now }
+    ensures { IfOk result (λ code.
+        code.items ≡ codes_of (values_at kept.now shown.now number)) }
+{
+    let values = values_of(alloc, kept, shown, number)?;
+    code_of(alloc, values.as_slice())
+}
+
+/// How many numbers stand for the values of an outcome; 0 where there is none.
+#[tactic(auto, using(crate::proofs::CodeLemmas::row_size))]
+fn row_width(
+    alloc: Global,
+    kept: &Kept,
+    shown: &[Shown],
+    outcomes: &[u32],
+) -> Result<usize, AllocError>
+    requires { AreOutcomes kept.now outcomes.now }
+    ensures { IfOk result (λ width. 0 < length outcomes.now → width ≡ 5 * length shown.now) }
+{
+    match outcomes.first() {
+        Some(first) => {
+            let code = row_code(alloc, kept, shown, *first)?;
+            Ok(code.as_slice().len())
+        }
+        None => Ok(0),
+    }
+}
+
+/// Counts an outcome in the row of this number, or in a new one. Each row was counted for fewer than
+/// `most`, so that no count overflows.
+#[tactic(auto, using(crate::proofs::TableLemmas::counting))]
+fn count(rows: &mut Vec<Row>, number: u32, outcome: u32, most: usize) -> Result<(), AllocError>
+    requires within { number ≤ length rows.old.items }
+    requires room { (k : ℕ) (r : Row) → slice_get rows.old.items k ≡ Some r → r.states < most }
+    ensures { OnOk result (rows.new.items ≡ counted number outcome rows.old.items) }
+{
+    let number = number as usize;
+    if number < rows.len() {
+        rows[number].states += 1;
+        return Ok(());
+    }
+    rows.push(Row {
+        first: outcome,
+        states: 1,
+    })?;
+    Ok(())
+}
+
+/// The distinct rows of values that items hold in outcomes, in the order of the first outcomes that
+/// have them. Fails only when out of memory, or of numbers past 2^32.
+pub fn rows_of(
+    alloc: Global,
+    kept: &Kept,
+    shown: &[Shown],
+    outcomes: &[u32],
+) -> Result<Vec<Row>, AllocError>
+    requires outcomes { AreOutcomes kept.now outcomes.now }
+    ensures { IfOk result (λ rows.
+        AreRows (values_at kept.now shown.now) outcomes.now rows.items) }
+{
+    let width = row_width(alloc, kept, shown, outcomes)?;
+    let mut codes = Interner::new(alloc, width);
+    let mut rows = Vec::new(alloc);
+    for outcome in outcomes {
+        let code = row_code(alloc, kept, shown, *outcome)?;
+        let number = codes.insert(code.as_slice())?;
+        // Its clause says that no two rows are the same.
+        let _count = codes.len();
+        count(&mut rows, number, *outcome, outcomes.len())?;
+    }
+    Ok(rows)
+}
