@@ -47,8 +47,8 @@ static int is_refused(const char *call) {
     return 1;
 }
 
-// The programs end by this call, after they have given all back.
-void _exit(int status) {
+// Tells how many blocks were not freed.
+static void tell_left(void) {
     const char *left = getenv("LEFT");
     char text[32];
     if (left != NULL) {
@@ -57,6 +57,16 @@ void _exit(int status) {
         syscall(SYS_write, file, text, size);
         syscall(SYS_close, file);
     }
+}
+
+// A program that starts no threads returns from its main, after it has given all back.
+__attribute__((destructor)) static void end(void) {
+    tell_left();
+}
+
+// One that may start some ends by this call, after it has.
+void _exit(int status) {
+    tell_left();
     for (;;)
         syscall(SYS_exit_group, status);
 }
