@@ -1,11 +1,11 @@
 //! Each reason for a lost tag, with its numbers.
 
-use super::{BLOCK, cleared_by, operands};
+use super::{ALL, Given, K, cleared_by, operands};
+use bitflags::Flags;
 use cheri_model::permission::{EXECUTE, LOAD_CAP, SEAL, UNSEAL};
-use cheri_model::{Instr, OType};
+use cheri_model::{Instr, OType, Perms};
 use facts::{Cleared, Why};
 use origins::Spot;
-use samples::{ALL, Given, perms};
 use std::test::Fail;
 
 const S: Spot = Spot::Register(5);
@@ -15,7 +15,7 @@ const A: Spot = Spot::Register(6);
 /// A key for the object types from 0 to 15, at type 5.
 const KEY: Given = Given::Open(0, 16, 5, ALL);
 
-/// `BLOCK`, sealed with type 5.
+/// What K is, sealed with type 5.
 const SEALED: Given = Given::Sealed(0x8000_0000, 64, 0x8000_0010, ALL, 5);
 
 /// The key, sealed with type 9.
@@ -47,13 +47,8 @@ fn bounds_and_addresses(rt: HostRuntime) -> Result<(), Fail> {
     let (cd, c1, c2) = operands();
     let root = Given::Open(0, 1 << 64, 1, ALL);
     let rows = [
-        (Instr::CClearTag { cd, c1 }, BLOCK, BLOCK, Why::AskedFor),
-        (
-            Instr::CSetHigh { cd, c1, c2 },
-            BLOCK,
-            BLOCK,
-            Why::UpperReplaced,
-        ),
+        (Instr::CClearTag { cd, c1 }, K, K, Why::AskedFor),
+        (Instr::CSetHigh { cd, c1, c2 }, K, K, Why::UpperReplaced),
         (
             Instr::CSetAddr { cd, c1, c2 },
             SEALED,
@@ -65,7 +60,7 @@ fn bounds_and_addresses(rt: HostRuntime) -> Result<(), Fail> {
         ),
         (
             Instr::CSetAddr { cd, c1, c2 },
-            BLOCK,
+            K,
             Given::Int(0),
             Why::OutsideRegion {
                 address: 0,
@@ -75,7 +70,7 @@ fn bounds_and_addresses(rt: HostRuntime) -> Result<(), Fail> {
         ),
         (
             Instr::CIncOffset { cd, c1, c2 },
-            BLOCK,
+            K,
             Given::Int(0x4000),
             Why::OutsideRegion {
                 address: 0x8000_4010,
@@ -94,8 +89,8 @@ fn bounds_and_addresses(rt: HostRuntime) -> Result<(), Fail> {
         ),
         (
             Instr::CSetBoundsImm { cd, c1, len: 49 },
-            BLOCK,
-            BLOCK,
+            K,
+            K,
             Why::EndAbove {
                 end: 0x8000_0041,
                 limit: 0x8000_0040,
@@ -113,7 +108,7 @@ fn bounds_and_addresses(rt: HostRuntime) -> Result<(), Fail> {
         (
             Instr::CSealEntry { cd, c1 },
             Given::Open(0x8000_0000, 64, 0x8000_0010, 0),
-            BLOCK,
+            K,
             Why::Lacks {
                 name: S,
                 permission: EXECUTE,
@@ -121,7 +116,7 @@ fn bounds_and_addresses(rt: HostRuntime) -> Result<(), Fail> {
         ),
     ];
     for (instr, first, second, why) in rows {
-        let clears = cleared_by(rt.alloc(), instr, first, second)?;
+        let clears = cleared_by(&rt, rt.alloc(), instr, first, second)?;
         assert_eq!(rt;
             clears,
             Some(Cleared {
@@ -159,7 +154,7 @@ fn seals(rt: HostRuntime) -> Result<(), Fail> {
         ),
     ];
     for (second, why) in rows {
-        let clears = cleared_by(rt.alloc(), Instr::CSeal { cd, c1, c2 }, BLOCK, second)?;
+        let clears = cleared_by(&rt, rt.alloc(), Instr::CSeal { cd, c1, c2 }, K, second)?;
         assert_eq!(rt;
             clears,
             Some(Cleared {
@@ -175,7 +170,7 @@ fn seals(rt: HostRuntime) -> Result<(), Fail> {
 fn unseals(rt: HostRuntime) -> Result<(), Fail> {
     let (cd, c1, c2) = operands();
     let rows = [
-        (BLOCK, KEY, Why::NotSealed { name: S }),
+        (K, KEY, Why::NotSealed { name: S }),
         (
             Given::Sentry(0x8000_0000, 64, 0x8000_0010, ALL),
             KEY,
@@ -210,7 +205,13 @@ fn unseals(rt: HostRuntime) -> Result<(), Fail> {
         ),
     ];
     for (first, second, why) in rows {
-        let clears = cleared_by(rt.alloc(), Instr::CUnseal { cd, c1, c2 }, first, second)?;
+        let clears = cleared_by(
+            &rt,
+            rt.alloc(),
+            Instr::CUnseal { cd, c1, c2 },
+            first,
+            second,
+        )?;
         assert_eq!(rt;
             clears,
             Some(Cleared {
@@ -226,24 +227,24 @@ fn unseals(rt: HostRuntime) -> Result<(), Fail> {
 fn rebuilt(rt: HostRuntime) -> Result<(), Fail> {
     let (cd, c1, c2) = operands();
     let rows = [
-        (Given::Int(5), BLOCK, Why::Untagged { name: S }),
+        (Given::Int(5), K, Why::Untagged { name: S }),
         (
             SEALED,
-            BLOCK,
+            K,
             Why::Sealed {
                 name: S,
                 otype: OType::new(5),
             },
         ),
         (
-            BLOCK,
-            // The word of `BLOCK` with a reserved bit.
+            K,
+            // The word of K with a reserved bit.
             Given::Word(0xffff_4000_0411_8004, 0x8000_0010),
             Why::ReservedBits { name: A },
         ),
         (
             Given::Open(0x8000_0010, 16, 0x8000_0010, ALL),
-            BLOCK,
+            K,
             Why::BaseBelow {
                 base: 0x8000_0000,
                 limit: 0x8000_0010,
@@ -251,7 +252,7 @@ fn rebuilt(rt: HostRuntime) -> Result<(), Fail> {
         ),
         (
             Given::Open(0x8000_0000, 16, 0x8000_0000, ALL),
-            BLOCK,
+            K,
             Why::TopAbove {
                 top: 0x8000_0040,
                 limit: 0x8000_0010,
@@ -267,10 +268,10 @@ fn rebuilt(rt: HostRuntime) -> Result<(), Fail> {
         ),
         (
             Given::Open(0x8000_0000, 64, 0x8000_0010, 0x2),
-            BLOCK,
+            K,
             Why::MorePermissions {
                 name: A,
-                permissions: perms(0x7_8ffd),
+                permissions: Perms::from_bits_retain(0x7_8ffd),
                 source: S,
             },
         ),
@@ -286,7 +287,13 @@ fn rebuilt(rt: HostRuntime) -> Result<(), Fail> {
         ),
     ];
     for (first, second, why) in rows {
-        let clears = cleared_by(rt.alloc(), Instr::CBuildCap { cd, c1, c2 }, first, second)?;
+        let clears = cleared_by(
+            &rt,
+            rt.alloc(),
+            Instr::CBuildCap { cd, c1, c2 },
+            first,
+            second,
+        )?;
         assert_eq!(rt;
             clears,
             Some(Cleared {
@@ -327,7 +334,7 @@ fn memory(rt: HostRuntime) -> Result<(), Fail> {
         ),
     ];
     for (instr, first, name, why) in rows {
-        let clears = cleared_by(rt.alloc(), instr, first, Given::Int(7))?;
+        let clears = cleared_by(&rt, rt.alloc(), instr, first, Given::Int(7))?;
         assert_eq!(rt; clears, Some(Cleared { name, why }));
     }
     Ok(())

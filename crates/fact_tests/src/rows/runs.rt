@@ -1,13 +1,13 @@
 //! What is read, found, left and set, and where it is from.
 
-use super::{BLOCK, facts_at, facts_of, image_of, operands};
+use super::{ALL, Given, K, facts_at, facts_of, image_of, operands, value};
 use cheri_model::{CODE_BASE, Instr, Op, Trap};
 use cores::StepFault;
 use facts::{Extent, Fetched, NamedValue, TrapWhy, Trapped, UpToTwo};
 use following::Follower;
 use origins::{Place, Spot};
-use samples::{ALL, Given};
 use std::alloc::Global;
+use std::process::Abort;
 use std::test::Fail;
 
 /// The bytes of an access, and the granule before and after it.
@@ -26,22 +26,22 @@ const THROUGH: Given = Given::Open(0x8000_0000, 64, 0x8000_0000, ALL);
 const STORED: Given = Given::Open(0x8000_0020, 16, 0x8000_0020, ALL);
 
 /// What a swap of `STORED` through `THROUGH` accesses.
-fn accessed_by_swap(alloc: Global) -> Result<Accessed, Fail> {
+fn accessed_by_swap(rt: &impl Abort, alloc: Global) -> Result<Accessed, Fail> {
     let (cd, c1, c2) = operands();
-    let facts = facts_of(alloc, Instr::AmoSwapC { cd, c2, c1 }, THROUGH, STORED)?;
+    let facts = facts_of(rt, alloc, Instr::AmoSwapC { cd, c2, c1 }, THROUGH, STORED)?;
     Ok((facts.at, facts.finds, facts.leaves))
 }
 
 /// What that swap moves.
-fn moved_by_swap(alloc: Global) -> Result<Moved, Fail> {
+fn moved_by_swap(rt: &impl Abort, alloc: Global) -> Result<Moved, Fail> {
     let (cd, c1, c2) = operands();
-    let facts = facts_of(alloc, Instr::AmoSwapC { cd, c2, c1 }, THROUGH, STORED)?;
+    let facts = facts_of(rt, alloc, Instr::AmoSwapC { cd, c2, c1 }, THROUGH, STORED)?;
     Ok((facts.reads, facts.sets))
 }
 
 /// What is fetched and read, and the trap, where PCC is past the end of the program.
-fn past_the_end(alloc: Global, instr: Instr) -> Result<Next, Fail> {
-    let facts = facts_at(alloc, 0x1000_0004, instr, BLOCK, BLOCK)?;
+fn past_the_end(rt: &impl Abort, alloc: Global, instr: Instr) -> Result<Next, Fail> {
+    let facts = facts_at(rt, alloc, 0x1000_0004, instr, K, K)?;
     Ok((facts.fetched, facts.reads, facts.traps))
 }
 
@@ -53,7 +53,7 @@ fn register(number: u8) -> Place {
 #[test]
 fn swaps_store_with_the_origin(rt: HostRuntime) -> Result<(), Fail> {
     let name = Spot::Granule(0);
-    let (at, finds, leaves) = accessed_by_swap(rt.alloc())?;
+    let (at, finds, leaves) = accessed_by_swap(&rt, rt.alloc())?;
     assert_eq!(rt;
         at,
         Some(Extent {
@@ -63,13 +63,13 @@ fn swaps_store_with_the_origin(rt: HostRuntime) -> Result<(), Fail> {
     );
     let before = NamedValue {
         name,
-        value: BLOCK.cap()?,
+        value: value(&rt, K),
         origin: Some(Place::GranuleOf(0)),
     };
     assert_eq!(rt; finds, Some(before));
     let after = NamedValue {
         name,
-        value: STORED.cap()?,
+        value: value(&rt, STORED),
         origin: Some(register(6)),
     };
     assert_eq!(rt; leaves, Some(after));
@@ -78,21 +78,21 @@ fn swaps_store_with_the_origin(rt: HostRuntime) -> Result<(), Fail> {
 
 #[test]
 fn swaps_load_with_the_origin(rt: HostRuntime) -> Result<(), Fail> {
-    let (reads, sets) = moved_by_swap(rt.alloc())?;
+    let (reads, sets) = moved_by_swap(&rt, rt.alloc())?;
     let stored = NamedValue {
         name: Spot::Register(6),
-        value: STORED.cap()?,
+        value: value(&rt, STORED),
         origin: Some(register(6)),
     };
     let through = NamedValue {
         name: Spot::Register(5),
-        value: THROUGH.cap()?,
+        value: value(&rt, THROUGH),
         origin: Some(register(5)),
     };
     assert_eq!(rt; reads, UpToTwo::Two(stored, through));
     let loaded = NamedValue {
         name: Spot::Register(7),
-        value: BLOCK.cap()?,
+        value: value(&rt, K),
         origin: Some(Place::GranuleOf(0)),
     };
     assert_eq!(rt; sets, UpToTwo::One(loaded));
@@ -102,7 +102,7 @@ fn swaps_load_with_the_origin(rt: HostRuntime) -> Result<(), Fail> {
 #[test]
 fn no_instruction_is_past_the_end(rt: HostRuntime) -> Result<(), Fail> {
     let (cd, c1, _) = operands();
-    let (fetched, reads, traps) = past_the_end(rt.alloc(), Instr::CMove { cd, c1 })?;
+    let (fetched, reads, traps) = past_the_end(&rt, rt.alloc(), Instr::CMove { cd, c1 })?;
     let trap = Trap {
         cause: Trap::FETCH,
         reg: Trap::PCC,
@@ -120,7 +120,7 @@ fn no_instruction_is_past_the_end(rt: HostRuntime) -> Result<(), Fail> {
 fn sweeps_name_places_in_order(rt: HostRuntime) -> Result<(), Fail> {
     let (cd, c1, _) = operands();
     let above = Given::Open(0x8000_0010, 16, 0x8000_0010, ALL);
-    let (first, second) = (BLOCK.cap()?, above.cap()?);
+    let (first, second) = (value(&rt, K), value(&rt, above));
     let image = image_of(
         rt.alloc(),
         CODE_BASE,

@@ -1,11 +1,10 @@
 //! Each reason for a trap, with its numbers.
 
-use super::{BLOCK, operands, trapped_by};
+use super::{ALL, Given, K, operands, trapped_by};
 use cheri_model::permission::{CINVOKE, EXECUTE, LOAD, STORE};
 use cheri_model::{Instr, OType, Trap};
 use facts::{TrapWhy, Trapped};
 use origins::Spot;
-use samples::{ALL, Given};
 use std::test::Fail;
 
 const R: Spot = Spot::Register(5);
@@ -31,7 +30,7 @@ fn memory(perms: u32) -> Given {
     Given::Open(0x8000_0000, 64, 0x8000_0000, perms)
 }
 
-/// `BLOCK`, sealed with type 5.
+/// What K is, sealed with type 5.
 const SEALED: Given = Given::Sealed(0x8000_0000, 64, 0x8000_0010, ALL, 5);
 
 #[test]
@@ -58,12 +57,12 @@ fn loads(rt: HostRuntime) -> Result<(), Fail> {
         (0, Given::Int(0), trap(1, 5, TrapWhy::Untagged { name: R })),
         (0, SEALED, trap(2, 5, TrapWhy::Sealed { name: R, otype })),
         (0, memory(0x8), trap(4, 5, lacks(LOAD))),
-        (44, BLOCK, trap(8, 5, outside)),
-        (1, BLOCK, trap(9, 5, misaligned)),
+        (44, K, trap(8, 5, outside)),
+        (1, K, trap(9, 5, misaligned)),
         (0, far, trap(10, 5, not_in_ram)),
     ];
     for (imm, first, trapped) in rows {
-        let traps = trapped_by(rt.alloc(), Instr::Ld { cd, c1, imm }, first, BLOCK)?;
+        let traps = trapped_by(&rt, rt.alloc(), Instr::Ld { cd, c1, imm }, first, K)?;
         assert_eq!(rt; traps, Some(trapped));
     }
     Ok(())
@@ -78,13 +77,13 @@ fn stores(rt: HostRuntime) -> Result<(), Fail> {
         (
             Instr::Sd { c2, c1, imm: 0 },
             memory(0x4),
-            BLOCK,
+            K,
             trap(5, 5, lacks(STORE)),
         ),
         (
             Instr::Sc { c2, c1, imm: 0 },
             memory(0xc),
-            BLOCK,
+            K,
             trap(6, 5, stored),
         ),
         (
@@ -95,7 +94,7 @@ fn stores(rt: HostRuntime) -> Result<(), Fail> {
         ),
     ];
     for (instr, first, second, trapped) in rows {
-        let traps = trapped_by(rt.alloc(), instr, first, second)?;
+        let traps = trapped_by(&rt, rt.alloc(), instr, first, second)?;
         assert_eq!(rt; traps, Some(trapped));
     }
     Ok(())
@@ -105,7 +104,7 @@ fn stores(rt: HostRuntime) -> Result<(), Fail> {
 fn jumps(rt: HostRuntime) -> Result<(), Fail> {
     let (cd, c1, _) = operands();
     let jump = Instr::CJalr { cd, c1, imm: 0 };
-    let traps = trapped_by(rt.alloc(), jump, memory(0), BLOCK)?;
+    let traps = trapped_by(&rt, rt.alloc(), jump, memory(0), K)?;
     assert_eq!(rt; traps, Some(trap(3, 5, lacks(EXECUTE))));
     Ok(())
 }
@@ -128,11 +127,7 @@ fn invokes(rt: HostRuntime) -> Result<(), Fail> {
         data: OType::new(6),
     };
     let rows = [
-        (
-            BLOCK,
-            data(5),
-            trap(2, 5, TrapWhy::NotInvocable { name: R }),
-        ),
+        (K, data(5), trap(2, 5, TrapWhy::NotInvocable { name: R })),
         (code(0x102), data(6), trap(12, 5, differ)),
         (code(0x2), data(5), trap(13, 5, lacks(CINVOKE))),
         (
@@ -142,7 +137,7 @@ fn invokes(rt: HostRuntime) -> Result<(), Fail> {
         ),
     ];
     for (first, second, trapped) in rows {
-        let traps = trapped_by(rt.alloc(), Instr::CInvoke { c1, c2 }, first, second)?;
+        let traps = trapped_by(&rt, rt.alloc(), Instr::CInvoke { c1, c2 }, first, second)?;
         assert_eq!(rt; traps, Some(trapped));
     }
     Ok(())
