@@ -20,4 +20,4 @@ pub use followed::follow;
 pub use names::OriginName;
 pub use runs::{Format, explain};
 pub use selection::{Filter, Selection};
-pub use whole_json::write_json;
+pub use whole_json::{put_events, write_json};

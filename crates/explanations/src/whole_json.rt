@@ -174,7 +174,7 @@ fn write_next(
 
 /// Writes the events of a core's trace that are shown, taking them once more, and the bracket after
 /// them.
-fn put_events<S: Sink>(
+pub fn put_events<S: Sink>(
     alloc: Global,
     out: &mut String,
     sink: &mut S,
