@@ -21,15 +21,15 @@ use Rattle.cheri_caps.specs.declared.structs.CheriMade.{CheriMade}
 
 -- The value that a struct means: the tagged capability where the tag is set and the word is that of
 -- a lawful capability, else the untagged word.
-unfoldable pub value_of : CheriCap → CapValue
+abbrev pub value_of : CheriCap → CapValue
 value_of c = value_from c.tag (word_of_halves c.upper c.addr)
 
 -- the struct that is a value
-unfoldable pub struct_of : CapValue → CheriCap
+abbrev pub struct_of : CapValue → CheriCap
 struct_of v = record { addr = bits_of v % 2 ^ 64; upper = bits_of v / 2 ^ 64; tag = tag_of v }
 
 -- bounds, the top in two halves
-unfoldable pub bounds_with : ℕ → ℕ → CheriBounds
+abbrev pub bounds_with : ℕ → ℕ → CheriBounds
 bounds_with base top = record { base = base; top = top % 2 ^ 64; top_high = top / 2 ^ 64 }
 
 -- the bounds that a word is read with, whether or not a capability has it
@@ -37,7 +37,7 @@ abbrev pub read_bounds : CheriWord → CheriBounds
 read_bounds word = bounds_with (raw_base word.upper word.addr) (raw_top word.upper word.addr)
 
 -- the rounding of a range
-unfoldable pub rounding : ℕ → ℕ → CheriRounded
+abbrev pub rounding : ℕ → ℕ → CheriRounded
 rounding base len =
     let ie = internal_exponent len in
     let e = rounding_exponent base len in
@@ -56,7 +56,7 @@ abbrev pub rounded_range : CheriRange → CheriRounded
 rounded_range range = rounding range.base range.len
 
 -- what instructions read off a value
-unfoldable pub parts_with : CapValue → CheriParts
+abbrev pub parts_with : CapValue → CheriParts
 parts_with v =
     record {
       base = base_of v;
@@ -72,15 +72,15 @@ parts_with v =
     }
 
 -- null, and why no capability was made
-unfoldable pub refused : ℕ → CheriMade
+abbrev pub refused : ℕ → CheriMade
 refused status = record { cap = struct_of (raw 0); status = status }
 
-unfoldable pub made_struct : Result CapValue MakeFault → CheriMade
+abbrev pub made_struct : Result CapValue MakeFault → CheriMade
 made_struct (Ok v) = record { cap = struct_of v; status = 0 }
 made_struct (Err fault) = refused (make_fault_number fault)
 
 -- the answer to the parts of a capability: status 4 for a type that none has, else the first
 -- refusal that holds
-unfoldable pub make_answer : ℕ → ℕ → ℕ → ℕ → ℕ → CheriMade
+abbrev pub make_answer : ℕ → ℕ → ℕ → ℕ → ℕ → CheriMade
 make_answer base len addr perms otype =
     if is_lawful_type otype then made_struct (made base len addr perms otype) else refused 4

@@ -17,7 +17,6 @@ const RESERVED_TYPE: u8 = 4;
 /// permissions and type, and flag 0; bits that no permission has are dropped. Otherwise null and
 /// the first status that applies: 4, the type is reserved or none of 18 bits; 1, the end is past
 /// the address space; 2, the bounds would be rounded; 3, the bounds cannot have this address.
-#[tactic(auto, unfolding(crate::specs::Structs::make_answer))]
 #[unsafe(no_mangle)]
 pub extern "C" fn cheri_caps_make(
     base: u64,
@@ -50,7 +49,6 @@ fn is_lawful_type(otype: u32) -> bool
 }
 
 /// Null and why there is no capability.
-#[tactic(auto, unfolding(crate::specs::Structs::refused))]
 fn refused(status: u8) -> CheriMade
     ensures { result ≡ refused status }
 {
@@ -61,7 +59,6 @@ fn refused(status: u8) -> CheriMade
 }
 
 /// What was made, or why not.
-#[tactic(auto, unfolding(crate::specs::Structs::made_struct))]
 fn made_struct(made: Result<Cap, MakeFault>) -> CheriMade
     ensures { result ≡ made_struct made }
 {

@@ -11,7 +11,6 @@ use cap_bounds::{cram, crrl, set_bounds};
 /// The least bounds that hold the range of `len` addresses from `base` on, the fields that encode
 /// them, and whether they are the range. The top has up to 66 bits where the range ends past the
 /// address space.
-#[tactic(auto, unfolding(crate::specs::Structs::rounding))]
 #[unsafe(no_mangle)]
 pub extern "C" fn cheri_caps_round(base: u64, len: u64) -> CheriRounded
     ensures { result ≡ rounding base len }

@@ -11,7 +11,6 @@ use cap_model::Perms;
 use cap_ops::Cap;
 
 /// The value that a struct means. A tag on a word that no capability has counts as none.
-#[tactic(auto, unfolding(crate::specs::Structs::value_of))]
 pub(crate) fn value_of(cap: CheriCap) -> Cap
     ensures { result ≡ value_of cap }
 {
@@ -19,7 +18,6 @@ pub(crate) fn value_of(cap: CheriCap) -> Cap
 }
 
 /// The struct that is a value.
-#[tactic(auto, unfolding(crate::specs::Structs::struct_of))]
 pub(crate) fn struct_of(value: Cap) -> CheriCap
     ensures { result ≡ struct_of value }
 {
@@ -66,7 +64,6 @@ pub extern "C" fn cheri_caps_root(perms: u32) -> CheriCap
 /// What instructions read off a value: its bounds (CGetBase, and the top), length (CGetLen), offset
 /// (CGetOffset), type (CGetType), permissions (CGetPerm) and flag (CGetFlags), whether it is sealed
 /// (CGetSealed), and whether its tag counts (CGetTag).
-#[tactic(auto, unfolding(crate::specs::Structs::parts_with))]
 #[unsafe(no_mangle)]
 pub extern "C" fn cheri_caps_read(cap: CheriCap) -> CheriParts
     ensures { result ≡ parts_with (value_of cap) }

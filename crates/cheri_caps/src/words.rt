@@ -21,7 +21,6 @@ use cap_ops::Cap;
 
 /// The bounds that the word is read with. The top, below 2^65, may lie below the base where no
 /// instruction makes the word.
-#[tactic(auto, unfolding(crate::specs::Structs::bounds_with))]
 #[unsafe(no_mangle)]
 pub extern "C" fn cheri_caps_bounds(upper: u64, addr: u64) -> CheriBounds
     ensures { result ≡ bounds_with (raw_base upper addr) (raw_top upper addr) }

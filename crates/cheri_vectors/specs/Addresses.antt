@@ -11,7 +11,7 @@ abbrev pub keeps_bounds : ℕ → ℕ → ℕ → Bool
 keeps_bounds upper addr new =
     (raw_base upper new == raw_base upper addr) && (raw_top upper new == raw_top upper addr)
 
-unfoldable pub kept_row : ℕ → ℕ → ℕ → List ℕ
+abbrev pub kept_row : ℕ → ℕ → ℕ → List ℕ
 kept_row upper addr new =
     codes "address " +++ hex upper +++ codes " " +++ hex addr +++ codes " " +++ hex new
     +++ codes " "
@@ -24,18 +24,18 @@ abbrev pub b_at : ℕ → ℕ
 b_at n = slice_index B_DIGITS (n / 6 % 4)
 
 -- bounds that are 2^12 steps of 2^E long, at their base
-unfoldable pub window_upper : ℕ → ℕ
+abbrev pub window_upper : ℕ → ℕ
 window_upper n = upper_with 1 (b_at n % 2 ^ 12 + exponent_at n / 8) (b_at n + exponent_at n % 8)
 
-unfoldable pub window_addr : ℕ → ℕ
+abbrev pub window_addr : ℕ → ℕ
 window_addr n = b_at n * 2 ^ exponent_at n % 2 ^ 64
 
 -- the window's first address: the base rounded down to 2^(E+11), less one such step
-unfoldable pub window_start : ℕ → ℕ
+abbrev pub window_start : ℕ → ℕ
 window_start n =
     (b_at n / 2 ^ 11 * 2 ^ 11 * 2 ^ exponent_at n + 2 ^ 64 - 2 ^ (exponent_at n + 11)) % 2 ^ 64
 
-unfoldable pub new_addr : ℕ → ℕ
+abbrev pub new_addr : ℕ → ℕ
 new_addr n =
     let e = exponent_at n in
     if n % 6 == 0 then window_start n else if n % 6 == 1 then (window_start n + 2 ^ 64 - 1) % 2 ^ 64
@@ -43,5 +43,5 @@ new_addr n =
     else if n % 6 == 3 then (window_start n + 2 ^ (e + 14) + 2 ^ 64 - 1) % 2 ^ 64
     else if n % 6 == 4 then window_addr n else (window_addr n + 2 ^ (e + 12)) % 2 ^ 64
 
-unfoldable pub address_row : ℕ → List ℕ
+abbrev pub address_row : ℕ → List ℕ
 address_row n = kept_row (window_upper n) (window_addr n) (new_addr n)

@@ -15,7 +15,7 @@ rounded_text base len =
     +++ hex (rounded_base base len) +++ codes " " +++ hex (rounded_top base len)
 
 -- the rounding's fields, and the length and the alignment for exact bounds
-unfoldable pub encoding_text : ℕ → ℕ → List ℕ
+abbrev pub encoding_text : ℕ → ℕ → List ℕ
 encoding_text base len =
     let ie = internal_exponent len in
     let e = rounding_exponent base len in
@@ -32,7 +32,7 @@ range_row base len = rounded_text base len +++ encoding_text base len
 abbrev pub power_len : ℕ → ℕ
 power_len n = (2 ^ (n / 18) + 2 ^ 64 + n % 18 - 9) % 2 ^ 64
 
-unfoldable pub power_row : ℕ → List ℕ
+abbrev pub power_row : ℕ → List ℕ
 power_row n = range_row 0 (power_len n)
 
 -- at each power of 2 four bases, and three lengths at and above the greatest one of an exponent
@@ -47,5 +47,5 @@ corner_len n =
     else if n % 3 == 1 then (8191 * 2 ^ (n / 12) + 1) % 2 ^ 64
     else 4097 * 2 ^ (n / 12) % 2 ^ 64
 
-unfoldable pub corner_range_row : ℕ → List ℕ
+abbrev pub corner_range_row : ℕ → List ℕ
 corner_range_row n = range_row (corner_base n) (corner_len n)

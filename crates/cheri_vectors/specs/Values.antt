@@ -15,7 +15,7 @@ use Rattle.cheri_vectors.specs.declared.values.TheConstants.{OPERATIONS, FIRST, 
 use Rattle.cheri_vectors.specs.Texts.{hex, bit_of, ◌+++◌}
 
 -- the value that a tag and a word mean
-unfoldable pub value_of : Given → CapValue
+abbrev pub value_of : Given → CapValue
 value_of given = value_from given.tag (word_of_halves given.upper given.addr)
 
 abbrev pub name_of : Operation → List ℕ
@@ -53,17 +53,17 @@ result_of TestSubset v w = raw (bit_of (is_subset v w))
 result_of EqualExact v w = raw (bit_of (is_equal_exact v w))
 
 -- a tag and a word
-unfoldable pub given_text : Given → List ℕ
+abbrev pub given_text : Given → List ℕ
 given_text given =
     codes " " +++ hex (bit_of given.tag) +++ codes " " +++ hex given.upper
     +++ codes " " +++ hex given.addr
 
-unfoldable pub result_text : CapValue → List ℕ
+abbrev pub result_text : CapValue → List ℕ
 result_text v =
     codes " " +++ hex (bit_of (tag_of v)) +++ codes " " +++ hex (bits_of v / 2 ^ 64) +++ codes " "
     +++ hex (bits_of v % 2 ^ 64) +++ codes "\n"
 
-unfoldable pub operation_row : Operation → Given → Given → List ℕ
+abbrev pub operation_row : Operation → Given → Given → List ℕ
 operation_row operation first second =
     codes "value " +++ name_of operation +++ given_text first +++ given_text second
     +++ result_text (result_of operation (value_of first) (value_of second))
@@ -71,7 +71,7 @@ operation_row operation first second =
 abbrev pub nothing_given : Given
 nothing_given = record { tag = false; upper = 0; addr = 0 }
 
-unfoldable pub value_row : ℕ → List ℕ
+abbrev pub value_row : ℕ → List ℕ
 value_row n =
     operation_row (get_or OPERATIONS (n / 144) ClearTag) (get_or FIRST (n / 12 % 12) nothing_given)
     (get_or SECOND (n % 12) nothing_given)

@@ -15,7 +15,7 @@ bounds_text upper addr =
     codes "word " +++ hex upper +++ codes " " +++ hex addr +++ codes " "
     +++ hex (raw_base upper addr) +++ codes " " +++ hex (raw_top upper addr)
 
-unfoldable pub fields_text : ℕ → ℕ → List ℕ
+abbrev pub fields_text : ℕ → ℕ → List ℕ
 fields_text upper addr =
     codes " " +++ hex (word_perms upper) +++ codes " " +++ hex (word_otype upper)
     +++ codes " " +++ hex (word_flag upper)
@@ -30,7 +30,7 @@ word_row upper addr = bounds_text upper addr +++ fields_text upper addr
 abbrev pub bit_word : ℕ → ℕ
 bit_word n = if n == 0 then 0 else 2 ^ (n - 1)
 
-unfoldable pub bit_row : ℕ → List ℕ
+abbrev pub bit_row : ℕ → List ℕ
 bit_row n = word_row (bit_word n / 2 ^ 64) (bit_word n % 2 ^ 64)
 
 -- Words with every exponent, then two without one. Each has all B with all T, and each of these
@@ -50,7 +50,7 @@ upper_with ie t b = with_null_fields (unsealed_type * 2 ^ 27 + ie * 2 ^ 26 + t *
 
 -- with the internal exponent bit the low three bits of T and of B are the exponent's; without it
 -- they are all 0 or all 1
-unfoldable pub corner_upper : ℕ → ℕ
+abbrev pub corner_upper : ℕ → ℕ
 corner_upper n =
     if nat_lt (exponent_at n) 64
     then upper_with 1 (t_at n + exponent_at n / 8) (b_at n + exponent_at n % 8)
@@ -64,5 +64,5 @@ corner_addr n =
     if n % 5 == 0 then 0 else if n % 5 == 1 then 2 ^ 64 - 1 else if n % 5 == 2 then base
     else if n % 5 == 3 then (base + 2 ^ 64 - 1) % 2 ^ 64 else region_floor (b_at n) * 2 ^ e % 2 ^ 64
 
-unfoldable pub corner_row : ℕ → List ℕ
+abbrev pub corner_row : ℕ → List ℕ
 corner_row n = word_row (corner_upper n) (corner_addr n)

@@ -29,7 +29,6 @@ fn keeps_bounds(upper: u64, addr: u64, new: u64) -> bool
 }
 
 /// Appends the row of a word and another address.
-#[tactic(auto, unfolding(crate::specs::Addresses::kept_row))]
 fn push_kept(out: &mut String, upper: u64, addr: u64, new: u64) -> Result<(), AllocError>
     ensures { OnOk result (string_bytes out.new ≡ string_bytes out.old ++ kept_row upper addr new) }
 {
@@ -39,7 +38,6 @@ fn push_kept(out: &mut String, upper: u64, addr: u64, new: u64) -> Result<(), Al
 }
 
 /// The upper half of a word with bounds that are 2^12 steps of 2^E long.
-#[tactic(auto, unfolding(crate::specs::Addresses::window_upper))]
 fn window_upper(n: usize) -> u64
     requires { n < ADDRESS_ROWS }
     ensures { result ≡ window_upper n }
@@ -50,7 +48,6 @@ fn window_upper(n: usize) -> u64
 }
 
 /// The base of these bounds.
-#[tactic(auto, unfolding(crate::specs::Addresses::window_addr))]
 fn window_addr(n: usize) -> u64
     requires { n < ADDRESS_ROWS }
     ensures { result ≡ window_addr n }
@@ -61,7 +58,6 @@ fn window_addr(n: usize) -> u64
 }
 
 /// The first address of their window.
-#[tactic(auto, unfolding(crate::specs::Addresses::window_start))]
 fn window_start(n: usize) -> u64
     requires { n < ADDRESS_ROWS }
     ensures { result ≡ window_start n }
@@ -83,7 +79,6 @@ fn power_of_two(e: u32) -> u128
 }
 
 /// An address at an end of the window or of the bounds.
-#[tactic(auto, unfolding(crate::specs::Addresses::new_addr))]
 fn new_addr(n: usize) -> u64
     requires { n < ADDRESS_ROWS }
     ensures { result ≡ new_addr n }
@@ -107,7 +102,6 @@ fn new_addr(n: usize) -> u64
 }
 
 /// Appends the row of an address at an end of the window or of the bounds.
-#[tactic(auto, unfolding(crate::specs::Addresses::address_row))]
 pub fn push_address_row(out: &mut String, n: usize) -> Result<(), AllocError>
     requires { n < ADDRESS_ROWS }
     ensures { OnOk result (string_bytes out.new ≡ string_bytes out.old ++ address_row n) }

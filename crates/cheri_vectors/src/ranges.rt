@@ -38,7 +38,6 @@ fn push_rounded(out: &mut String, base: u64, len: u64) -> Result<(), AllocError>
 }
 
 /// Appends the fields of the rounding, and the length and the alignment for exact bounds.
-#[tactic(auto, unfolding(crate::specs::Ranges::encoding_text))]
 fn push_encoding(out: &mut String, base: u64, len: u64) -> Result<(), AllocError>
     ensures { OnOk result (string_bytes out.new ≡ string_bytes out.old ++ encoding_text base len) }
 {
@@ -72,7 +71,6 @@ fn power_len(n: usize) -> u64
 }
 
 /// Appends the row of a length at a power of 2.
-#[tactic(auto, unfolding(crate::specs::Ranges::power_row))]
 pub fn push_power_row(out: &mut String, n: usize) -> Result<(), AllocError>
     requires { n < POWER_ROWS }
     ensures { OnOk result (string_bytes out.new ≡ string_bytes out.old ++ power_row n) }
@@ -114,7 +112,6 @@ fn corner_len(n: usize) -> u64
 }
 
 /// Appends the row of a range at the ends of an exponent.
-#[tactic(auto, unfolding(crate::specs::Ranges::corner_range_row))]
 pub fn push_corner_range_row(out: &mut String, n: usize) -> Result<(), AllocError>
     requires { n < CORNER_RANGE_ROWS }
     ensures { OnOk result (string_bytes out.new ≡ string_bytes out.old ++ corner_range_row n) }

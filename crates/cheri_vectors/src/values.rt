@@ -238,7 +238,6 @@ impl fmt::Display for Operation {
 }
 
 /// The value that a tag and a word mean.
-#[tactic(auto, unfolding(crate::specs::Values::value_of))]
 fn value_of(given: Given) -> Cap
     ensures { result ≡ value_of given }
 {
@@ -268,7 +267,6 @@ fn result_of(operation: Operation, first: Cap, second: Cap) -> Cap
 }
 
 /// Appends a tag and a word.
-#[tactic(auto, unfolding(crate::specs::Values::given_text))]
 fn push_given(out: &mut String, given: Given) -> Result<(), AllocError>
     ensures { OnOk result (string_bytes out.new ≡ string_bytes out.old ++ given_text given) }
 {
@@ -279,7 +277,6 @@ fn push_given(out: &mut String, given: Given) -> Result<(), AllocError>
 }
 
 /// Appends a value, up to the end of the line.
-#[tactic(auto, unfolding(crate::specs::Values::result_text))]
 fn push_result(out: &mut String, value: Cap) -> Result<(), AllocError>
     ensures { OnOk result (string_bytes out.new ≡ string_bytes out.old ++ result_text value) }
 {
@@ -290,7 +287,6 @@ fn push_result(out: &mut String, value: Cap) -> Result<(), AllocError>
 }
 
 /// Appends the row of an operation.
-#[tactic(auto, unfolding(crate::specs::Values::operation_row))]
 fn push_operation(
     out: &mut String,
     operation: Operation,
@@ -307,7 +303,6 @@ fn push_operation(
 }
 
 /// Appends the row of an operation on a first and a second value.
-#[tactic(auto, unfolding(crate::specs::Values::value_row))]
 pub fn push_value_row(out: &mut String, n: usize) -> Result<(), AllocError>
     requires { n < VALUE_ROWS }
     ensures { OnOk result (string_bytes out.new ≡ string_bytes out.old ++ value_row n) }

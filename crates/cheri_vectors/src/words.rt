@@ -71,7 +71,6 @@ fn is_capability(upper: u64, addr: u64) -> bool
 }
 
 /// Appends a word's fields, and whether a capability has it.
-#[tactic(auto, unfolding(crate::specs::Words::fields_text))]
 fn push_fields(out: &mut String, upper: u64, addr: u64) -> Result<(), AllocError>
     ensures { OnOk result (string_bytes out.new ≡ string_bytes out.old ++ fields_text upper addr) }
 {
@@ -104,7 +103,6 @@ fn bit_word(n: usize) -> u128
 }
 
 /// Appends the row of null or of the word with one bit.
-#[tactic(auto, unfolding(crate::specs::Words::bit_row))]
 pub fn push_bit_row(out: &mut String, n: usize) -> Result<(), AllocError>
     requires { n < BIT_ROWS }
     ensures { OnOk result (string_bytes out.new ≡ string_bytes out.old ++ bit_row n) }
@@ -114,7 +112,6 @@ pub fn push_bit_row(out: &mut String, n: usize) -> Result<(), AllocError>
 }
 
 /// The upper half of a word with bounds at the quarters.
-#[tactic(auto, unfolding(crate::specs::Words::corner_upper))]
 fn corner_upper(n: usize) -> u64
     requires { n < CORNER_ROWS }
     ensures { result ≡ corner_upper n }
@@ -155,7 +152,6 @@ fn corner_addr(n: usize) -> u64
 }
 
 /// Appends the row of a word with bounds at the quarters.
-#[tactic(auto, unfolding(crate::specs::Words::corner_row))]
 pub fn push_corner_row(out: &mut String, n: usize) -> Result<(), AllocError>
     requires { n < CORNER_ROWS }
     ensures { OnOk result (string_bytes out.new ≡ string_bytes out.old ++ corner_row n) }

@@ -195,7 +195,7 @@ lacks_plain name permission =
     between (spot_name name) (codes " has no ") (permission_names (permission_set permission)) (spot_plain name) refl (perms_plain (permission_set permission))
 
 why_clean : (w : Why) → Clean (why_text w)
-unfolding why_text outside_region type_outside
+unfolding why_text
 why_clean why.AskedFor = says refl
 why_clean why.UpperReplaced = says refl
 why_clean (why.Sealed name otype) = says (sealed_plain name otype)
@@ -237,7 +237,7 @@ pub why_plain : (w : Why) → Plain (why_text w)
 why_plain w = (why_clean w).none
 
 trap_why_clean : (w : TrapWhy) → Clean (trap_why_text w)
-unfolding trap_why_text outside
+unfolding trap_why_text
 trap_why_clean (trap_why.Untagged name) = says (untagged_plain name)
 trap_why_clean (trap_why.Sealed name otype) = says (sealed_plain name otype)
 trap_why_clean (trap_why.NotInvocable name) = join (spot_name name) (codes " is not sealed with a type") (says (spot_plain name)) (says refl)

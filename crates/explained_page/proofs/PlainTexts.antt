@@ -155,7 +155,6 @@ each_plain data_of each (x ∷ rest) = both (marked (data_of x)) (items_marked (
 -- ---- a text as a JSON text
 
 script_byte_plain : (byte : ℕ) → has_mark (script_byte byte) ≡ false
-unfolding script_byte
 script_byte_plain byte = by (byte == 60) refl
   where
     by : (b : Bool) → (byte == 60) ≡ b → has_mark (if b then codes "\\u003c" else escape_byte byte) ≡ false

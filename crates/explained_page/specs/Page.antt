@@ -38,10 +38,10 @@ unfoldable pub explanation_part : ImageParts → List ℕ → Selection → List
 explanation_part image lines selection order =
     page_head +++ explanation_json image lines selection order
 
-unfoldable pub state_part : ImageParts → ℕ → List Op → List ℕ
+abbrev pub state_part : ImageParts → ℕ → List Op → List ℕ
 state_part image count order = page_state +++ state_text image count order
 
-unfoldable pub listing_part : List ℕ → List ℕ
+abbrev pub listing_part : List ℕ → List ℕ
 listing_part listing = page_listing +++ script_text listing +++ page_end
 
 -- The page of the run of an order, all of whose operations are taken: the explanation of the
@@ -55,5 +55,5 @@ page_of image listing lines selection order =
 abbrev pub count_in : ℕ → ℕ → ℕ → ℕ
 count_in first last events = min events (last + 1) - first
 
-unfoldable pub is_too_long : ℕ → ℕ → ℕ → Bool
+abbrev pub is_too_long : ℕ → ℕ → ℕ → Bool
 is_too_long first last events = nat_lt MOST_EVENTS (count_in first last events)

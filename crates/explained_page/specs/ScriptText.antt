@@ -4,7 +4,7 @@ use Rattle.std.specs.List.{flat_map}
 use Rattle.json.specs.Print.{escape_byte}
 
 -- what stands in a JSON string for a byte, but for `<`
-unfoldable pub script_byte : ℕ → List ℕ
+abbrev pub script_byte : ℕ → List ℕ
 script_byte byte = if byte == 60 then codes "\\u003c" else escape_byte byte
 
 unfoldable pub script_text : List ℕ → List ℕ

@@ -27,7 +27,6 @@ pub const MOST_EVENTS: usize = 5_000;
 
 /// Whether a page would show too many events: those from `first` to `last` of a run that has so
 /// many.
-#[tactic(auto, unfolding(crate::specs::Page::is_too_long))]
 pub(crate) fn is_too_long(first: u32, last: u32, events: usize) -> bool
     ensures { result ≡ is_too_long first last events }
 {
@@ -57,7 +56,6 @@ fn put_explanation<S: Sink>(
 }
 
 /// Writes the page from there up to the end of the state.
-#[tactic(auto, unfolding(crate::specs::Page::state_part))]
 fn put_state<S: Sink>(
     alloc: Global,
     core: &Core,
@@ -80,7 +78,6 @@ fn put_state<S: Sink>(
 }
 
 /// Writes the page from there on.
-#[tactic(auto, unfolding(crate::specs::Page::listing_part))]
 fn put_listing<S: Sink>(alloc: Global, listing: &[u8], sink: &mut S) -> Result<(), WriteFault>
     ensures whole { OnOk result (Appends (S.taken sink.old) (S.taken sink.new)
         (listing_part listing.now)) }

@@ -64,7 +64,6 @@ fn write_escaped(out: &mut Vec<u8>, byte: u8) -> Result<(), NoMemory>
 }
 
 /// Appends the same, but for `<`.
-#[tactic(auto, unfolding(crate::specs::ScriptText::script_byte))]
 fn write_byte(out: &mut Vec<u8>, byte: u8) -> Result<(), NoMemory>
     ensures { OnOk result (out.new.items ≡ out.old.items ++ script_byte byte) }
 {

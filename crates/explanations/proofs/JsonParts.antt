@@ -75,7 +75,7 @@ regrouped a b c d e f entries events one image = simp append_assoc
 pub json_parts : (image : ImageParts) (lines : List ℕ) (selection : Selection) (order : List Op)
     → explanation_json image lines selection order
     ≡ json_head (length order) ++ (events_from lines selection false 0 (explained_events image order) ++ json_end image)
-unfolding explanation_data json_head json_end serde_json_on_literals
+unfolding explanation_data json_end serde_json_on_literals
 json_parts image lines selection order =
     regrouped (codes "{\"entries\":") (codes ",\"events\":[") (codes ",\"explanation\":") (codes ",\"image\":") (codes "}") (10 ∷ [])
     (decimal (length order)) (events_from lines selection false 0 (explained_events image order)) (decimal 1) (compact_text (image_data image))

@@ -181,7 +181,7 @@ unfolding escape_byte
 no_tag s = joined _ (codes " is untagged") (spot s) refl
 
 pub reason : (w : Why) → IsPlain (why_text w)
-unfolding why_text outside_region type_outside escape_byte
+unfolding why_text escape_byte
 reason why.AskedFor = refl
 reason why.UpperReplaced = refl
 reason (why.Sealed name otype) = joined _ _ (spot name) (joined (codes " is sealed (") _ refl (joined _ (codes ")") (type_name otype) (refl)))

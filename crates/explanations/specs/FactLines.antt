@@ -45,14 +45,14 @@ abbrev pub named_text : NamedValue → List ℕ
 named_text named =
     spot_name named.name +++ codes " " +++ value_text named.value +++ if_any from_text named.origin
 
-unfoldable pub reads_line : NamedValue → List ℕ
+abbrev pub reads_line : NamedValue → List ℕ
 reads_line named = fact (codes "reads " +++ named_text named)
 
 -- the address of an access, and how many bytes it moves
-unfoldable pub at_line : Extent → List ℕ
+abbrev pub at_line : Extent → List ℕ
 at_line extent = fact (codes "at " +++ h64 extent.address +++ codes " " +++ decimal extent.bytes)
 
-unfoldable pub finds_line : NamedValue → List ℕ
+abbrev pub finds_line : NamedValue → List ℕ
 finds_line named = fact (codes "finds " +++ named_text named)
 
 unfoldable pub traps_line : Trapped → List ℕ
@@ -60,17 +60,17 @@ traps_line trapped =
     fact (codes "traps " +++ cause_name trapped.trap.cause
     +++ codes ": " +++ trap_why_text trapped.why)
 
-unfoldable pub leaves_line : NamedValue → List ℕ
+abbrev pub leaves_line : NamedValue → List ℕ
 leaves_line named = fact (codes "leaves " +++ named_text named)
 
-unfoldable pub sets_line : NamedValue → List ℕ
+abbrev pub sets_line : NamedValue → List ℕ
 sets_line named = fact (codes "sets " +++ named_text named)
 
 unfoldable pub clears_line : Cleared → List ℕ
 clears_line cleared =
     fact (codes "clears " +++ spot_name cleared.name +++ codes ": " +++ why_text cleared.why)
 
-unfoldable pub swept_line : Place → List ℕ
+abbrev pub swept_line : Place → List ℕ
 swept_line place = fact (codes "clears " +++ swept_name place +++ codes ": swept")
 
 -- ---- events

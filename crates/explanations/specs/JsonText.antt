@@ -25,7 +25,7 @@ names_data (One x) = Some (object (put_named x no_members))
 names_data (Two x y) = Some (object (put_named y (put_named x no_members)))
 
 -- what is before the events
-unfoldable pub json_head : ℕ → List ℕ
+abbrev pub json_head : ℕ → List ℕ
 json_head count = codes "{\"entries\":" ++ (decimal count ++ codes ",\"events\":[")
 
 -- an event, after a comma where one is before it; nothing where it isn't shown

@@ -37,13 +37,13 @@ lacks name permission =
     spot_name name +++ codes " has no " +++ permission_names (permission_set permission)
 
 -- an address that a capability with these bounds could not have
-unfoldable pub outside_region : ℕ → ℕ → ℕ → List ℕ
+abbrev pub outside_region : ℕ → ℕ → ℕ → List ℕ
 outside_region address power start =
     codes "address " +++ h64 address +++ codes " is outside the representable region of 2^"
     +++ decimal power +++ codes " bytes at " +++ h64 start
 
 -- an object type that the authority may not seal or unseal with
-unfoldable pub type_outside : ℕ → ℕ → ℕ → Spot → List ℕ
+abbrev pub type_outside : ℕ → ℕ → ℕ → Spot → List ℕ
 type_outside otype base top authority =
     codes "type " +++ h64 otype +++ codes " is not in " +++ h64 base +++ codes " " +++ h65 top
     +++ codes " of " +++ spot_name authority
@@ -78,7 +78,7 @@ why_text (why.NotAligned alignment) = codes "bounds are no multiples of " +++ h6
 why_text why.DataStored = codes "data over a capability"
 
 -- bytes that are not in the bounds of a register
-unfoldable pub outside : ℕ → ℕ → ℕ → ℕ → Spot → List ℕ
+abbrev pub outside : ℕ → ℕ → ℕ → ℕ → Spot → List ℕ
 outside bytes address base top name =
     decimal bytes +++ codes " bytes at " +++ h64 address +++ codes " are not in " +++ h64 base
     +++ codes " " +++ h65 top +++ codes " of " +++ spot_name name

@@ -54,7 +54,6 @@ fn write_named(out: &mut String, named: &NamedValue) -> Result<(), NoMemory>
 }
 
 /// Appends what was read.
-#[tactic(auto, unfolding(crate::specs::FactLines::reads_line))]
 fn write_read(out: &mut String, named: &NamedValue) -> Result<(), NoMemory>
     ensures { OnOk result (string_bytes out.new ≡ string_bytes out.old ++ reads_line named.now) }
 {
@@ -79,7 +78,6 @@ fn write_reads(out: &mut String, reads: &UpToTwo<NamedValue>) -> Result<(), NoMe
 }
 
 /// Appends what was set.
-#[tactic(auto, unfolding(crate::specs::FactLines::sets_line))]
 fn write_set(out: &mut String, named: &NamedValue) -> Result<(), NoMemory>
     ensures { OnOk result (string_bytes out.new ≡ string_bytes out.old ++ sets_line named.now) }
 {
@@ -104,7 +102,6 @@ fn write_sets(out: &mut String, sets: &UpToTwo<NamedValue>) -> Result<(), NoMemo
 }
 
 /// Appends where an access of memory was, if there was one.
-#[tactic(auto, unfolding(crate::specs::FactLines::at_line))]
 fn write_at(out: &mut String, at: &Option<Extent>) -> Result<(), NoMemory>
     ensures { OnOk result (string_bytes out.new ≡ string_bytes out.old ++ if_any at_line at.now) }
 {
@@ -121,7 +118,6 @@ fn write_at(out: &mut String, at: &Option<Extent>) -> Result<(), NoMemory>
 }
 
 /// Appends the granule that an access found, if it was done.
-#[tactic(auto, unfolding(crate::specs::FactLines::finds_line))]
 fn write_finds(out: &mut String, finds: &Option<NamedValue>) -> Result<(), NoMemory>
     ensures { OnOk result (string_bytes out.new
         ≡ string_bytes out.old ++ if_any finds_line finds.now) }
@@ -158,7 +154,6 @@ fn write_traps(out: &mut String, traps: Option<Trapped>) -> Result<(), NoMemory>
 }
 
 /// Appends the granule that a store left, if it was done.
-#[tactic(auto, unfolding(crate::specs::FactLines::leaves_line))]
 fn write_leaves(out: &mut String, leaves: &Option<NamedValue>) -> Result<(), NoMemory>
     ensures { OnOk result (string_bytes out.new
         ≡ string_bytes out.old ++ if_any leaves_line leaves.now) }
@@ -195,7 +190,6 @@ fn write_clears(out: &mut String, clears: Option<Cleared>) -> Result<(), NoMemor
 }
 
 /// Appends that a sweep cleared a place.
-#[tactic(auto, unfolding(crate::specs::FactLines::swept_line))]
 pub(crate) fn write_swept(out: &mut String, place: Place) -> Result<(), NoMemory>
     ensures { OnOk result (string_bytes out.new ≡ string_bytes out.old ++ swept_line place) }
 {

@@ -45,7 +45,6 @@ struct OutsideRegion {
     start: u64,
 }
 
-#[tactic(auto, unfolding(crate::specs::Reasons::outside_region))]
 impl fmt::Display for OutsideRegion {
     ghost output = { λ region. Some (outside_region region.address region.power region.start) };
 
@@ -72,7 +71,6 @@ struct TypeOutside {
     authority: Spot,
 }
 
-#[tactic(auto, unfolding(crate::specs::Reasons::type_outside))]
 impl fmt::Display for TypeOutside {
     ghost output = { λ asked. Some (type_outside asked.otype asked.base asked.top asked.authority) };
 
@@ -93,7 +91,6 @@ struct Outside {
     name: Spot,
 }
 
-#[tactic(auto, unfolding(crate::specs::Reasons::outside))]
 impl fmt::Display for Outside {
     ghost output = { λ asked. Some (outside asked.bytes asked.address asked.base asked.top asked.name) };
 

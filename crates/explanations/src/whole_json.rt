@@ -212,7 +212,6 @@ pub fn put_events<S: Sink>(
 }
 
 /// Appends what is before the events.
-#[tactic(auto, unfolding(crate::specs::JsonText::json_head))]
 fn write_head(out: &mut String, count: usize) -> Result<(), NoMemory>
     ensures { OnOk result (string_bytes out.new ≡ string_bytes out.old ++ json_head count) }
 {

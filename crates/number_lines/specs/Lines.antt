@@ -15,7 +15,7 @@ abbrev pub yes_or_no : Bool → List ℕ
 yes_or_no holds = if holds then codes "yes" else codes "no"
 
 -- the rounding of an asked range: its fields, its bounds, and whether they are the asked ones
-unfoldable pub bounds_line : ℕ → ℕ → List ℕ
+abbrev pub bounds_line : ℕ → ℕ → List ℕ
 bounds_line base len =
     let ie = internal_exponent len in
     let e = rounding_exponent base len in
@@ -27,7 +27,7 @@ bounds_line base len =
     +++ codes " exact=" +++ yes_or_no (is_exact base len))
 
 -- the permissions, the flag, the object type and the exponent of a value
-unfoldable pub fields_part : CapValue → List ℕ
+abbrev pub fields_part : CapValue → List ℕ
 fields_part v =
     codes "perms=" +++ hex_text 5 (permissions_of v) +++ codes " flag=" +++ decimal (flags_of v)
     +++ codes " type=" +++ type_text (object_type_of v)
@@ -35,7 +35,7 @@ fields_part v =
     +++ codes " e=" +++ decimal (word_exponent (high_of v))
 
 -- the bounds, the address and the length of a value, up to the end of the line
-unfoldable pub bounds_part : CapValue → List ℕ
+abbrev pub bounds_part : CapValue → List ℕ
 bounds_part v =
     line (codes " base=" +++ hex_text 16 (base_of v) +++ codes " top=" +++ hex_text 17 (top_of v)
     +++ codes " addr=" +++ hex_text 16 (address_of v)

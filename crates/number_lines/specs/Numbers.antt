@@ -15,7 +15,7 @@ number_within limit (Ok (Some number)) = if nat_le number limit then Some number
 number_within limit _ = None
 
 -- an argument as a number of at most the limit
-unfoldable pub number_given : ℕ → List ℕ → Option ℕ
+abbrev pub number_given : ℕ → List ℕ → Option ℕ
 number_given limit word = number_within limit (number_of word)
 
 -- the line of a range, or nothing where one of its numbers is none

@@ -26,7 +26,6 @@ impl fmt::Display for YesOrNo {
 /// The line of the rounding of the `len` addresses from `base` on (CHERI Concentrate,
 /// "encoding"): the fields IE, E, T and B, the bounds, and whether they are the asked
 /// range. Fails only when out of memory.
-#[tactic(auto, unfolding(crate::specs::Lines::bounds_line))]
 pub fn bounds_text(alloc: Global, base: u64, len: u128) -> Result<String, NoMemory>
     requires { len ≤ 2 ^ 64 }
     ensures { IfOk result (λ text. string_bytes text ≡ bounds_line base len) }
@@ -47,7 +46,6 @@ pub fn bounds_text(alloc: Global, base: u64, len: u128) -> Result<String, NoMemo
 }
 
 /// Appends the permissions, the flag, the object type and the exponent of a value.
-#[tactic(auto, unfolding(crate::specs::Lines::fields_part))]
 fn write_fields(out: &mut String, held: Cap) -> Result<(), NoMemory>
     ensures { OnOk result (string_bytes out.new ≡ string_bytes out.old ++ fields_part held) }
 {
@@ -60,7 +58,6 @@ fn write_fields(out: &mut String, held: Cap) -> Result<(), NoMemory>
 }
 
 /// Appends the bounds, the address and the length of a value, up to the end of the line.
-#[tactic(auto, unfolding(crate::specs::Lines::bounds_part))]
 fn write_bounds(out: &mut String, held: Cap) -> Result<(), NoMemory>
     ensures { OnOk result (string_bytes out.new ≡ string_bytes out.old ++ bounds_part held) }
 {

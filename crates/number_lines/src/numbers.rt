@@ -38,7 +38,6 @@ impl From<AllocError> for NumberFault {
 }
 
 /// The number that a word writes as in a listing, where it is at most the limit.
-#[tactic(auto, unfolding(crate::specs::Numbers::number_given))]
 pub fn number_given(limit: u128, word: &[u8]) -> Option<u128>
     ensures value { result ≡ number_given limit word.now }
     ensures at_most { IfSome result (λ number. number ≤ limit) }

@@ -4,5 +4,4 @@ use Rattle.number_lines.specs.Lines.{bounds_line}
 use Rattle.number_lines.proofs.lines.bounds_text.Goals as goal
 
 pub returns : goal.returns
-unfolding bounds_line
 returns c = grind (arith, common_steps)
