@@ -8,7 +8,7 @@ use Rattle.std.proofs.lemmas.Option.{none-some, slice_get_past}
 use Rattle.authorities.specs.Authorities.{AreGreatest, IsHeld, hart_values, memory_values}
 use Rattle.authorities.specs.declared.rights.Authority.{Authority}
 use Rattle.authorities.specs.declared.authority.Authorities.{Authorities}
-use Rattle.authority_texts.specs.Answers.{AreBounds, AreFound, IsAuthorityAnswer, ending_of}
+use Rattle.authority_texts.specs.Answers.{AreBounds, AreFound, IsAuthorityAnswer}
 use Rattle.authority_texts.specs.AuthorityTexts.{said}
 use Rattle.authority_texts.specs.Told.{AreKnown, AreAllKnown, AreTold, AreAllTold}
 use Rattle.authority_texts.specs.declared.told.Told.{Told}
@@ -18,7 +18,7 @@ use Rattle.cheri_model.specs.runs.Machine.{MachineState}
 use Rattle.cheri_model.specs.runs.Replay.{replayed_state}
 use Rattle.found_texts.proofs.FindLemmas.{written_as, err_as}
 use Rattle.schedules.specs.declared.ranges.SweepRange.{SweepRange}
-use Rattle.shown_states.specs.Endings.{IsWritten, IsUnwritten}
+use Rattle.shown_states.specs.Endings.{ending_of, IsWritten, IsUnwritten}
 use Rattle.shown_states.specs.declared.form.Ending.{Ending}
 use Rattle.shown_states.specs.declared.form.Format.{Format}
 use Rattle.sinks.specs.Sinks.{TakesBeginning}

@@ -1,5 +1,5 @@
 -- What the search for the greatest rights answers.
-use Rattle.std.specs.Prelude.{◌≡◌, ℕ, Bool, if◌then◌else◌, List, length, slice_get, Some, true, Vec}
+use Rattle.std.specs.Prelude.{◌≡◌, ℕ, List, length, slice_get, Some, true, Vec}
 use Rattle.std.specs.Global.{Global}
 use Rattle.authorities.specs.Authorities.{AreGreatest, Holds, is_within, hart_values, memory_values}
 use Rattle.authorities.specs.declared.rights.Authority.{Authority}
@@ -11,17 +11,13 @@ use Rattle.cheri_model.specs.runs.Machine.{MachineState, opening_state}
 use Rattle.cheri_model.specs.runs.Replay.{is_legal, replayed_state}
 use Rattle.schedules.specs.declared.ranges.SweepRange.{SweepRange}
 use Rattle.schedules.specs.Schedules.{AreAllowed}
+use Rattle.shown_states.specs.Endings.{ending_of}
 use Rattle.shown_states.specs.declared.form.Ending.{Ending}
-use Rattle.shown_states.specs.declared.form.Ending.TheVariants.{Done, Unfinished}
 use Rattle.shown_states.specs.declared.form.Format.{Format}
 use Rattle.states.specs.Kept.{KeptParts, count, at, IsSearch}
 use Rattle.authority_texts.specs.AuthorityTexts.{said}
 use Rattle.authority_texts.specs.Told.{AreTold, AreAllTold}
 use Rattle.authority_texts.specs.declared.told.Told.{Told}
-
--- it speaks of all states, or of those that were kept
-abbrev pub ending_of : Bool → Ending
-ending_of complete = if complete then Done else Unfinished
 
 -- What is held after any legal order of steps and of these sweeps, of any length, lies within one
 -- of the list.

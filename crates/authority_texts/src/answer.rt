@@ -2,7 +2,7 @@
 
 ghost use Rattle.std.specs.Prelude.{◌≡◌, ◌++◌, ◌<◌, ◌≤◌, length, IfOk, IfErr, OnOk, string_bytes};
 ghost use Rattle.std.specs.Io.KnownBytes.{Appends};
-ghost use Rattle.authority_texts.specs.Answers.{AreFound, IsAuthorityAnswer, ending_of};
+ghost use Rattle.authority_texts.specs.Answers.{AreFound, IsAuthorityAnswer};
 ghost use Rattle.authority_texts.specs.AuthorityTexts.{said};
 ghost use Rattle.authority_texts.specs.Told.{AreTold, AreAllTold};
 ghost use Rattle.shown_states.specs.Endings.{IsUnwritten, IsWritten};
@@ -115,18 +115,7 @@ fn put_found<S: Sink>(
         memory.as_slice(),
         sink,
     )?;
-    Ok(ending_of(&found.kept))
-}
-
-/// Whether an answer speaks of all states.
-fn ending_of(kept: &Kept) -> Ending
-    ensures { result ≡ ending_of kept.now.complete }
-{
-    if kept.is_complete() {
-        Ending::Done
-    } else {
-        Ending::Unfinished
-    }
+    Ok(Ending::of_search(found.kept.is_complete()))
 }
 
 /// Searches the states that an image reaches, by steps of its harts and these sweeps, and writes the

@@ -1,5 +1,5 @@
 -- How an answer ends, and what a sink then has of it.
-use Rattle.std.specs.Prelude.{◌≡◌, ℕ, List, Option, ◌⊎◌}
+use Rattle.std.specs.Prelude.{◌≡◌, ℕ, Bool, if◌then◌else◌, List, Option, ◌⊎◌}
 use Rattle.std.specs.Io.KnownBytes.{Appends}
 use Rattle.shown_states.specs.declared.form.Ending.{Ending}
 use Rattle.shown_states.specs.declared.form.Ending.TheVariants.{Done, Unfinished, Nowhere}
@@ -12,6 +12,10 @@ abbrev pub status_of : Ending → ℕ
 status_of Done = 0
 status_of Unfinished = 4
 status_of Nowhere = 5
+
+-- an answer speaks of all states, or of those that were kept
+abbrev pub ending_of : Bool → Ending
+ending_of complete = if complete then Done else Unfinished
 
 -- a sink took a whole text that is so
 abbrev pub IsWritten : (List ℕ → Type 0) → Option (List ℕ) → Option (List ℕ) → Type 0

@@ -1,7 +1,7 @@
 //! How an answer is written, and how it ends.
 
 ghost use Rattle.std.specs.Prelude.{◌≡◌};
-ghost use Rattle.shown_states.specs.Endings.{status_of};
+ghost use Rattle.shown_states.specs.Endings.{ending_of, status_of};
 
 /// How an answer is written.
 #[derive(Clone, Copy, Debug, PartialEq, Eq)]
@@ -24,6 +24,17 @@ pub enum Ending {
 }
 
 impl Ending {
+    /// The ending of an answer about the states that a search kept, which may be all there are.
+    pub fn of_search(is_complete: bool) -> Ending
+        ensures { result ≡ ending_of is_complete }
+    {
+        if is_complete {
+            Ending::Done
+        } else {
+            Ending::Unfinished
+        }
+    }
+
     /// The exit status of a program that answers so.
     pub fn status(self) -> u8
         ensures { result ≡ status_of self }
