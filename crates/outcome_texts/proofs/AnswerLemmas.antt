@@ -1,0 +1,200 @@
+-- What was found is an answer.
+use Rattle.std.proofs.Common.{◌≡◌, ℕ, ◌<◌, ◌≤◌, List, length, Bool, true, refl, sym, ap, ◌∙◌, subst, inl, inr}
+use Rattle.std.specs.Prelude.{Option, Some, Result, Ok, Err, IfOk, IfErr, slice_get}
+use Rattle.std.specs.Io.KnownBytes.{Appends}
+use Rattle.cheri_model.specs.runs.Image.{ImageParts}
+use Rattle.cheri_model.specs.runs.Machine.{MachineState}
+use Rattle.cheri_model.specs.runs.Replay.{replayed_state}
+use Rattle.conditions.specs.Items.{ItemList}
+use Rattle.conditions.specs.declared.parts.Shown.{Shown}
+use Rattle.found_texts.proofs.FindLemmas.{written_as, err_as}
+use Rattle.outcomes.specs.Outcomes.{AreOutcomes}
+use Rattle.outcomes.specs.Rows.{AreRows, values_at}
+use Rattle.outcomes.specs.declared.rows.Row.{Row}
+use Rattle.outcomes.proofs.OutcomeLemmas.{at_within}
+use Rattle.outcome_texts.specs.Answers.{IsSearched, IsListedAnswer, IsShownAnswer}
+use Rattle.outcome_texts.specs.OutcomeTexts.{listed, shown}
+use Rattle.outcome_texts.specs.OutcomeParts.{listed_whole, shown_whole}
+use Rattle.outcome_texts.proofs.ListedLemmas.{listed_is, shown_is}
+use Rattle.outcome_texts.proofs.ToldLemmas.{all_below, all_rows_below}
+use Rattle.outcome_texts.specs.Told.{AreBelow, AreRowsBelow, AreOutcomesTold, AreRowsTold}
+use Rattle.outcome_texts.specs.declared.told.Outcome.{Outcome}
+use Rattle.outcome_texts.specs.declared.told.ShownRow.{ShownRow}
+use Rattle.schedules.specs.declared.ranges.SweepRange.{SweepRange}
+use Rattle.shown_states.specs.Endings.{ending_of, IsWritten, IsUnwritten}
+use Rattle.shown_states.specs.declared.form.Ending.{Ending}
+use Rattle.shown_states.specs.declared.form.Format.{Format}
+use Rattle.sinks.specs.Sinks.{TakesBeginning}
+use Rattle.sinks.specs.declared.fault.WriteFault.{WriteFault}
+use Rattle.state_loops.specs.Endless.{IsEndless, IsSame}
+use Rattle.state_loops.specs.declared.endless.Endless.{Endless}
+use Rattle.states.specs.Kept.{KeptParts, count, at, IsSearch, AreAllKept}
+
+pub searched_is : (image : ImageParts) (sweeps : List SweepRange) (limit : ℕ) (old kept : KeptParts) (endless : Endless)
+    (numbers : List ℕ) (complete : Bool) → old.image ≡ image → old.sweeps ≡ sweeps → old.limit ≡ limit → IsSame old kept
+    → IsSearch kept → IsEndless kept endless → AreOutcomes kept numbers → complete ≡ kept.complete
+    → (complete ≡ true → AreAllKept kept) → IsSearched image sweeps limit kept endless numbers
+searched_is image sweeps limit old kept endless numbers complete image_is sweeps_are limit_is same search forever outcomes complete_is all =
+    record {
+      image_is = same.image ∙ image_is;
+      sweeps_are = same.sweeps ∙ sweeps_are;
+      limit_is = same.limit ∙ limit_is;
+      search = search;
+      forever = forever;
+      outcomes = outcomes;
+      all = λ whole order allowed legal final.
+          let there = all (complete_is ∙ whole) order allowed legal in
+          let within = at_within kept there.0 (replayed_state kept.image order) there.1 in
+          let one = outcomes.all there.0 (replayed_state kept.image order) within there.1 final in
+          (one.0, there.0, one.1, there.1);
+    }
+
+-- the same, of what was found alone
+pub searched_kept : (image : ImageParts) (sweeps : List SweepRange) (limit : ℕ) (kept : KeptParts) (endless : Endless) (numbers : List ℕ)
+    → IsSearched image sweeps limit kept endless numbers → IsSearched kept.image kept.sweeps kept.limit kept endless numbers
+searched_kept image sweeps limit kept endless numbers searched = record {
+  image_is = refl;
+  sweeps_are = refl;
+  limit_is = refl;
+  search = searched.search;
+  forever = searched.forever;
+  outcomes = searched.outcomes;
+  all = searched.all;
+}
+
+-- a text that is an answer was written, or a beginning of it
+pub answer_written : (IsSo : List ℕ → Ending → Type 0) (text : List ℕ) (ending told : Ending) (old new : Option (List ℕ))
+    → IsSo text told → ending ≡ told → Appends old new text → IsWritten (λ t. IsSo t ending) old new
+answer_written IsSo text ending told old new so is taken = (text, subst (IsSo text) (sym is) so, taken)
+
+pub answer_begun : (IsSo : List ℕ → Ending → Type 0) (text : List ℕ) (told : Ending) (fault : WriteFault) (old new : Option (List ℕ))
+    → IsSo text told → TakesBeginning old new text → IsUnwritten (λ t. (ending : Ending) × IsSo t ending) old new fault
+answer_begun IsSo text told fault old new so begun = inr (text, (told, so), begun)
+
+-- outcomes are kept states, and so are the first ones of rows
+pub outcomes_below : (kept : KeptParts) (numbers : List ℕ) → AreOutcomes kept numbers → AreBelow (count kept) numbers
+outcomes_below kept numbers are = all_below (count kept) numbers (λ k n is. (are.each k n is).0)
+
+pub rows_below : {X : Type 0} (kept : KeptParts) (value : ℕ → X) (numbers : List ℕ) (rows : List Row) → AreOutcomes kept numbers
+    → AreRows value numbers rows → AreRowsBelow (count kept) rows
+rows_below kept value numbers rows are distinct =
+    all_rows_below (count kept) rows (λ k r is.
+    let first = (distinct.each k r is).listed in (are.each first.0 r.first first.1).0)
+
+-- ---- outcomes as states
+
+pub listed_said : (kept : KeptParts) (endless told : Endless) (numbers : List ℕ) (format : Format) (outcomes : List Outcome)
+    (complete : Bool) (image : ImageParts) (states : ℕ) → IsSearched kept.image kept.sweeps kept.limit kept endless numbers
+    → AreOutcomesTold kept numbers outcomes → complete ≡ kept.complete → image ≡ kept.image → states ≡ count kept → told ≡ endless
+    → IsListedAnswer kept.image kept.sweeps kept.limit format (listed_whole format complete image states told kept outcomes)
+    (ending_of kept.complete)
+listed_said kept endless told numbers format outcomes complete image states searched outcomes_told complete_is image_is states_are told_is =
+    record {
+      kept = kept;
+      endless = endless;
+      numbers = numbers;
+      searched = searched;
+      outcomes = outcomes;
+      told = outcomes_told;
+      text_is = rw (complete_is, image_is, states_are, told_is) (sym (listed_is format kept endless outcomes));
+      ending_is = refl;
+    }
+
+listed_asked : (kept : KeptParts) (image : ImageParts) (sweeps : List SweepRange) (limit : ℕ) (format : Format) (text : List ℕ)
+    (ending : Ending) → kept.image ≡ image → kept.sweeps ≡ sweeps → kept.limit ≡ limit
+    → IsListedAnswer kept.image kept.sweeps kept.limit format text ending → IsListedAnswer image sweeps limit format text ending
+listed_asked kept image sweeps limit format text ending image_is sweeps_are limit_is answer =
+    subst (λ (i : ImageParts). IsListedAnswer i sweeps limit format text ending) image_is
+    (subst (λ (s : List SweepRange). IsListedAnswer kept.image s limit format text ending) sweeps_are
+    (subst (λ (n : ℕ). IsListedAnswer kept.image kept.sweeps n format text ending) limit_is answer))
+
+pub listed_written : {E : Type 0} (kept : KeptParts) (image : ImageParts) (sweeps : List SweepRange) (limit : ℕ) (format : Format)
+    (result : Result Ending E) (old new : Option (List ℕ)) → kept.image ≡ image → kept.sweeps ≡ sweeps → kept.limit ≡ limit
+    → IfOk result (λ ending. IsWritten (λ text. IsListedAnswer kept.image kept.sweeps kept.limit format text ending) old new)
+    → IfOk result (λ ending. IsWritten (λ text. IsListedAnswer image sweeps limit format text ending) old new)
+listed_written kept image sweeps limit format (Ok ending) old new image_is sweeps_are limit_is written =
+    written_as (λ text. IsListedAnswer kept.image kept.sweeps kept.limit format text ending)
+    (λ text. IsListedAnswer image sweeps limit format text ending) old new
+    (λ text answer. listed_asked kept image sweeps limit format text ending image_is sweeps_are limit_is answer) written
+listed_written kept image sweeps limit format (Err fault) old new image_is sweeps_are limit_is written = tt
+
+pub listed_begun : {T : Type 0} (kept : KeptParts) (image : ImageParts) (sweeps : List SweepRange) (limit : ℕ) (format : Format)
+    (result : Result T WriteFault) (old new : Option (List ℕ)) → kept.image ≡ image → kept.sweeps ≡ sweeps → kept.limit ≡ limit
+    → IfErr result (IsUnwritten (λ text. (ending : Ending)
+    × IsListedAnswer kept.image kept.sweeps kept.limit format text ending) old new)
+    → IfErr result (IsUnwritten (λ text. (ending : Ending) × IsListedAnswer image sweeps limit format text ending) old new)
+listed_begun kept image sweeps limit format result old new image_is sweeps_are limit_is begun =
+    err_as (λ text. (ending : Ending) × IsListedAnswer kept.image kept.sweeps kept.limit format text ending)
+    (λ text. (ending : Ending) × IsListedAnswer image sweeps limit format text ending) result old new
+    (λ text answer. (answer.0, listed_asked kept image sweeps limit format text answer.0 image_is sweeps_are limit_is answer.1)) begun
+
+-- ---- outcomes as rows
+
+-- of lists as slices
+pub rows_distinct : (kept : KeptParts) (items shown : List Shown) (numbers outcomes : List ℕ) (rows : List Row) → shown ≡ items
+    → outcomes ≡ numbers → AreRows (values_at kept shown) outcomes rows → AreRows (values_at kept items) numbers rows
+rows_distinct kept items shown numbers outcomes rows shown_is outcomes_are distinct =
+    subst (λ (ns : List ℕ). AreRows (values_at kept items) ns rows) outcomes_are
+    (subst (λ (i : List Shown). AreRows (values_at kept i) outcomes rows) shown_is distinct)
+
+pub rows_known : (kept : KeptParts) (items shown : List Shown) (rows given : List Row) (told shown_rows : List ShownRow) → shown ≡ items
+    → given ≡ rows → shown_rows ≡ told → AreRowsTold kept shown given told → AreRowsTold kept items rows shown_rows
+rows_known kept items shown rows given told shown_rows shown_is given_are rows_are known =
+    subst (λ (ts : List ShownRow). AreRowsTold kept items rows ts) (sym rows_are)
+    (subst (λ (rs : List Row). AreRowsTold kept items rs told) given_are
+    (subst (λ (i : List Shown). AreRowsTold kept i given told) shown_is known))
+
+pub shown_said : (kept : KeptParts) (items : ItemList) (endless told : Endless) (numbers : List ℕ) (format : Format) (rows : List Row)
+    (shown_rows : List ShownRow) (complete : Bool) (image : ImageParts) (states outcomes : ℕ) (names : List (List ℕ))
+    → IsSearched kept.image kept.sweeps kept.limit kept endless numbers → AreRows (values_at kept items.shown) numbers rows
+    → AreRowsTold kept items.shown rows shown_rows → complete ≡ kept.complete → image ≡ kept.image → states ≡ count kept → told ≡ endless
+    → outcomes ≡ length numbers → names ≡ items.names
+    → IsShownAnswer kept.image items kept.sweeps kept.limit format
+    (shown_whole format complete image states told outcomes names shown_rows) (ending_of kept.complete)
+shown_said kept items endless told numbers format rows shown_rows complete image states outcomes names searched distinct rows_told
+    complete_is image_is states_are told_is outcomes_are names_are =
+    record {
+      kept = kept;
+      endless = endless;
+      numbers = numbers;
+      searched = searched;
+      rows = rows;
+      distinct = distinct;
+      shown_rows = shown_rows;
+      told = rows_told;
+      text_is =
+          rw (complete_is, image_is, states_are, told_is, outcomes_are, names_are)
+          (sym (shown_is format items.names kept endless (length numbers) shown_rows));
+      ending_is = refl;
+    }
+
+shown_asked : (kept : KeptParts) (items : ItemList) (image : ImageParts) (sweeps : List SweepRange) (limit : ℕ) (format : Format)
+    (text : List ℕ) (ending : Ending) → kept.image ≡ image → kept.sweeps ≡ sweeps → kept.limit ≡ limit
+    → IsShownAnswer kept.image items kept.sweeps kept.limit format text ending
+    → IsShownAnswer image items sweeps limit format text ending
+shown_asked kept items image sweeps limit format text ending image_is sweeps_are limit_is answer =
+    subst (λ (i : ImageParts). IsShownAnswer i items sweeps limit format text ending) image_is
+    (subst (λ (s : List SweepRange). IsShownAnswer kept.image items s limit format text ending) sweeps_are
+    (subst (λ (n : ℕ). IsShownAnswer kept.image items kept.sweeps n format text ending) limit_is answer))
+
+pub shown_written : {E : Type 0} (kept : KeptParts) (items : ItemList) (image : ImageParts) (sweeps : List SweepRange) (limit : ℕ)
+    (format : Format) (result : Result Ending E) (old new : Option (List ℕ)) → kept.image ≡ image → kept.sweeps ≡ sweeps
+    → kept.limit ≡ limit
+    → IfOk result (λ ending. IsWritten (λ text. IsShownAnswer kept.image items kept.sweeps kept.limit format text ending) old new)
+    → IfOk result (λ ending. IsWritten (λ text. IsShownAnswer image items sweeps limit format text ending) old new)
+shown_written kept items image sweeps limit format (Ok ending) old new image_is sweeps_are limit_is written =
+    written_as (λ text. IsShownAnswer kept.image items kept.sweeps kept.limit format text ending)
+    (λ text. IsShownAnswer image items sweeps limit format text ending) old new
+    (λ text answer. shown_asked kept items image sweeps limit format text ending image_is sweeps_are limit_is answer) written
+shown_written kept items image sweeps limit format (Err fault) old new image_is sweeps_are limit_is written = tt
+
+pub shown_begun : {T : Type 0} (kept : KeptParts) (items : ItemList) (image : ImageParts) (sweeps : List SweepRange) (limit : ℕ)
+    (format : Format) (result : Result T WriteFault) (old new : Option (List ℕ)) → kept.image ≡ image → kept.sweeps ≡ sweeps
+    → kept.limit ≡ limit
+    → IfErr result (IsUnwritten (λ text. (ending : Ending)
+    × IsShownAnswer kept.image items kept.sweeps kept.limit format text ending) old new)
+    → IfErr result (IsUnwritten (λ text. (ending : Ending) × IsShownAnswer image items sweeps limit format text ending) old new)
+shown_begun kept items image sweeps limit format result old new image_is sweeps_are limit_is begun =
+    err_as (λ text. (ending : Ending) × IsShownAnswer kept.image items kept.sweeps kept.limit format text ending)
+    (λ text. (ending : Ending) × IsShownAnswer image items sweeps limit format text ending) result old new
+    (λ text answer. (answer.0, shown_asked kept items image sweeps limit format text answer.0 image_is sweeps_are limit_is answer.1)) begun

@@ -1,0 +1,7 @@
+pub mod Open
+pub mod EndlessLemmas
+pub mod ToldLemmas
+pub mod PartLemmas
+pub mod ListedLemmas
+pub mod RowLemmas
+pub mod AnswerLemmas

@@ -1,0 +1,27 @@
+use Rattle.std.proofs.Common.{length, ap, sym, ◌∙◌, arith}
+use Rattle.cheri_model.specs.runs.Machine.{MachineState}
+use Rattle.state_store.specs.Stores.{state_of}
+use Rattle.state_store.proofs.NumberedLemmas.{some_of}
+use Rattle.states.proofs.OpeningLemmas.{opening_granules, opening_harts}
+use Rattle.shown_states.specs.Meant.{state_meant}
+use Rattle.outcome_texts.proofs.listed.loaded_state.Goals as goal
+
+pub load-requires-clause-harts : goal.load-requires-clause-harts
+load-requires-clause-harts c =
+    let size = ap (λ (s : MachineState). length s.harts) (c.in_ok-loaded.ensures ∙ sym c.requires.opening) in
+    let harts = opening_harts c.args.kept.now.image in
+    let row = c.state.ensures.harts in
+    omega arith
+
+pub load-requires-clause-granules : goal.load-requires-clause-granules
+load-requires-clause-granules c =
+    let size = ap (λ (s : MachineState). length s.memory) (c.in_ok-loaded.ensures ∙ sym c.requires.opening) in
+    let formed = rw c.image.ensures at c.granules-granules.ensures.formed in
+    let granules = opening_granules c.args.kept.now.image formed in
+    let store = c.state.ensures.granules in
+    omega arith
+
+pub returns : goal.returns
+returns c =
+    let s = some_of (state_of c.state.result.store.now c.state.result.row.now) c.state.ensures.meant in
+    c.load.ensures s.0 s.1 ∙ sym (ap state_meant (c.state.ensures.state ∙ s.1))

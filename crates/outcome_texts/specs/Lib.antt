@@ -1,0 +1,5 @@
+pub mod EndlessTexts
+pub mod Told
+pub mod OutcomeTexts
+pub mod OutcomeParts
+pub mod Answers

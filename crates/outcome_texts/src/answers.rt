@@ -1,0 +1,176 @@
+//! The answers.
+
+ghost use Rattle.std.specs.Prelude.{◌≡◌, ◌<◌, ◌≤◌, length, IfOk, IfErr};
+ghost use Rattle.cheri_model.specs.runs.Machine.{opening_state};
+ghost use Rattle.conditions.specs.Items.{list_of};
+ghost use Rattle.outcome_texts.specs.Answers.{IsFound, IsListedAnswer, IsShownAnswer};
+ghost use Rattle.shown_states.specs.Endings.{ending_of, IsUnwritten, IsWritten};
+ghost use Rattle.shown_states.specs.declared.form.Ending.{Ending};
+ghost use Rattle.states.specs.Kept.{count};
+
+use crate::heads::Head;
+use crate::listed::put_listed;
+use crate::searching::{Searched, search_outcomes};
+use crate::shown::put_shown;
+use crate::told::{outcomes_told, rows_told};
+use cheri_model::Image;
+use conditions::Items;
+use found_texts::opened;
+use graph_search::Progress;
+use hart::Hart;
+use outcomes::rows_of;
+use schedules::SweepRange;
+use shown_states::{Ending, Format};
+use sinks::{Sink, WriteFault};
+use states::MAX_SWEEPS;
+use std::alloc::Global;
+use tagged_mem::Ram;
+
+impl Searched {
+    /// Whether an answer speaks of all states.
+    fn ending(&self) -> Ending
+        ensures { result ≡ ending_of self.now.kept.complete }
+    {
+        Ending::of_search(self.kept.is_complete())
+    }
+}
+
+/// What an answer begins with.
+fn head_of(searched: &Searched) -> Head<'_>
+    ensures image { result.image.now ≡ searched.now.kept.image }
+    ensures complete { result.complete ≡ searched.now.kept.complete }
+    ensures states { result.states ≡ count searched.now.kept }
+    ensures endless { result.endless.now ≡ searched.now.endless }
+{
+    Head {
+        image: searched.kept.image(),
+        complete: searched.kept.is_complete(),
+        states: searched.kept.len(),
+        endless: &searched.endless,
+    }
+}
+
+/// Writes the outcomes that were found.
+fn list_found<S: Sink>(
+    alloc: Global,
+    format: Format,
+    harts: &[Hart],
+    ram: &Ram,
+    searched: &Searched,
+    sink: &mut S,
+) -> Result<Ending, WriteFault>
+    requires found { IsFound searched.now }
+    requires opening { opening_state searched.now.kept.image
+        ≡ record { harts = harts.now; memory = ram.now } }
+    ensures written { IfOk result (λ ending. IsWritten (λ text. IsListedAnswer
+        searched.now.kept.image searched.now.kept.sweeps searched.now.kept.limit format text ending)
+        (S.taken sink.old) (S.taken sink.new)) }
+    ensures begun { IfErr result (IsUnwritten (λ text. (ending : Ending) × IsListedAnswer
+        searched.now.kept.image searched.now.kept.sweeps searched.now.kept.limit format text ending)
+        (S.taken sink.old) (S.taken sink.new)) }
+    ensures place { S.place sink.new ≡ S.place sink.old }
+{
+    let told = outcomes_told(alloc, &searched.kept, searched.outcomes.as_slice())?;
+    let head = head_of(searched);
+    put_listed(
+        alloc,
+        format,
+        sink,
+        head,
+        harts,
+        ram,
+        &searched.kept,
+        told.as_slice(),
+    )?;
+    Ok(searched.ending())
+}
+
+/// Writes the rows of the outcomes that were found.
+fn show_found<S: Sink>(
+    alloc: Global,
+    format: Format,
+    items: &Items<'_>,
+    searched: &Searched,
+    sink: &mut S,
+) -> Result<Ending, WriteFault>
+    requires found { IsFound searched.now }
+    ensures written { IfOk result (λ ending. IsWritten (λ text. IsShownAnswer
+        searched.now.kept.image (list_of items.now) searched.now.kept.sweeps
+        searched.now.kept.limit format text ending) (S.taken sink.old) (S.taken sink.new)) }
+    ensures begun { IfErr result (IsUnwritten (λ text. (ending : Ending) × IsShownAnswer
+        searched.now.kept.image (list_of items.now) searched.now.kept.sweeps
+        searched.now.kept.limit format text ending) (S.taken sink.old) (S.taken sink.new)) }
+    ensures place { S.place sink.new ≡ S.place sink.old }
+{
+    let shown = items.shown.as_slice();
+    let outcomes = searched.outcomes.as_slice();
+    let rows = rows_of(alloc, &searched.kept, shown, outcomes)?;
+    let told = rows_told(alloc, &searched.kept, shown, rows.as_slice())?;
+    let head = head_of(searched);
+    put_shown(
+        alloc,
+        format,
+        sink,
+        head,
+        outcomes.len(),
+        items.names.as_slice(),
+        told.as_slice(),
+    )?;
+    Ok(searched.ending())
+}
+
+/// Searches the states that an image reaches, by steps of its harts and these sweeps, and writes
+/// those in which no hart runs, each with the order that leads to it. At most `limit` states are
+/// kept. Nothing is written before the search has ended. After a fault of the writing the sink took
+/// a beginning of the answer.
+pub fn list_outcomes<P: Progress, S: Sink>(
+    alloc: Global,
+    image: &Image,
+    sweeps: &[SweepRange],
+    limit: u32,
+    format: Format,
+    progress: &mut P,
+    sink: &mut S,
+) -> Result<Ending, WriteFault>
+    requires some { 0 < limit }
+    requires few { length sweeps.now ≤ MAX_SWEEPS }
+    ensures written { IfOk result (λ ending. IsWritten
+        (λ text. IsListedAnswer image.now sweeps.now limit format text ending)
+        (S.taken sink.old) (S.taken sink.new)) }
+    ensures begun { IfErr result (IsUnwritten (λ text. (ending : Ending)
+        × IsListedAnswer image.now sweeps.now limit format text ending)
+        (S.taken sink.old) (S.taken sink.new)) }
+    ensures place { S.place sink.new ≡ S.place sink.old }
+{
+    let core = opened(alloc, image)?;
+    let searched = search_outcomes(alloc, image, &core, sweeps, limit, progress)?;
+    let view = core.view();
+    list_found(alloc, format, view.harts, view.ram, &searched, sink)
+}
+
+/// The same, told by what items hold in the states: each distinct row of values, with how many
+/// outcomes have it and the order that leads to the first of them.
+pub fn show_outcomes<P: Progress, S: Sink>(
+    alloc: Global,
+    image: &Image,
+    items: &Items<'_>,
+    sweeps: &[SweepRange],
+    limit: u32,
+    format: Format,
+    progress: &mut P,
+    sink: &mut S,
+) -> Result<Ending, WriteFault>
+    requires some { 0 < limit }
+    requires few { length sweeps.now ≤ MAX_SWEEPS }
+    ensures written { IfOk result (λ ending. IsWritten
+        (λ text. IsShownAnswer image.now (list_of items.now) sweeps.now limit format text ending)
+        (S.taken sink.old) (S.taken sink.new)) }
+    ensures begun { IfErr result (IsUnwritten (λ text. (ending : Ending)
+        × IsShownAnswer image.now (list_of items.now) sweeps.now limit format text ending)
+        (S.taken sink.old) (S.taken sink.new)) }
+    ensures place { S.place sink.new ≡ S.place sink.old }
+{
+    let core = opened(alloc, image)?;
+    let searched = search_outcomes(alloc, image, &core, sweeps, limit, progress)?;
+    show_found(alloc, format, items, &searched, sink)
+}

@@ -1,0 +1,12 @@
+//! The outcomes of an image, and what is said of them.
+#![tactic(auto)]
+
+mod answers;
+mod endless;
+mod heads;
+mod listed;
+mod searching;
+mod shown;
+mod told;
+
+pub use answers::{list_outcomes, show_outcomes};

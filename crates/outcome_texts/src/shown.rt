@@ -1,0 +1,249 @@
+//! Outcomes as rows of values.
+#![tactic(auto, unfolding(crate::proofs::Open::shown))]
+
+ghost use Rattle.std.specs.Prelude.{◌≡◌, ◌++◌, IfOk, OnOk, map, string_bytes};
+ghost use Rattle.std.specs.Io.KnownBytes.{Appends};
+ghost use Rattle.serde_json.specs.Data.{no_members, object};
+ghost use Rattle.serde_json.specs.View.{view as data_of};
+ghost use Rattle.outcome_texts.specs.OutcomeTexts.{
+  item_value_text,
+  items_text,
+  put_items,
+  row_data,
+  row_line,
+};
+ghost use Rattle.outcome_texts.specs.OutcomeParts.{
+  item_part,
+  shown_json,
+  shown_lines,
+  shown_whole,
+};
+ghost use Rattle.report_lines.specs.JsonText.{item_text};
+ghost use Rattle.report_lines.specs.Texts.{numbered};
+ghost use Rattle.sinks.specs.Sinks.{TakesBeginning};
+
+use crate::heads::{Head, write_head_lines, write_json_head};
+use crate::told::ShownRow;
+use cheri_model::NoMemory;
+use order_texts::NumberText;
+use outcomes::ItemValue;
+use report_lines::{write_comma, write_json_value};
+use serde_json::{Map, Value, json, put};
+use shown_states::Format;
+use sinks::{Sink, WriteFault, put_whole};
+use std::alloc::Global;
+use std::fmt;
+
+/// What an item holds: a number in hexadecimal, or a status.
+#[derive(Clone, Copy)]
+struct ItemText(ItemValue);
+
+impl fmt::Display for ItemText {
+    ghost use Rattle.std.specs.Prelude.{Some};
+    ghost use Rattle.outcome_texts.specs.OutcomeTexts.{item_value_text};
+
+    ghost output = { λ i. Some (item_value_text i.0) };
+
+    fn fmt<W: fmt::Write>(&self, f: &mut fmt::Formatter<W>) -> fmt::Result {
+        match self.0 {
+            ItemValue::Number(number) => write!(f, "{}", NumberText(number)),
+            ItemValue::Running => f.write_str("running"),
+            ItemValue::Halted => f.write_str("halted"),
+            ItemValue::Trapped(cause) => write!(f, "trapped:{cause}"),
+        }
+    }
+}
+
+/// Appends what an item holds.
+fn write_item(out: &mut String, name: &str, value: ItemValue) -> Result<(), NoMemory>
+    ensures { OnOk result (string_bytes out.new ≡ string_bytes out.old
+        ++ item_part name.now value) }
+{
+    write!(out, " {name}={}", ItemText(value))
+}
+
+/// Appends what items hold.
+fn write_items(out: &mut String, names: &[&str], values: &[ItemValue]) -> Result<(), NoMemory>
+    ensures { OnOk result (string_bytes out.new ≡ string_bytes out.old
+        ++ items_text (map (λ name. name.now) names.now) values.now) }
+{
+    for place in 0..names.len().min(values.len()) {
+        write_item(out, names[place], values[place])?;
+    }
+    Ok(())
+}
+
+/// Appends the line of a row, by its number.
+fn write_row(
+    out: &mut String,
+    names: &[&str],
+    number: usize,
+    row: &ShownRow,
+) -> Result<(), NoMemory>
+    ensures { OnOk result (string_bytes out.new ≡ string_bytes out.old
+        ++ row_line (map (λ name. name.now) names.now) number row.now) }
+{
+    write!(out, "{number} states={}", row.states)?;
+    write_items(out, names, row.values.as_slice())?;
+    out.push_str(" order=")?;
+    out.push_str(row.order.as_str())?;
+    out.push_str("\n")
+}
+
+/// Appends the lines of rows.
+fn write_rows(out: &mut String, names: &[&str], rows: &[ShownRow]) -> Result<(), NoMemory>
+    ensures { OnOk result (string_bytes out.new ≡ string_bytes out.old
+        ++ numbered (row_line (map (λ name. name.now) names.now)) 0 rows.now) }
+{
+    for (number, row) in rows.iter().enumerate() {
+        write_row(out, names, number, row)?;
+    }
+    Ok(())
+}
+
+/// Appends the whole text.
+fn write_text(
+    out: &mut String,
+    head: Head<'_>,
+    outcomes: usize,
+    names: &[&str],
+    rows: &[ShownRow],
+) -> Result<(), NoMemory>
+    ensures { OnOk result (string_bytes out.new ≡ string_bytes out.old
+        ++ shown_lines head.entry.complete head.entry.image.now
+        head.entry.states head.entry.endless.now outcomes
+        (map (λ name. name.now) names.now) rows.now) }
+{
+    write_head_lines(out, head, outcomes)?;
+    writeln!(out, "shown {}", rows.len())?;
+    write_rows(out, names, rows)?;
+    out.push_str("end\n")
+}
+
+/// What an item holds, as text.
+fn item_text(alloc: Global, value: ItemValue) -> Result<String, NoMemory>
+    ensures { IfOk result (λ text. string_bytes text ≡ item_value_text value) }
+{
+    ItemText(value).to_string(alloc)
+}
+
+/// What items hold, each under its name.
+fn items_json(alloc: Global, names: &[&str], values: &[ItemValue]) -> Result<Value, NoMemory>
+    ensures { IfOk result (λ v. data_of v
+        ≡ object (put_items (map (λ name. name.now) names.now) values.now no_members)) }
+{
+    let mut members = Map::new(alloc);
+    for place in 0..names.len().min(values.len()) {
+        let text = item_text(alloc, values[place])?;
+        put(&mut members, alloc, names[place], Value::from(text))?;
+    }
+    Ok(Value::Object(members))
+}
+
+/// A row.
+fn row_json(alloc: Global, names: &[&str], row: &ShownRow) -> Result<Value, NoMemory>
+    ensures { IfOk result (λ v. data_of v
+        ≡ row_data (map (λ name. name.now) names.now) row.now) }
+{
+    let values = items_json(alloc, names, row.values.as_slice())?;
+    let states = row.states;
+    let order = row.order.clone()?;
+    json!(in alloc; {"order": order, "states": states, "values": values})
+}
+
+/// Appends a row of a list, by its number.
+fn write_row_json(
+    alloc: Global,
+    out: &mut String,
+    names: &[&str],
+    number: usize,
+    row: &ShownRow,
+) -> Result<(), NoMemory>
+    ensures { OnOk result (string_bytes out.new ≡ string_bytes out.old
+        ++ item_text (row_data (map (λ name. name.now) names.now)) number row.now) }
+{
+    write_comma(out, number > 0)?;
+    write_json_value(alloc, out, row_json(alloc, names, row)?)
+}
+
+/// Appends rows in JSON.
+fn write_rows_json(
+    alloc: Global,
+    out: &mut String,
+    names: &[&str],
+    rows: &[ShownRow],
+) -> Result<(), NoMemory>
+    ensures { OnOk result (string_bytes out.new ≡ string_bytes out.old
+        ++ numbered (item_text (row_data (map (λ name. name.now) names.now))) 0 rows.now) }
+{
+    for (number, row) in rows.iter().enumerate() {
+        write_row_json(alloc, out, names, number, row)?;
+    }
+    Ok(())
+}
+
+/// Appends the object's line.
+fn write_json(
+    alloc: Global,
+    out: &mut String,
+    head: Head<'_>,
+    names: &[&str],
+    rows: &[ShownRow],
+) -> Result<(), NoMemory>
+    ensures { OnOk result (string_bytes out.new ≡ string_bytes out.old
+        ++ shown_json head.entry.complete head.entry.image.now
+        head.entry.states head.entry.endless.now
+        (map (λ name. name.now) names.now) rows.now) }
+{
+    write_json_head(alloc, out, head)?;
+    out.push_str(",\"shown\":[")?;
+    write_rows_json(alloc, out, names, rows)?;
+    writeln!(out, "],\"states\":{}}}", head.states)
+}
+
+/// Appends outcomes as rows in a form.
+fn write_said(
+    alloc: Global,
+    format: Format,
+    out: &mut String,
+    head: Head<'_>,
+    outcomes: usize,
+    names: &[&str],
+    rows: &[ShownRow],
+) -> Result<(), NoMemory>
+    ensures { OnOk result (string_bytes out.new ≡ string_bytes out.old
+        ++ shown_whole format head.entry.complete head.entry.image.now
+        head.entry.states head.entry.endless.now outcomes
+        (map (λ name. name.now) names.now) rows.now) }
+{
+    match format {
+        Format::Text => write_text(out, head, outcomes, names, rows),
+        Format::Json => write_json(alloc, out, head, names, rows),
+    }
+}
+
+/// Writes outcomes as rows of values. After a fault the sink took a beginning of them.
+pub fn put_shown<S: Sink>(
+    alloc: Global,
+    format: Format,
+    sink: &mut S,
+    head: Head<'_>,
+    outcomes: usize,
+    names: &[&str],
+    rows: &[ShownRow],
+) -> Result<(), WriteFault>
+    ensures whole { OnOk result (Appends (S.taken sink.old) (S.taken sink.new)
+        (shown_whole format head.entry.complete head.entry.image.now
+        head.entry.states head.entry.endless.now outcomes
+        (map (λ name. name.now) names.now) rows.now)) }
+    ensures beginning { TakesBeginning (S.taken sink.old) (S.taken sink.new)
+        (shown_whole format head.entry.complete head.entry.image.now
+        head.entry.states head.entry.endless.now outcomes
+        (map (λ name. name.now) names.now) rows.now) }
+    ensures place { S.place sink.new ≡ S.place sink.old }
+{
+    let mut out = String::new(alloc);
+    write_said(alloc, format, &mut out, head, outcomes, names, rows)?;
+    put_whole(sink, out.as_bytes())?;
+    Ok(())
+}
