@@ -3,10 +3,9 @@ use Rattle.std.proofs.Common.{◌≡◌, ℕ, List, map, true, Option, Some, Non
 use Rattle.std.specs.Prelude.{IfErr, IfOk}
 use Rattle.cheri_model.specs.runs.Image.{ImageParts}
 use Rattle.command_line.specs.ExploreWords.{ExploreAsked, AskedQuestion, Find, Outcomes, Authority}
-use Rattle.conditions.specs.Conditions.{condition_of}
 use Rattle.schedules.specs.declared.ranges.SweepRange.{SweepRange}
 use Rattle.shown_states.specs.declared.form.Format.{Format}
-use Rattle.cheri_explore.specs.Questions.{IsAuthoritySaid, IsFindSaid, range_of}
+use Rattle.cheri_explore.specs.Questions.{IsAuthoritySaid, IsFindSaid, IsOutcomesSaid, range_of}
 use Rattle.command_line.specs.declared.faults.CommandFault.{CommandFault}
 use Rattle.command_line.specs.declared.faults.CommandFault.TheVariants as commands
 use Rattle.inputs.specs.Files.{KnownFiles}
@@ -91,23 +90,24 @@ asked_fails files request asked result old new is fails = rw is fails
 -- the question that was answered is the one that was asked
 pub find_asked : (image : ImageParts) (asked : ExploreAsked) (condition : List ℕ) (sweeps : List SweepRange) (states : ℕ) (format : Format)
     (answer : Answer Ending Fault) → asked.question ≡ Find condition → sweeps ≡ map range_of asked.sweeps → states ≡ asked.states
-    → format ≡ format_of asked.form → IsFindSaid image (condition_of image condition) sweeps states format answer
+    → format ≡ format_of asked.form → IsFindSaid image condition sweeps states format answer
     → IsQuestionAnswer image asked asked.question answer
 find_asked image asked condition sweeps states format answer question sweeps_are states_are format_is said =
     subst (λ (q : AskedQuestion). IsQuestionAnswer image asked q answer) (sym question)
-    (subst (λ (f : Format). IsFindSaid image (condition_of image condition) (map range_of asked.sweeps) asked.states f answer) format_is
-    (subst (λ (n : ℕ). IsFindSaid image (condition_of image condition) (map range_of asked.sweeps) n format answer) states_are
-    (subst (λ (s : List SweepRange). IsFindSaid image (condition_of image condition) s states format answer) sweeps_are said)))
+    (subst (λ (f : Format). IsFindSaid image condition (map range_of asked.sweeps) asked.states f answer) format_is
+    (subst (λ (n : ℕ). IsFindSaid image condition (map range_of asked.sweeps) n format answer) states_are
+    (subst (λ (s : List SweepRange). IsFindSaid image condition s states format answer) sweeps_are said)))
 
--- a question that is not answered
-pub outcomes_fail : (files : KnownFiles) (asked : ExploreAsked) (image : ImageParts) (show : Option (List ℕ)) (old new : Option (List ℕ))
-    → MeansImage (files asked.listing) image → asked.question ≡ Outcomes show → new ≡ old
-    → FailsBy (failure_of fault.Usage) (IsAnswer files (Some asked)) fault.Usage old new
-outcomes_fail files asked image show old new means question same = (
-  of_question files asked image means (Err fault.Usage)
-      (subst (λ (q : AskedQuestion). IsQuestionAnswer image asked q (Err fault.Usage)) (sym question) refl),
-  same,
-)
+-- the outcomes that were asked for
+pub outcomes_asked : (image : ImageParts) (asked : ExploreAsked) (show : Option (List ℕ)) (sweeps : List SweepRange) (states : ℕ)
+    (format : Format) (answer : Answer Ending Fault) → asked.question ≡ Outcomes show → sweeps ≡ map range_of asked.sweeps
+    → states ≡ asked.states → format ≡ format_of asked.form → IsOutcomesSaid image show sweeps states format answer
+    → IsQuestionAnswer image asked asked.question answer
+outcomes_asked image asked show sweeps states format answer question sweeps_are states_are format_is said =
+    subst (λ (q : AskedQuestion). IsQuestionAnswer image asked q answer) (sym question)
+    (subst (λ (f : Format). IsOutcomesSaid image show (map range_of asked.sweeps) asked.states f answer) format_is
+    (subst (λ (n : ℕ). IsOutcomesSaid image show (map range_of asked.sweeps) n format answer) states_are
+    (subst (λ (s : List SweepRange). IsOutcomesSaid image show s states format answer) sweeps_are said)))
 
 -- the rights that were asked for
 pub authority_asked : (image : ImageParts) (asked : ExploreAsked) (sweeps : List SweepRange) (states : ℕ) (format : Format)

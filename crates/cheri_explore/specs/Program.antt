@@ -6,7 +6,6 @@ use Rattle.cheri_model.specs.runs.Image.{ImageParts}
 use Rattle.command_line.specs.ExploreWords.{ExploreAsked, AskedQuestion, Find, Outcomes, Authority}
 use Rattle.command_line.specs.declared.found.ReportForm.{ReportForm}
 use Rattle.command_line.specs.declared.found.ReportForm.TheVariants as forms
-use Rattle.conditions.specs.Conditions.{condition_of}
 use Rattle.inputs.specs.Arguments.{command_words}
 use Rattle.inputs.specs.Files.{KnownFiles}
 use Rattle.inputs.specs.Reading.{OfImage}
@@ -20,7 +19,8 @@ use Rattle.sinks.specs.Sinks.{TakesBeginning}
 use Rattle.cheri_explore.specs.declared.faults.Fault.{Fault}
 use Rattle.cheri_explore.specs.declared.faults.Fault.TheVariants as fault
 use Rattle.cheri_explore.specs.Faults.{failure_of, fault_text, status_of}
-use Rattle.cheri_explore.specs.Questions.{IsAuthoritySaid, IsFindSaid, range_of}
+use Rattle.cheri_explore.specs.Questions.{IsAuthoritySaid, IsFindSaid, IsOutcomesSaid}
+use Rattle.cheri_explore.specs.Questions.{range_of}
 
 -- the command line of the words that are given after the program's name
 abbrev pub command_line : List (String Global) → List (List ℕ)
@@ -34,9 +34,10 @@ format_of forms.Json = Json
 abbrev pub IsQuestionAnswer : ImageParts → ExploreAsked → AskedQuestion → Answer Ending Fault
     → Type 0
 IsQuestionAnswer image asked (Find condition) answer =
-    IsFindSaid image (condition_of image condition) (map range_of asked.sweeps) asked.states
+    IsFindSaid image condition (map range_of asked.sweeps) asked.states
     (format_of asked.form) answer
-IsQuestionAnswer image asked (Outcomes show) answer = answer ≡ Err fault.Usage
+IsQuestionAnswer image asked (Outcomes show) answer =
+    IsOutcomesSaid image show (map range_of asked.sweeps) asked.states (format_of asked.form) answer
 IsQuestionAnswer image asked Authority answer =
     IsAuthoritySaid image (map range_of asked.sweeps) asked.states (format_of asked.form) answer
 

@@ -2,6 +2,7 @@
 //! of their steps.
 #![tactic(auto)]
 
+mod answers;
 mod faults;
 mod program;
 mod progress;

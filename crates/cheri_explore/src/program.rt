@@ -8,8 +8,9 @@ ghost use Rattle.sinks.specs.Sinks.{TakesBeginning};
 ghost use Rattle.cheri_explore.specs.Faults.{failure_of, fault_text, status_of};
 ghost use Rattle.cheri_explore.specs.Program.{Done, Failed, IsAnswer, command_line, format_of};
 
+use crate::answers::{answer_authority, answer_find, answer_outcomes};
 use crate::faults::Fault;
-use crate::questions::{Search, answer_authority, answer_find, ranges_of};
+use crate::questions::{Search, ranges_of};
 use command_line::{ExploreRequest, Question, ReportForm, explore_request};
 use graph_search::Progress;
 use inputs::{Files, command_words, read_image};
@@ -57,7 +58,7 @@ fn answer_request<F: Files, O: Write, P: Progress>(
     match request.question {
         Question::Find { condition } => answer_find(alloc, search, condition, progress, out),
         Question::Authority => answer_authority(alloc, search, progress, out),
-        Question::Outcomes { .. } => Err(Fault::Usage),
+        Question::Outcomes { show } => answer_outcomes(alloc, search, show, progress, out),
     }
 }
 
@@ -114,3 +115,6 @@ pub fn perform<F: Files, O: Write, E: Write, P: Progress>(
         Err(fault) => report_fault(err, fault),
     }
 }
+
+#[cfg(test)]
+mod tests;

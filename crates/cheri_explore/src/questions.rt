@@ -1,29 +1,25 @@
-//! The questions, each asked of the image of a listing.
+//! The questions, each of the states that the image of a listing reaches.
 
-ghost use Rattle.std.specs.Prelude.{◌≡◌, ℕ, List, ◌<◌, ◌≤◌, length, map, IfOk, IfErr, OnOk};
+ghost use Rattle.std.specs.Prelude.{◌≡◌, ℕ, List, IfOk, IfErr, map};
 ghost use Rattle.authority_texts.specs.Answers.{IsAuthorityAnswer};
-ghost use Rattle.conditions.specs.Conditions.{condition_of};
+ghost use Rattle.conditions.specs.Items.{list_of};
 ghost use Rattle.found_texts.specs.Find.{IsFindAnswer};
-ghost use Rattle.printing.specs.Endings.{HasWhole, FailsBy};
+ghost use Rattle.outcome_texts.specs.Answers.{IsListedAnswer, IsShownAnswer};
 ghost use Rattle.shown_states.specs.Endings.{IsUnwritten, IsWritten};
 ghost use Rattle.shown_states.specs.declared.form.Ending.{Ending};
-ghost use Rattle.cheri_explore.specs.Faults.{failure_of};
-ghost use Rattle.cheri_explore.specs.Questions.{IsAuthoritySaid, IsFindSaid, range_of};
+ghost use Rattle.cheri_explore.specs.Questions.{IsSearchable, range_of};
 
-use crate::faults::Fault;
 use authority_texts::authority;
 use cheri_model::{Image, NoMemory};
 use command_line::Sweep;
-use conditions::{Condition, read_condition};
+use conditions::{Condition, Items};
 use found_texts::find;
 use graph_search::Progress;
-use printing::flush;
+use outcome_texts::{list_outcomes, show_outcomes};
 use schedules::SweepRange;
 use shown_states::{Ending, Format};
-use sinks::{ToWrite, WriteFault};
-use states::MAX_SWEEPS;
+use sinks::{Sink, WriteFault};
 use std::alloc::Global;
-use std::io::Write;
 
 /// The ranges of sweeps.
 pub fn ranges_of(alloc: Global, sweeps: &[Sweep]) -> Result<Vec<SweepRange>, NoMemory>
@@ -49,118 +45,152 @@ pub struct Search<'a> {
     pub format: Format,
 }
 
-/// `find`, to a writer.
-fn find_to<O: Write, P: Progress>(
-    alloc: Global,
-    search: Search<'_>,
-    condition: &Condition,
-    progress: &mut P,
-    out: &mut O,
-) -> Result<Ending, WriteFault>
-    requires some { 0 < search.states }
-    requires few { length search.sweeps.now ≤ MAX_SWEEPS }
-    ensures written { IfOk result (λ ending. IsWritten
-        (λ text. IsFindAnswer search.entry.image.now condition.now search.entry.sweeps.now
-        search.entry.states search.entry.format text ending)
-        (O.contents out.old) (O.contents out.new)) }
-    ensures begun { IfErr result (IsUnwritten (λ text. (ending : Ending)
-        × IsFindAnswer search.entry.image.now condition.now search.entry.sweeps.now
-        search.entry.states search.entry.format text ending)
-        (O.contents out.old) (O.contents out.new)) }
-{
-    let mut sink = ToWrite::new(out);
-    let found = find(
-        alloc,
-        search.image,
-        condition,
-        search.sweeps,
-        search.states,
-        search.format,
-        progress,
-        &mut sink,
-    );
-    let writer = sink.into_writer();
-    // A last look at the writer tells the caller what it holds now.
-    let _ = &*writer;
-    found
+/// A question about the states that a search keeps.
+pub trait Question {
+    /// Whether it can be asked.
+    ghost is_askable: { Self → Type 0 };
+
+    /// Whether a text that ends so answers it.
+    ghost answers: { Self → List ℕ → Ending → Type 0 };
+
+    /// Searches the states, and writes the answer. Nothing is written before the search has ended;
+    /// after a fault of the writing the sink took a beginning of the answer.
+    fn write<P: Progress, S: Sink>(
+        &self,
+        alloc: Global,
+        progress: &mut P,
+        sink: &mut S,
+    ) -> Result<Ending, WriteFault>
+        requires { is_askable self.now }
+        ensures written { IfOk result (λ ending. IsWritten (λ text. answers self.now text ending)
+            (S.taken sink.old) (S.taken sink.new)) }
+        ensures begun { IfErr result
+            (IsUnwritten (λ text. (ending : Ending) × answers self.now text ending)
+            (S.taken sink.old) (S.taken sink.new)) }
+        ensures place { S.place sink.new ≡ S.place sink.old };
 }
 
-/// `find LISTING CONDITION`: the condition is read, and then the states are searched.
-pub fn answer_find<O: Write, P: Progress>(
-    alloc: Global,
-    search: Search<'_>,
-    condition: &str,
-    progress: &mut P,
-    out: &mut O,
-) -> Result<Ending, Fault>
-    requires some { 0 < search.states }
-    requires few { length search.sweeps.now ≤ MAX_SWEEPS }
-    ensures printed { IfOk result (λ ending. HasWhole
-        (IsFindSaid search.entry.image.now (condition_of search.entry.image.now condition.now)
-        search.entry.sweeps.now search.entry.states search.entry.format) ending
-        (O.contents out.old) (O.contents out.new)) }
-    ensures failed { IfErr result (λ fault. FailsBy (failure_of fault)
-        (IsFindSaid search.entry.image.now (condition_of search.entry.image.now condition.now)
-        search.entry.sweeps.now search.entry.states search.entry.format) fault
-        (O.contents out.old) (O.contents out.new)) }
-{
-    let condition = read_condition(alloc, search.image, condition)?;
-    let ending = find_to(alloc, search, &condition, progress, out)?;
-    flush(out)?;
-    Ok(ending)
+/// Which state is the first in which a condition holds?
+#[derive(Clone, Copy)]
+pub struct Find<'a, 'b> {
+    pub search: Search<'a>,
+    pub condition: &'b Condition,
 }
 
-/// `authority`, to a writer.
-fn authority_to<O: Write, P: Progress>(
-    alloc: Global,
-    search: Search<'_>,
-    progress: &mut P,
-    out: &mut O,
-) -> Result<Ending, WriteFault>
-    requires some { 0 < search.states }
-    requires few { length search.sweeps.now ≤ MAX_SWEEPS }
-    ensures written { IfOk result (λ ending. IsWritten
-        (λ text. IsAuthorityAnswer search.entry.image.now search.entry.sweeps.now
-        search.entry.states search.entry.format text ending)
-        (O.contents out.old) (O.contents out.new)) }
-    ensures begun { IfErr result (IsUnwritten (λ text. (ending : Ending)
-        × IsAuthorityAnswer search.entry.image.now search.entry.sweeps.now
-        search.entry.states search.entry.format text ending)
-        (O.contents out.old) (O.contents out.new)) }
-{
-    let mut sink = ToWrite::new(out);
-    let found = authority(
-        alloc,
-        search.image,
-        search.sweeps,
-        search.states,
-        search.format,
-        progress,
-        &mut sink,
-    );
-    let writer = sink.into_writer();
-    // A last look at the writer tells the caller what it holds now.
-    let _ = &*writer;
-    found
+impl<'a, 'b> Question for Find<'a, 'b> {
+    ghost is_askable = { λ q. IsSearchable q.search };
+
+    ghost answers = { λ q. IsFindAnswer q.search.image.now q.condition.now q.search.sweeps.now
+        q.search.states q.search.format };
+
+    fn write<P: Progress, S: Sink>(
+        &self,
+        alloc: Global,
+        progress: &mut P,
+        sink: &mut S,
+    ) -> Result<Ending, WriteFault> {
+        let Search {
+            image,
+            sweeps,
+            states,
+            format,
+        } = self.search;
+        find(
+            alloc,
+            image,
+            self.condition,
+            sweeps,
+            states,
+            format,
+            progress,
+            sink,
+        )
+    }
 }
 
-/// `authority LISTING`.
-pub fn answer_authority<O: Write, P: Progress>(
-    alloc: Global,
-    search: Search<'_>,
-    progress: &mut P,
-    out: &mut O,
-) -> Result<Ending, Fault>
-    requires some { 0 < search.states }
-    requires few { length search.sweeps.now ≤ MAX_SWEEPS }
-    ensures printed { IfOk result (λ ending. HasWhole
-        (IsAuthoritySaid search.entry.image.now search.entry.sweeps.now search.entry.states
-        search.entry.format) ending (O.contents out.old) (O.contents out.new)) }
-    ensures failed { IfErr result (λ fault. FailsBy (failure_of fault)
-        (IsAuthoritySaid search.entry.image.now search.entry.sweeps.now search.entry.states
-        search.entry.format) fault (O.contents out.old) (O.contents out.new)) }
-{
-    let ending = authority_to(alloc, search, progress, out)?;
-    flush(out)?;
-    Ok(ending)
+/// What are the greatest rights that each hart and memory ever hold?
+#[derive(Clone, Copy)]
+pub struct Authority<'a> {
+    pub search: Search<'a>,
+}
+
+impl<'a> Question for Authority<'a> {
+    ghost is_askable = { λ q. IsSearchable q.search };
+
+    ghost answers = { λ q. IsAuthorityAnswer q.search.image.now q.search.sweeps.now
+        q.search.states q.search.format };
+
+    fn write<P: Progress, S: Sink>(
+        &self,
+        alloc: Global,
+        progress: &mut P,
+        sink: &mut S,
+    ) -> Result<Ending, WriteFault> {
+        let Search {
+            image,
+            sweeps,
+            states,
+            format,
+        } = self.search;
+        authority(alloc, image, sweeps, states, format, progress, sink)
+    }
+}
+
+/// In which states does no hart run?
+#[derive(Clone, Copy)]
+pub struct Outcomes<'a> {
+    pub search: Search<'a>,
+}
+
+impl<'a> Question for Outcomes<'a> {
+    ghost is_askable = { λ q. IsSearchable q.search };
+
+    ghost answers = { λ q. IsListedAnswer q.search.image.now q.search.sweeps.now
+        q.search.states q.search.format };
+
+    fn write<P: Progress, S: Sink>(
+        &self,
+        alloc: Global,
+        progress: &mut P,
+        sink: &mut S,
+    ) -> Result<Ending, WriteFault> {
+        let Search {
+            image,
+            sweeps,
+            states,
+            format,
+        } = self.search;
+        list_outcomes(alloc, image, sweeps, states, format, progress, sink)
+    }
+}
+
+/// What do items hold in the states in which no hart runs?
+#[derive(Clone, Copy)]
+pub struct ShownOutcomes<'a, 'b, 'c> {
+    pub search: Search<'a>,
+    pub items: &'b Items<'c>,
+}
+
+impl<'a, 'b, 'c> Question for ShownOutcomes<'a, 'b, 'c> {
+    ghost is_askable = { λ q. IsSearchable q.search };
+
+    ghost answers = { λ q. IsShownAnswer q.search.image.now (list_of q.items.now)
+        q.search.sweeps.now q.search.states q.search.format };
+
+    fn write<P: Progress, S: Sink>(
+        &self,
+        alloc: Global,
+        progress: &mut P,
+        sink: &mut S,
+    ) -> Result<Ending, WriteFault> {
+        let Search {
+            image,
+            sweeps,
+            states,
+            format,
+        } = self.search;
+        show_outcomes(
+            alloc, image, self.items, sweeps, states, format, progress, sink,
+        )
+    }
 }
