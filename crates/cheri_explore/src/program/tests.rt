@@ -11,7 +11,7 @@ use std::process::Abort;
 use std::test::Fail;
 use std::{io, str};
 
-mod outcomes;
+mod final_states;
 
 /// Two harts that count to 1 and halt.
 const COUNTING: &str = "\
