@@ -11,13 +11,17 @@ const editor = (() => {
     let faulty = null;
     let height = 0;
 
-    const lineHeight = () => parseFloat(getComputedStyle(area).lineHeight);
+    /** How high a line is, and what is above the first. */
+    function sizes() {
+      const style = getComputedStyle(area);
+      return [style.lineHeight, style.paddingTop].map(parseFloat);
+    }
 
     /** The rows of numbers and marks that are in sight. */
     function show() {
-      height = lineHeight();
+      const [lineHeight, padding] = sizes();
+      height = lineHeight;
       const count = area.value.split("\n").length;
-      const padding = parseFloat(getComputedStyle(area).paddingTop);
       const first = Math.max(0, Math.floor((area.scrollTop - padding) / height));
       const last = Math.min(count, first + Math.ceil(area.clientHeight / height) + 2);
       const rows = [];
@@ -63,7 +67,7 @@ const editor = (() => {
       const at = lines.slice(0, line - 1).reduce((sum, text) => sum + text.length + 1, 0);
       area.focus();
       area.setSelectionRange(at, at + (lines[line - 1]?.length ?? 0));
-      area.scrollTop = Math.max(0, (line - 4) * lineHeight());
+      area.scrollTop = Math.max(0, (line - 4) * sizes()[0]);
     }
 
     area.addEventListener("scroll", show);

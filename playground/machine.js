@@ -90,12 +90,6 @@ const machine = (() => {
   /** How many bytes of memory the instance has now. */
   const memoryBytes = () => (instance ? instance.exports.memory.buffer.byteLength : 0);
 
-  /** What writes the texts that a look is put together from. */
-  const WRITERS = {
-    json: (listing, order) => call("cheri_json", [listing, order]),
-    explain: (listing, order, from, to) => call("cheri_explain", [listing, order], [from, to]),
-  };
-
   /** Whether the module has a call. */
   const has = (name) => calls()[name] !== undefined;
 
@@ -105,8 +99,7 @@ const machine = (() => {
     run: (listing, order) => call("cheri_run", [listing, order]),
     json: (listing, order) => call("cheri_json", [listing, order]),
     explain: (listing, order, from, to) => call("cheri_explain", [listing, order], [from, to]),
-    look: (listing, order, at, from, to) =>
-      looks.look(WRITERS, listing, order, at, from, to),
+    look: (listing, order, at, from, to) => call("cheri_look", [listing, order], [at, from, to]),
     bounds: (base, len) => call("cheri_bounds", [base, len]),
     decode: (word) => call("cheri_decode", [word]),
   };

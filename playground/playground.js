@@ -5,7 +5,7 @@
   const { STATUS } = machine;
 
   /** So many events are listed before and after a multiple of it near the position. */
-  const WINDOW = 100;
+  const WINDOW = 25;
   /** A listing above it is judged at once, and run a little later. */
   const LARGE_LISTING = 65_536;
   const LATER_MS = 150;
@@ -118,22 +118,39 @@
     return [Math.max(0, middle - WINDOW), middle + 2 * WINDOW - 1];
   }
 
-  /** Goes to the moment after so many operations. */
+  /**
+   * Goes to the moment after so many operations. What reads sizes, the editor and the list, is drawn
+   * first: so the browser lays the rest out once.
+   */
   function go(count) {
     if (!shown) return;
     position = Math.min(Math.max(count, 0), shown.length);
     const [from, to] = windowAt(position);
     const now = JSON.parse(look(position, from, to).text);
     const before = position > 0 ? JSON.parse(look(position - 1, 1, 0).text).state : now.state;
+    code.next(now.next);
     if (events.length === 0 || events[0].number !== from || events.length !== now.events.length) {
       events = now.events;
+      list.mark(-1);
       list.show(events, false);
     }
     const event = events.find(({ number }) => number === position - 1);
-    const changed = position > 0 ? view.differences(before, now.state) : new Map();
-    showMoment(now, event, changed);
     list.mark(events.indexOf(event));
+    showMoment(now, event, view.differences(before, now.state));
     showControls(now.state, event);
+  }
+
+  /** Draws a part of the page anew. What is drawn as before stays, and needn't be laid out again. */
+  function update(id, drawInto) {
+    const [place, drawn] = [part(id), element("div")];
+    drawInto(drawn);
+    const children = [...drawn.children];
+    children.forEach((child, index) => {
+      const old = place.children[index];
+      if (!old) place.append(child);
+      else if (!old.isEqualNode(child)) old.replaceWith(child);
+    });
+    while (place.children.length > children.length) place.lastElementChild.remove();
   }
 
   /** Draws harts, memory and the reasons of the position. */
@@ -146,9 +163,8 @@
       event?.hart === number ? "took this step" : null,
       next[number] != null ? `next is line ${next[number]}` : null,
     ].filter(Boolean).join("; ") || undefined);
-    view.showHarts(part("harts"), state, changed, image, notes);
-    view.showMemory(part("memory"), state, changed, image, focus);
-    code.next(next);
+    update("harts", (place) => view.showHarts(place, state, changed, image, notes));
+    update("memory", (place) => view.showMemory(place, state, changed, image, focus));
     part("listing-next").textContent = next.map((line, hart) => line != null && `hart ${hart}: line ${line}`)
       .filter(Boolean).join(", ").replace(/^/, "Next: ").replace(/^Next: $/, "No hart has a next instruction.");
   }

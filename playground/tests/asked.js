@@ -16,4 +16,35 @@ function differing(part) {
   }).map(({ name }) => name);
 }
 
-module.exports = { differing, isReady };
+/** The names of those runs that have a position where the module answers otherwise than the native program. */
+function differingLooks(part) {
+  const same = (one, other) => JSON.stringify(one) === JSON.stringify(other);
+  return part.filter(({ listing, order, look, facts }) => look.some((state, at) => {
+    const found = JSON.parse(machine.look(listing, order, at, 0, 4_294_967_295).text);
+    return found.at !== at || !same(found.state, state) || !same(found.events, facts.events);
+  })).map(({ name }) => name);
+}
+
+/** The milliseconds of the call for a position of a run, and until it is drawn and laid out: medians. */
+function positionTimes(listing, order) {
+  const field = (id) => document.getElementById(id);
+  const median = (work) => {
+    const times = Array.from({ length: 15 }, (_, count) => {
+      document.body.getBoundingClientRect();
+      const began = performance.now();
+      work(611 + 281 * count);
+      return performance.now() - began;
+    });
+    return times.sort((a, b) => a - b)[7];
+  };
+  field("listing").value = listing;
+  field("order").value = order;
+  field("order").dispatchEvent(new Event("input"));
+  return [median((at) => machine.look(listing, order, at, at - 100, at + 100)), median((at) => {
+    field("slider").value = at;
+    field("slider").dispatchEvent(new Event("input"));
+    document.body.getBoundingClientRect();
+  })];
+}
+
+module.exports = { differing, differingLooks, isReady, positionTimes };

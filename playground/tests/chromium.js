@@ -10,8 +10,8 @@ const os = require("node:os");
 const path = require("node:path");
 const { withBrowser } = require("../../page/browser.js");
 const { check, checkFocus, checkQuiet, checkScreens, checkTree, end } = require("../../page/checks.js");
-const { differing, isReady } = require("./asked.js");
-const { readLines, readPage, same } = require("./common.js");
+const { isReady, positionTimes } = require("./asked.js");
+const { busyListing, checkCases, readLines, readPage, same } = require("./common.js");
 
 const [page, answers, pictures] = process.argv.slice(2);
 const url = `file://${path.resolve(page)}`;
@@ -71,18 +71,6 @@ const seen = (tab) => tab.ask(() => {
     notice: textOf("notice"),
   };
 });
-
-// ------------------------------------------------------------------ the cases
-
-async function checkCases(tab) {
-  const differ = [];
-  for (let at = 0; at < cases.length; at += 20) {
-    const part = cases.slice(at, at + 20).map(({ look, facts, ...one }) => one);
-    differ.push(...await tab.ask(differing, part));
-  }
-  check(`Chromium answers ${cases.length} cases as the program does`, differ.length === 0 && cases.length > 400,
-    differ);
-}
 
 // --------------------------------------------------------------- a person's path
 
@@ -338,8 +326,11 @@ async function checkSpeed(tab) {
     machine.run(busy, "0".repeat(100_000));
     return { key: keys[0], large, run: performance.now() - start };
   });
+  const [position, drawn] = await tab.ask(positionTimes, busyListing(), "01234567".repeat(625));
+  console.log(`playground: Chromium: a position among 5,000 events, drawn and laid out: ${drawn.toFixed(1)} ms`);
   const figures = { "the page is there": [loaded, 1000], "a key in a small listing": [key, 50],
-    "a check of 1 MiB": [large, 200], "a report of 100,000 steps": [run, 500] };
+    "a check of 1 MiB": [large, 200], "a report of 100,000 steps": [run, 500],
+    "the call for a position among 5,000 events": [position, 50] };
   for (const [name, [taken, most]] of Object.entries(figures)) {
     console.log(`playground: Chromium: ${name}: ${taken.toFixed(1)} ms`);
     check(`${name} in less than ${most} ms`, taken < most, taken);
@@ -373,7 +364,7 @@ withBrowser(async (newTab) => {
   await checkScreens(tab, "playground", () => open(tab), pictures);
   await tab.screen(1280, 900, false);
   await open(tab);
-  await checkCases(tab);
+  await checkCases(tab, "Chromium", cases);
   await checkSpeed(tab);
   checkQuiet(tab, "the playground");
   await checkBanner(await newTab());

@@ -3,6 +3,8 @@
 const fs = require("node:fs");
 const path = require("node:path");
 const vm = require("node:vm");
+const { check } = require("../../page/checks.js");
+const { differing, differingLooks } = require("./asked.js");
 
 const TOP = path.resolve(__dirname, "../..");
 
@@ -32,8 +34,8 @@ function scriptsOf(names, wanted) {
   return vm.runInContext(`${text}\n({ ${wanted.join(", ")} })`, context);
 }
 
-/** The scripts of the module's calls. */
-const MACHINE = ["playground/orders.js", "playground/looks.js", "playground/machine.js"];
+/** The script of the module's calls. */
+const MACHINE = ["playground/machine.js"];
 
 /** The calls of the module, in node. */
 function machineOf(file) {
@@ -52,4 +54,36 @@ const bytesOf = (text) => Uint8Array.from(text, (one) => one.charCodeAt(0));
 
 const same = (one, other) => JSON.stringify(one) === JSON.stringify(other);
 
-module.exports = { MACHINE, TOP, bytesOf, machineOf, readLines, readPage, same, scriptsOf };
+/** Eight harts that store, load and narrow capabilities without end. */
+function busyListing(harts = 8) {
+  const lines = [];
+  for (let hart = 0; hart < harts; hart += 1) {
+    lines.push(".hart 0x10000000 24 0x10000000 execute",
+      `.set c5 cap 0x80000000 4096 ${0x80000000 + 16 * hart} load+store+load_cap+store_cap+global`);
+  }
+  lines.push("again:", "sc c5, 0(c5)", "lc c7, 0(c5)", "csetboundsimm c8, c7, 8", "addi c9, c9, 1",
+    "cjal c0, again", "");
+  return lines.join("\n");
+}
+
+/** Asks a browser's page about so many of the cases at a time, and gives the names that it answers. */
+async function namesOf(tab, what, cases, count) {
+  const names = [];
+  for (let at = 0; at < cases.length; at += count) names.push(...await tab.ask(what, cases.slice(at, at + count)));
+  return names;
+}
+
+/** In a browser: the cases, and each position of those that are looked at. */
+async function checkCases(tab, browser, cases) {
+  const differ = await namesOf(tab, differing, cases.map(({ look, facts, ...one }) => one), 20);
+  check(`${browser} answers ${cases.length} cases as the program does`, differ.length === 0 && cases.length > 400,
+    differ);
+  const looked = cases.filter(({ look }) => look).map(({ name, listing, order, look, facts }) =>
+    ({ name, listing, order, look, facts }));
+  if (looked.length === 0) return;
+  const wrong = await namesOf(tab, differingLooks, looked, 4);
+  check(`${browser} answers each position of ${looked.length} runs as the program does`,
+    wrong.length === 0 && looked.length > 40, wrong);
+}
+
+module.exports = { MACHINE, TOP, busyListing, bytesOf, checkCases, machineOf, readLines, readPage, same, scriptsOf };

@@ -6,8 +6,8 @@
 const path = require("node:path");
 const { check, checkQuiet, end } = require("../../page/checks.js");
 const { withFirefox } = require("./bidi.js");
-const { differing, isReady } = require("./asked.js");
-const { readLines, readPage } = require("./common.js");
+const { isReady } = require("./asked.js");
+const { checkCases, readLines, readPage } = require("./common.js");
 
 const [page, answers] = process.argv.slice(2);
 const url = `file://${path.resolve(page)}`;
@@ -22,16 +22,6 @@ async function open(tab, fragment = "") {
     await new Promise((resolve) => setTimeout(resolve, 10));
   }
   return performance.now() - began;
-}
-
-async function checkCases(tab) {
-  const differ = [];
-  for (let at = 0; at < cases.length; at += 20) {
-    const part = cases.slice(at, at + 20).map(({ look, facts, ...one }) => one);
-    differ.push(...await tab.ask(differing, part));
-  }
-  check(`Firefox answers ${cases.length} cases as the program does`, differ.length === 0 && cases.length > 400,
-    differ);
 }
 
 const textOf = (tab, id) => tab.ask((id) => document.getElementById(id).textContent, id);
@@ -70,6 +60,6 @@ withFirefox(async (tab) => {
   console.log(`playground: Firefox: the page is there: ${loaded.toFixed(0)} ms`);
   check("Firefox: the page is there in less than a second", loaded < 1000, loaded);
   await checkPath(tab);
-  await checkCases(tab);
+  await checkCases(tab, "Firefox", cases);
   checkQuiet({ ...tab, requests: tab.requests.filter((one) => !one.startsWith("about:")) }, "the playground in Firefox");
 }).then(() => end(), end);

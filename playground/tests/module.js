@@ -4,7 +4,7 @@
  * last 'N passed, M failed'.
  */
 "use strict";
-const { MACHINE, bytesOf, machineOf, readLines, readPage, same, scriptsOf } = require("./common.js");
+const { MACHINE, busyListing, bytesOf, machineOf, readLines, readPage, same, scriptsOf } = require("./common.js");
 const { check, end } = require("../../page/checks.js");
 
 const [page, answers] = process.argv.slice(2);
@@ -12,7 +12,6 @@ const machine = machineOf(page);
 const { STATUS } = machine;
 const cases = readLines(answers);
 const hasExplain = machine.has("cheri_explain");
-const hasLook = machine.has("cheri_look");
 const LAST = 4_294_967_295;
 
 /** The parts of an answer that are compared. */
@@ -53,9 +52,8 @@ function nextOf(state, listing) {
   });
 }
 
-/** Each position: the state of `cheri_explain --html`, its events, and the state of replay.js. */
+/** Each position: the state of `cheri_explain --html`, the program's events, and the next lines. */
 function checkLooks() {
-  const { replay } = scriptsOf(["page/draw.js", "page/view.js", "page/replay.js"], ["replay"]);
   const looked = cases.filter((one) => one.look);
   if (!cases.some((one) => one.explain)) return;
   const wrong = [];
@@ -63,26 +61,50 @@ function checkLooks() {
   for (const one of looked) {
     const texts = [one.listing, one.order];
     const { events } = one.facts;
-    const run = replay.ofRun(one.look[0], events);
     one.look.forEach((state, at) => {
       const found = JSON.parse(machine.look(...texts, at, 0, LAST).text);
       positions += 1;
-      const wanted = hasLook ? state : withoutOrigins(state);
-      if (found.at !== at || !same(sorted(found.state), sorted(wanted))) wrong.push([one.name, at, "state"]);
-      if (hasExplain && !same(sorted(found.events), sorted(events))) wrong.push([one.name, at, "events"]);
-      if (!same(sorted(run.at(at).state), sorted(state))) wrong.push([one.name, at, "replay"]);
+      if (found.at !== at || !same(sorted(found.state), sorted(state))) wrong.push([one.name, at, "state"]);
+      if (!same(sorted(found.events), sorted(events))) wrong.push([one.name, at, "events"]);
       if (!same(found.next, nextOf(state, one.listing))) wrong.push([one.name, at, "next", found.next]);
+      const near = JSON.parse(machine.look(...texts, at, at, at + 1).text);
+      if (!same(near, { ...found, events: found.events.slice(at, at + 2) })) wrong.push([one.name, at, "near"]);
     });
-    const past = JSON.parse(machine.look(...texts, LAST, 1, 0).text);
-    if (past.at !== events.length || past.events.length) wrong.push([one.name, "past the end", past.at]);
+    const past = machine.look(...texts, LAST, 1, 0);
+    const { at, events: none } = JSON.parse(past.text);
+    if (at !== events.length || none.length || past.status !== one.run.status) wrong.push([one.name, "past the end", at]);
   }
   check(`${positions} positions of ${looked.length} runs are those of the program`,
     wrong.length === 0 && looked.length > 40, wrong.slice(0, 5));
 }
 
-/** A state as a JSON report has it. */
-const withoutOrigins = (state) =>
-  JSON.parse(JSON.stringify(state, (key, value) => (key === "from" ? undefined : value)));
+/** A refused text has the fault that the other calls tell, and no object. */
+function checkRefusedLooks() {
+  const refused = cases.filter(({ run }) => run.status === STATUS.LISTING || run.status === STATUS.ORDER);
+  const wrong = refused.filter((one) =>
+    !same(partsOf(machine.look(bytesOf(one.listing), bytesOf(one.order), 0, 0, LAST)), partsOf(one.run)));
+  check(`${refused.length} refused texts have no position`, wrong.length === 0 && refused.length > 100,
+    wrong.map(({ name }) => name));
+}
+
+/** At each position of each run of the gallery the script that applies events has the module's state. */
+function checkReplay() {
+  const { replay } = scriptsOf(["page/draw.js", "page/view.js", "page/replay.js"], ["replay"]);
+  const runs = cases.filter(({ name, run }) => name.startsWith("gallery") && run.text !== "");
+  const wrong = [];
+  let positions = 0;
+  for (const { name, listing, order } of runs) {
+    const lookAt = (at) => JSON.parse(machine.look(listing, order, at, 0, LAST).text);
+    const { state, events } = lookAt(0);
+    const run = replay.ofRun(state, events);
+    for (let at = 0; at <= events.length; at += 1) {
+      positions += 1;
+      if (!same(sorted(run.at(at).state), sorted(lookAt(at).state))) wrong.push([name, at]);
+    }
+  }
+  check(`applying events comes to the module's state at ${positions} positions of ${runs.length} runs of the gallery`,
+    wrong.length === 0 && runs.length > 20, wrong.slice(0, 5));
+}
 
 /** A value with its members in the order of their names. */
 function sorted(value) {
@@ -92,18 +114,6 @@ function sorted(value) {
 }
 
 // ------------------------------------------------------------------- limits
-
-/** Eight harts that store, load and narrow capabilities without end. */
-function busyListing(harts = 8) {
-  const lines = [];
-  for (let hart = 0; hart < harts; hart += 1) {
-    lines.push(".hart 0x10000000 24 0x10000000 execute",
-      `.set c5 cap 0x80000000 4096 ${0x80000000 + 16 * hart} load+store+load_cap+store_cap+global`);
-  }
-  lines.push("again:", "sc c5, 0(c5)", "lc c7, 0(c5)", "csetboundsimm c8, c7, 8", "addi c9, c9, 1",
-    "cjal c0, again", "");
-  return lines.join("\n");
-}
 
 /** The milliseconds that a call takes: the first, and the median of some more. */
 function times(work, count = 7) {
@@ -129,7 +139,7 @@ function checkSpeed() {
     "a check of 1,048,576 bytes": [times(() => machine.check(full)), 200],
     "a check of 16,383 labelled branches": [
       times(() => machine.check(`.hart 0x10000000 4 0x10000000 execute\n${rows}`)), 200],
-    "a position among 5,000 events": [times(() => machine.look(busy, some, 2500, 2400, 2600)), hasLook ? 50 : 250],
+    "a position among 5,000 events": [times(() => machine.look(busy, some, 2500, 2400, 2600)), 50],
   };
   for (const [name, [{ first, median }, most]] of Object.entries(figures)) {
     console.log(`playground: node: ${name}: ${median.toFixed(1)} ms, the first ${first.toFixed(1)} ms`);
@@ -241,6 +251,8 @@ function checkRoom() {
 
 checkCases();
 checkLooks();
+checkRefusedLooks();
+checkReplay();
 checkRoom();
 checkLimits();
 checkLittleMemory();

@@ -2,6 +2,7 @@
 
 ghost use Rattle.std.specs.Prelude.{◌≡◌, []};
 ghost use Rattle.simulation.specs.Simulation.{json_of, report_of};
+ghost use Rattle.explained_page.specs.Look.{look_of};
 ghost use Rattle.explanations.specs.ExplainedRuns.{explained};
 ghost use Rattle.explanations.specs.declared.runs.Format.TheVariants as formats;
 ghost use Rattle.explanations.specs.declared.selection.Filter.TheVariants as filters;
@@ -11,6 +12,7 @@ ghost use Rattle.cheri_page.specs.Runs.{IsCheckTold, IsRunTold, told_by};
 use crate::answer::{Answer, tell};
 use crate::fault::Fault;
 use cores::{GREATEST_TRACE_LIMIT, StepFault};
+use explained_page::write_look;
 use explanations::{Filter, Format, Selection, explain};
 use listings::read_listing;
 use simulation::{SimFault, simulate, simulate_json};
@@ -109,5 +111,26 @@ pub extern "C" fn cheri_explain(
     };
     let mut sink = keeper(alloc);
     let ran = explain(alloc, listing, order, selection, Format::Text, &mut sink);
+    tell_run(alloc, ran, sink.bytes(), out, answer);
+}
+
+/// The run's position after `at` operations, or after all of them, as one JSON object: `at`, the
+/// state, each hart's next line, and the events of the run that are numbered from `from` to `to`.
+#[unsafe(no_mangle)]
+pub extern "C" fn cheri_look(
+    alloc: Global,
+    listing: &[u8],
+    order: &[u8],
+    at: u32,
+    from: u32,
+    to: u32,
+    out: &mut [u8],
+    answer: &mut Answer,
+)
+    ensures { Answers (IsRunTold (look_of listing.now at from to) listing.now order.now) out.old
+        out.new answer.new }
+{
+    let mut sink = keeper(alloc);
+    let ran = write_look(alloc, listing, order, at, from, to, &mut sink);
     tell_run(alloc, ran, sink.bytes(), out, answer);
 }

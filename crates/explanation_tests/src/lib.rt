@@ -1,8 +1,11 @@
-//! Tests of `explanations` by its public calls alone, as its users make them.
+//! Tests of `explanations`, and of positions by `explained_page`, by their public calls alone, as
+//! their users make them.
 #![tactic(auto)]
 
 #[cfg(test)]
 mod explaining;
+#[cfg(test)]
+mod looking;
 #[cfg(test)]
 mod lost_tags;
 #[cfg(test)]
