@@ -4,19 +4,16 @@ use Rattle.cap_model.specs.words.Fields.{with_null_fields}
 use Rattle.cap_model.specs.words.RawBounds.{region_floor}
 use Rattle.cheri_vectors.specs.Ranges.{rounded_text}
 use Rattle.cheri_vectors.specs.Words.{bounds_text, upper_with, corner_addr}
+use Rattle.cheri_vectors.specs.Vectors.{field_names, head}
 
-unfoldable pub upper : ℕ → ℕ → ℕ → ℕ
-unfolding upper_with with_null_fields
-upper ie t b = upper_with ie t b
-
-unfoldable pub address : ℕ → ℕ
-unfolding corner_addr region_floor
-address n = corner_addr n
-
-unfoldable pub bounds : ℕ → ℕ → List ℕ
-unfolding bounds_text
-bounds upper addr = bounds_text upper addr
+unfoldable pub words : ℕ → ℕ → List ℕ
+unfolding upper_with with_null_fields corner_addr region_floor bounds_text
+words upper addr = bounds_text upper addr
 
 unfoldable pub range : ℕ → ℕ → List ℕ
 unfolding rounded_text
 range base len = rounded_text base len
+
+unfoldable pub printing : List ℕ
+unfolding field_names head
+printing = head

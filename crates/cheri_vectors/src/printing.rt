@@ -1,4 +1,5 @@
 //! The text of the vectors, and its printing.
+#![tactic(auto, unfolding(crate::proofs::Open::printing))]
 
 ghost use Rattle.std.specs.Prelude.{◌≡◌, ◌++◌, IfOk, OnOk, codes, string_bytes};
 ghost use Rattle.std.specs.Io.KnownBytes.{Appends};
@@ -26,7 +27,6 @@ const ROWS: usize = BIT_ROWS
     + VALUE_ROWS;
 
 /// Appends the lines that say which fields a row of each kind has.
-#[tactic(auto, unfolding(crate::specs::Vectors::field_names))]
 fn push_field_names(out: &mut String) -> Result<(), AllocError>
     ensures { OnOk result (string_bytes out.new ≡ string_bytes out.old ++ field_names) }
 {
@@ -38,7 +38,6 @@ fn push_field_names(out: &mut String) -> Result<(), AllocError>
 }
 
 /// Appends the lines before the rows.
-#[tactic(auto, unfolding(crate::specs::Vectors::head))]
 fn push_head(out: &mut String) -> Result<(), AllocError>
     ensures { OnOk result (string_bytes out.new ≡ string_bytes out.old ++ head) }
 {

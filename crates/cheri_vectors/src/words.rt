@@ -1,4 +1,5 @@
 //! The rows of words.
+#![tactic(auto, using(cap_model::proofs::Words::RawWords::raw_top_lt), unfolding(crate::proofs::Open::words))]
 
 ghost use Rattle.std.specs.Prelude.{◌≡◌, ◌+◌, ◌*◌, ◌/◌, ◌%◌, ◌^◌, ◌<◌, ◌++◌, OnOk, string_bytes};
 ghost use Rattle.cap_model.specs.results.EditedWords.{word_of_halves};
@@ -44,7 +45,6 @@ pub fn bit_of(holds: bool) -> u8
 }
 
 /// An unsealed word with no permission and these fields of its bounds.
-#[tactic(auto, unfolding(crate::proofs::Open::upper))]
 pub fn upper_with(ie: u8, t: u32, b: u32) -> u64
     ensures { result ≡ upper_with ie t b }
 {
@@ -53,7 +53,6 @@ pub fn upper_with(ie: u8, t: u32, b: u32) -> u64
 }
 
 /// Appends a word and its bounds.
-#[tactic(auto, using(cap_model::proofs::Words::RawWords::raw_top_lt), unfolding(crate::proofs::Open::bounds))]
 fn push_bounds(out: &mut String, upper: u64, addr: u64) -> Result<(), AllocError>
     ensures { OnOk result (string_bytes out.new ≡ string_bytes out.old ++ bounds_text upper addr) }
 {
@@ -129,7 +128,6 @@ fn corner_upper(n: usize) -> u64
 }
 
 /// An address that the word is looked at with.
-#[tactic(auto, unfolding(crate::proofs::Open::address))]
 fn corner_addr(n: usize) -> u64
     requires { n < CORNER_ROWS }
     ensures { result ≡ corner_addr n }

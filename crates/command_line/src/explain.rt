@@ -1,4 +1,5 @@
 //! The command line of `cheri_explain`.
+#![tactic(auto, unfolding(crate::specs::ExplainWords::filter_named, crate::specs::ExplainWords::explain_asked_of))]
 
 ghost use Rattle.std.specs.Prelude.{◌≡◌, IfOk, codes, option_map};
 ghost use Rattle.clap.specs.Words.{app_of, first_of, found_of, rows_of};
@@ -70,7 +71,6 @@ pub(crate) fn explain_command<'a>(alloc: Global) -> Result<Command<'a>, AllocErr
 }
 
 /// The events that the words of `--only` name.
-#[tactic(auto, unfolding(crate::specs::ExplainWords::filter_named))]
 fn filter_named(words: &str) -> Option<Filter>
     ensures { result ≡ filter_named words.now }
 {
@@ -119,7 +119,6 @@ fn event_or(otherwise: u32, found: &ArgMatches<'_>, name: &str) -> Option<u32>
 }
 
 /// What the words that were found ask for.
-#[tactic(auto, unfolding(crate::specs::ExplainWords::explain_asked_of))]
 pub(crate) fn explain_of<'a>(found: &ArgMatches<'a>) -> Option<ExplainRequest<'a>>
     ensures { option_map explain_asked_by result
         ≡ explain_asked_of (rows_of (found_of found.now)) }

@@ -1,4 +1,5 @@
 //! The command line of `cheri_explore`.
+#![tactic(auto, unfolding(crate::specs::ExploreWords::question_of, crate::specs::ExploreWords::explore_asked_of))]
 
 ghost use Rattle.std.specs.Prelude.{◌≡◌, ◌≤◌, Err, IfOk, IfSome, None, Some, codes, false, length, option_and_then, option_map};
 ghost use Rattle.clap.specs.Words.{all_of, app_of, first_of, found_of, rows_of, subcommand_rows_of};
@@ -107,7 +108,6 @@ pub(crate) fn explore_command<'a>(alloc: Global) -> Result<Command<'a>, AllocErr
 }
 
 /// What the command of this name asks.
-#[tactic(auto, unfolding(crate::specs::ExploreWords::question_of))]
 fn question_of<'a>(name: &str, found: &ArgMatches<'a>) -> Option<Question<'a>>
     ensures { option_map question_asked_by result
         ≡ question_of name.now (rows_of (found_of found.now)) }
@@ -154,7 +154,6 @@ fn sweeps_found(alloc: Global, found: &ArgMatches<'_>) -> Result<Vec<Sweep>, Com
 }
 
 /// What the command of this name asks for with the words that were found.
-#[tactic(auto, unfolding(crate::specs::ExploreWords::explore_asked_of))]
 fn explore_of<'a>(
     alloc: Global,
     name: &str,

@@ -1,4 +1,5 @@
 //! Numbers in the words of a command line.
+#![tactic(auto, unfolding(crate::specs::Numbers::number_in, crate::specs::Numbers::number_of))]
 
 ghost use Rattle.std.specs.Prelude.{
   ◌≡◌,
@@ -72,7 +73,6 @@ fn is_numeral(base: u32, text: &[u8]) -> bool
 }
 
 /// The number that a text writes in a base, or the greatest of 128 bits where it is greater.
-#[tactic(auto, unfolding(crate::specs::Numbers::number_in))]
 fn number_in(base: u32, text: &[u8]) -> Option<u128>
     requires lower_bound { 2 ≤ base }
     requires upper_bound { base ≤ 36 }
@@ -87,7 +87,6 @@ fn number_in(base: u32, text: &[u8]) -> Option<u128>
 
 /// The number that a text writes, in decimal digits or as `0x` and hexadecimal ones, or the
 /// greatest of 128 bits where it is greater.
-#[tactic(auto, unfolding(crate::specs::Numbers::number_of))]
 pub(crate) fn number_written(text: &[u8]) -> Option<u128>
     ensures { result ≡ option_map (λ number. min number (2 ^ 128 - 1)) (number_of text.now) }
 {

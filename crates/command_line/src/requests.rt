@@ -1,4 +1,5 @@
 //! What a command asks for, with the words that `clap` found.
+#![tactic(auto, unfolding(crate::specs::Requests::asked_of))]
 
 ghost use Rattle.std.specs.Prelude.{◌≡◌, option_map, option_and_then, codes};
 ghost use Rattle.clap.specs.Words.{first_of, found_of, rows_of, subcommand_rows_of};
@@ -111,7 +112,6 @@ fn decode_request<'a>(found: &ArgMatches<'a>) -> Option<Request<'a>>
 }
 
 /// What a command asks for with the words that were found.
-#[tactic(auto, unfolding(crate::specs::Requests::asked_of))]
 fn request_of<'a>(name: &str, found: &ArgMatches<'a>) -> Option<Request<'a>>
     ensures { option_map asked_by result ≡ asked_of name.now (rows_of (found_of found.now)) }
 {

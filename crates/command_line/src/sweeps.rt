@@ -1,4 +1,5 @@
 //! The sweeps of a search.
+#![tactic(auto, using(crate::proofs::SweepLemmas::sweep_parts))]
 
 ghost use Rattle.std.specs.Prelude.{◌≡◌, ◌<◌, ◌≤◌, ◌==◌, ◌+◌, Err, IfOk, IfSome, None, Some, drop, length, map};
 ghost use Rattle.std.specs.List.{position};
@@ -47,7 +48,6 @@ fn after(bytes: &[u8], place: usize) -> &[u8]
 }
 
 /// The sweep that a word writes, `LO,HI`.
-#[tactic(auto, using(crate::proofs::SweepLemmas::sweep_parts))]
 fn sweep_written(word: &str) -> Option<Sweep>
     ensures { result ≡ sweep_of word.now }
 {

@@ -22,11 +22,22 @@ type_text otype =
 abbrev pub word_text : ℕ → List ℕ
 word_text bits = hex_text 16 (bits / 2 ^ 64) +++ codes "_" +++ hex_text 16 (bits % 2 ^ 64)
 
--- the bounds, the permissions in CGetPerm's form and the object type
+-- the bounds, and the permissions in CGetPerm's form
+abbrev pub bounds_text : Capability → List ℕ
+bounds_text parts =
+    hex_text 16 parts.base +++ codes " " +++ hex_text 17 parts.top +++ codes " "
+    +++ hex_text 5 parts.perms
+
+-- the same and the object type
 abbrev pub parts_text : Capability → List ℕ
 parts_text parts =
     hex_text 16 parts.base +++ codes " " +++ hex_text 17 parts.top +++ codes " "
     +++ hex_text 5 parts.perms +++ codes " " +++ type_text parts.otype
+
+-- the tag and the word of a value
+abbrev pub tagged_word_text : CapValue → List ℕ
+tagged_word_text v =
+    if tag_of v then codes "1 " +++ word_text (bits_of v) else codes "0 " +++ word_text (bits_of v)
 
 -- a value: its tag and word, and where it is tagged what the capability is
 abbrev pub value_text : CapValue → List ℕ

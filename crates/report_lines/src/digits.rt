@@ -1,6 +1,6 @@
 //! Numbers in hexadecimal.
 
-ghost use Rattle.std.specs.Prelude.{◌≡◌, ◌<◌, ◌≤◌, Some, drop};
+ghost use Rattle.std.specs.Prelude.{◌≡◌, ◌+◌, ◌<◌, ◌≤◌, ◌++◌, Some, drop, length};
 ghost use Rattle.std.specs.Fmt.{DisplaysOnOk};
 ghost use Rattle.std.specs.Char.{digit_char};
 ghost use Rattle.report_lines.specs.ValueText.{hex_text};
@@ -15,8 +15,8 @@ use std::simd::prelude::*;
 /// The most hexadecimal digits that stand together in a report: those of the top of a capability.
 pub const MOST_DIGITS: usize = 17;
 
-/// The bytes of `itoa`'s buffer.
-const BUFFER: usize = 40;
+/// The bytes of `itoa`'s buffer, into which an `Integer` is written.
+pub const BUFFER: usize = 40;
 
 /// A number's lowest hexadecimal digits in lower case, `width` of them: at most `MOST_DIGITS`.
 #[derive(Clone, Copy)]
@@ -67,7 +67,7 @@ fn hex_digit(digit: u8) -> u8
 
 /// The sixteen digits of a number of 64 bits. A vector makes all of them at once: digits that are
 /// stored one by one make the next read of them wait.
-fn word_digits(number: u64) -> [u8; 16]
+pub(crate) fn word_digits(number: u64) -> [u8; 16]
     ensures { result ≡ hex_text 16 number }
 {
     let bytes = u64x2::from_array([number, 0]).to_le_bytes();
@@ -82,12 +82,25 @@ fn word_digits(number: u64) -> [u8; 16]
 }
 
 /// The lowest digits of a number, `MOST_DIGITS` of them.
-fn most_digits(number: u128) -> [u8; MOST_DIGITS]
+pub(crate) fn most_digits(number: u128) -> [u8; MOST_DIGITS]
     ensures { result ≡ hex_text MOST_DIGITS number }
 {
     let mut digits = [hex_digit(((number >> 64) & 15) as u8); MOST_DIGITS];
     digits[1..].copy_from_slice(&word_digits((number & u128::from(u64::MAX)) as u64));
     digits
+}
+
+/// Puts a text into a buffer so that it ends at `end`, and gives where it starts. An `Integer` of
+/// several parts is written so, from its last part on, and then appended at once.
+pub fn put_before(buf: &mut [u8; BUFFER], end: usize, text: &[u8]) -> usize
+    requires within { length text.now ≤ end }
+    requires end { end ≤ 40 }
+    ensures start { result + length text.now ≡ end }
+    ensures written { drop result buf.new ≡ text.now ++ drop end buf.old }
+{
+    let start = end - text.len();
+    buf[start..end].copy_from_slice(text);
+    start
 }
 
 /// Puts the lowest digits of a number at the end of a buffer, `MOST_DIGITS` of them.

@@ -4,12 +4,20 @@ ghost use Rattle.std.specs.Prelude.{◌≡◌, ◌++◌, OnOk, Some, string_byte
 ghost use Rattle.std.specs.Fmt.{DisplaysOnOk};
 ghost use Rattle.cap_model.specs.values.CapValue.{parts_of};
 ghost use Rattle.cheri_model.specs.runs.ImageForm.{is_listed};
-ghost use Rattle.report_lines.specs.ValueText.{parts_text, type_text, value_text, word_text};
+ghost use Rattle.report_lines.specs.ValueText.{
+  bounds_text,
+  parts_text,
+  tagged_word_text,
+  type_text,
+  value_text,
+  word_text,
+};
 
-use crate::digits::{Hex, HexWord};
+use crate::digits::{BUFFER, Hex, HexWord, most_digits, put_before, word_digits};
+use bitflags::Flags;
 use cap_ops::Cap;
 use cheri_model::{NoMemory, OType, SENTRY_TYPE, UNSEALED_TYPE};
-use itoa::Buffer;
+use itoa::{Buffer, Integer};
 use std::fmt;
 
 /// Whether a value is tagged or not all 0: the others have no line in a report.
@@ -43,9 +51,47 @@ impl fmt::Display for Word {
     ghost output = { λ w. Some (word_text w.0) };
 
     fn fmt<W: fmt::Write>(&self, f: &mut fmt::Formatter<W>) -> fmt::Result {
-        let upper = HexWord((self.0 >> 64) as u64);
-        let lower = HexWord((self.0 & u128::from(u64::MAX)) as u64);
-        write!(f, "{upper}_{lower}")
+        f.write_str(Buffer::new().format(*self))
+    }
+}
+
+/// Written into `itoa`'s buffer as one piece: three pieces take twice the time to append.
+impl Integer for Word {
+    const MAX_STR_LEN: usize = 33;
+
+    ghost MAX_STR_LEN = { 33 };
+
+    ghost text = { λ w. word_text w.0 };
+
+    fn write(self, buf: &mut [u8; BUFFER]) -> usize {
+        let upper = word_digits((self.0 >> 64) as u64);
+        let lower = word_digits((self.0 & u128::from(u64::MAX)) as u64);
+        let end = put_before(buf, BUFFER, &lower);
+        let end = put_before(buf, end, b"_");
+        put_before(buf, end, &upper)
+    }
+}
+
+/// The bounds and the permissions of a value.
+#[derive(Clone, Copy)]
+struct Bounds(Cap);
+
+/// As one piece, too.
+impl Integer for Bounds {
+    const MAX_STR_LEN: usize = 40;
+
+    ghost MAX_STR_LEN = { 40 };
+
+    ghost text = { λ b. bounds_text (parts_of b.0) };
+
+    fn write(self, buf: &mut [u8; BUFFER]) -> usize {
+        let (base, top) = self.0.bounds();
+        let perms = word_digits(u64::from(self.0.perm().bits()));
+        let end = put_before(buf, BUFFER, &perms[11..]);
+        let end = put_before(buf, end, b" ");
+        let end = put_before(buf, end, &most_digits(top));
+        let end = put_before(buf, end, b" ");
+        put_before(buf, end, &word_digits(base))
     }
 }
 
@@ -82,17 +128,44 @@ impl fmt::Display for ValueText {
     }
 }
 
-/// Appends a word. A formatter takes twice the time, and an explanation has several values an event.
-fn write_word(out: &mut String, bits: u128) -> Result<(), NoMemory>
+/// The tag and the word of a value.
+#[derive(Clone, Copy)]
+struct TaggedWord(Cap);
+
+/// As one piece, too.
+impl Integer for TaggedWord {
+    const MAX_STR_LEN: usize = 35;
+
+    ghost MAX_STR_LEN = { 35 };
+
+    ghost text = { λ v. tagged_word_text v.0 };
+
+    fn write(self, buf: &mut [u8; BUFFER]) -> usize {
+        let start = Word(self.0.bits()).write(buf);
+        if self.0.tag() {
+            put_before(buf, start, b"1 ")
+        } else {
+            put_before(buf, start, b"0 ")
+        }
+    }
+}
+
+/// Appends a word as `Word` shows it.
+pub fn write_word(out: &mut String, bits: u128) -> Result<(), NoMemory>
     ensures { OnOk result (string_bytes out.new ≡ string_bytes out.old ++ word_text bits) }
 {
-    let mut digits = Buffer::new();
-    let upper = HexWord((bits >> 64) as u64);
-    let lower = HexWord((bits & u128::from(u64::MAX)) as u64);
-    out.push_str(digits.format(upper))?;
-    out.push_str("_")?;
-    out.push_str(digits.format(lower))?;
-    Ok(())
+    out.push_str(Buffer::new().format(Word(bits)))
+}
+
+/// Appends an object type as `TypeText` shows it.
+pub fn write_type(out: &mut String, otype: OType) -> Result<(), NoMemory>
+    ensures { OnOk result (string_bytes out.new ≡ string_bytes out.old ++ type_text otype) }
+{
+    match otype.number() {
+        UNSEALED_TYPE => out.push_str("unsealed"),
+        SENTRY_TYPE => out.push_str("sentry"),
+        number => out.push_str(Buffer::new().format(number)),
+    }
 }
 
 /// Appends the bounds, permissions and object type of a value.
@@ -100,29 +173,20 @@ fn write_parts(out: &mut String, value: Cap) -> Result<(), NoMemory>
     ensures { OnOk result (string_bytes out.new
         ≡ string_bytes out.old ++ parts_text (parts_of value)) }
 {
-    let mut digits = Buffer::new();
-    let (base, top) = value.bounds();
-    out.push_str(digits.format(HexWord(base)))?;
+    out.push_str(Buffer::new().format(Bounds(value)))?;
     out.push_str(" ")?;
-    out.push_str(digits.format(Hex::of_top(top)))?;
-    out.push_str(" ")?;
-    out.push_str(digits.format(Hex::of_perms(value.perm())))?;
-    write!(out, " {}", TypeText(value.object_type()))?;
-    Ok(())
+    write_type(out, value.object_type())
 }
 
-/// Appends a value, as `ValueText` shows it.
+/// Appends a value, as `ValueText` shows it. A formatter takes twice the time, and an explanation
+/// has several values an event.
 pub fn write_value(out: &mut String, value: Cap) -> Result<(), NoMemory>
     ensures { OnOk result (string_bytes out.new ≡ string_bytes out.old ++ value_text value) }
 {
+    out.push_str(Buffer::new().format(TaggedWord(value)))?;
     if value.tag() {
-        out.push_str("1 ")?;
-        write_word(out, value.bits())?;
         out.push_str(" ")?;
         write_parts(out, value)?;
-    } else {
-        out.push_str("0 ")?;
-        write_word(out, value.bits())?;
     }
     Ok(())
 }
