@@ -1,6 +1,6 @@
 //! Reports of long searches.
 
-ghost use Rattle.std.specs.Prelude.{Some};
+ghost use Rattle.std.specs.Prelude.{◌≡◌, None, Some, false};
 ghost use Rattle.cheri_explore.specs.Progress.{progress_text};
 
 use graph_search::Progress;
@@ -35,7 +35,9 @@ pub struct TerminalProgress<'a, C, E> {
 
 impl<'a, C: Clock, E: Write> TerminalProgress<'a, C, E> {
     /// Reports on `err`, which is a terminal or not.
-    pub fn new(clock: &'a C, err: E, is_terminal: bool) -> TerminalProgress<'a, C, E> {
+    pub fn new(clock: &'a C, err: E, is_terminal: bool) -> TerminalProgress<'a, C, E>
+        ensures silent { is_terminal ≡ false → result.last ≡ None }
+    {
         let last = if is_terminal {
             Instant::now(clock).ok()
         } else {

@@ -1,11 +1,11 @@
 //! Rows of one step: an instruction with its operands in c5 and c6 and its result in c7. The
 //! expected facts were worked out by hand from whole numbers.
 
-use bitflags::Flags;
 use cap_ops::Cap;
 use cheri_model::{CODE_BASE, HartImage, Image, Instr, Perms, Reg, Value};
 use facts::{Cleared, StepFacts, Trapped};
 use following::Follower;
+use samples::{ALL, Given};
 use std::alloc::Global;
 use std::process::Abort;
 use std::test::Fail;
@@ -14,42 +14,11 @@ mod losses;
 mod runs;
 mod traps;
 
-const ALL: u32 = 0x7_8fff;
-
-/// A value of a row.
-#[derive(Clone, Copy)]
-enum Given {
-    /// An integer.
-    Int(u64),
-    /// An untagged word by its upper half and its address.
-    Word(u64, u64),
-    /// The base, length, address and permission bits of an unsealed capability.
-    Open(u64, u128, u64, u32),
-    /// The same of a sentry, which has Execute.
-    Sentry(u64, u128, u64, u32),
-    /// The same and the object type of a sealed capability.
-    Sealed(u64, u128, u64, u32, u64),
-}
-
 /// The 64 bytes from 0x8000_0000 on, at the second granule, with all permissions.
 const K: Given = Given::Open(0x8000_0000, 64, 0x8000_0010, ALL);
 
 fn value(rt: &impl Abort, given: Given) -> Cap {
-    match given {
-        Given::Int(number) => Cap::of_int(number),
-        Given::Word(upper, addr) => Cap::from_word(u128::from(upper) << 64 | u128::from(addr)),
-        Given::Open(base, len, addr, bits) => made(rt, base, len, addr, bits),
-        Given::Sentry(base, len, addr, bits) => made(rt, base, len, addr, bits).seal_entry(),
-        Given::Sealed(base, len, addr, bits, otype) => {
-            let key = Cap::root(Perms::SEAL).set_addr(otype);
-            made(rt, base, len, addr, bits).seal(key)
-        }
-    }
-}
-
-/// The capability of these bounds at an address, with these permission bits.
-fn made(rt: &impl Abort, base: u64, len: u128, addr: u64, bits: u32) -> Cap {
-    Cap::make(base, len, addr, Perms::from_bits_retain(bits)).expect(rt, "it can be made")
+    given.cap().expect(rt, "it can be made")
 }
 
 /// The image of a program of one instruction, with PCC at this address and 64 bytes of RAM, in

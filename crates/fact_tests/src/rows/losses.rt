@@ -1,11 +1,12 @@
 //! Each reason for a lost tag, with its numbers.
 
-use super::{ALL, Given, K, cleared_by, operands};
+use super::{K, cleared_by, operands};
 use bitflags::Flags;
 use cheri_model::permission::{EXECUTE, LOAD_CAP, SEAL, UNSEAL};
 use cheri_model::{Instr, OType, Perms};
 use facts::{Cleared, Why};
 use origins::Spot;
+use samples::{ALL, Given};
 use std::test::Fail;
 
 const S: Spot = Spot::Register(5);

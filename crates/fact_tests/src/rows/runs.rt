@@ -1,11 +1,12 @@
 //! What is read, found, left and set, and where it is from.
 
-use super::{ALL, Given, K, facts_at, facts_of, image_of, operands, value};
+use super::{K, facts_at, facts_of, image_of, operands, value};
 use cheri_model::{CODE_BASE, Instr, Op, Trap};
 use cores::StepFault;
 use facts::{Extent, Fetched, NamedValue, TrapWhy, Trapped, UpToTwo};
 use following::Follower;
 use origins::{Place, Spot};
+use samples::{ALL, Given};
 use std::alloc::Global;
 use std::process::Abort;
 use std::test::Fail;

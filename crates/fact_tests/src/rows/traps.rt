@@ -1,10 +1,11 @@
 //! Each reason for a trap, with its numbers.
 
-use super::{ALL, Given, K, operands, trapped_by};
+use super::{K, operands, trapped_by};
 use cheri_model::permission::{CINVOKE, EXECUTE, LOAD, STORE};
 use cheri_model::{Instr, OType, Trap};
 use facts::{TrapWhy, Trapped};
 use origins::Spot;
+use samples::{ALL, Given};
 use std::test::Fail;
 
 const R: Spot = Spot::Register(5);
