@@ -222,3 +222,5 @@ module _ (first last : ℕ) (listing order : List ℕ) where
 pub ruleset listings_print = (listed_printed, listed_unflushed, listed_unprinted)
 
 pub ruleset pages_print = (page_printed, page_unflushed, page_too_long, page_unprinted)
+
+pub ruleset prints = (listings_print, pages_print)

@@ -97,3 +97,6 @@ asked_fails files request asked result old new is fails = rw is fails
 -- so they do not ask for nothing
 pub asked_something : {A : Type 0} (request : Option ExplainAsked) (asked : ExplainAsked) → request ≡ Some asked → request ≡ None → A
 asked_something request asked is none = absurd cc
+
+-- all of the program's endings
+pub ruleset endings = (answers, command_fails, fails_with)

@@ -1,4 +1,5 @@
 //! The explanation of two texts, printed in the form that was asked for.
+#![tactic(auto, using(crate::proofs::ExplainLemmas::prints))]
 
 ghost use Rattle.std.specs.Prelude.{◌≡◌, IfOk, IfErr, false};
 ghost use Rattle.std.specs.Io.KnownBytes.{Appends};
@@ -103,7 +104,6 @@ fn page_to<O: Write>(
 
 /// Prints an explanation, which is written while it is made. Answers the step that was refused, if
 /// one was.
-#[tactic(auto, using(crate::proofs::ExplainLemmas::listings_print))]
 fn print_listed<O: Write>(
     alloc: Global,
     listing: &[u8],
@@ -128,7 +128,6 @@ fn print_listed<O: Write>(
 }
 
 /// Prints a page, which is written while it is made. Answers the step that was refused, if one was.
-#[tactic(auto, using(crate::proofs::ExplainLemmas::pages_print))]
 fn print_page<O: Write>(
     alloc: Global,
     listing: &[u8],

@@ -1,4 +1,5 @@
 //! The program: explains one run, or reports why it failed.
+#![tactic(auto, using(crate::proofs::ProgramLemmas::endings))]
 
 ghost use Rattle.std.specs.Prelude.{◌≡◌, ◌≢◌, ◌≤◌, ◌⊎◌, IfErr, OnOk, Err, None, Some};
 ghost use Rattle.command_line.specs.ExplainWords.{explain_asked, explain_asked_by};
@@ -17,7 +18,6 @@ use std::alloc::Global;
 use std::io::Write;
 
 /// Explains what a request asks for.
-#[tactic(auto, using(crate::proofs::ProgramLemmas::answers))]
 fn explain<F: Files, O: Write>(
     alloc: Global,
     request: ExplainRequest<'_>,
@@ -41,7 +41,6 @@ fn explain<F: Files, O: Write>(
 }
 
 /// Does what the words ask for. The command line is judged first.
-#[tactic(auto, using(crate::proofs::ProgramLemmas::command_fails))]
 fn answer<F: Files, O: Write>(
     alloc: Global,
     words: &[String],
@@ -78,7 +77,6 @@ pub fn report_fault<E: Write>(err: &mut E, fault: Fault) -> u8
 /// fault. With status 0 `out` got the whole answer and `err` nothing. With any other status `err`
 /// gets the one line of the fault; where a step was refused, after the explanation of the steps
 /// before it. A write to `err` that fails does not change the status.
-#[tactic(auto, using(crate::proofs::ProgramLemmas::fails_with))]
 pub fn perform<F: Files, O: Write, E: Write>(
     alloc: Global,
     words: &[String],

@@ -179,3 +179,6 @@ pub fails_with : (files : KnownFiles) (request : Option Asked) (fault : Fault) (
     TakesBeginning err_now err_new (line (fault_text fault)) → FailsWith files request status old new err_old err_new
 fails_with files request fault status old new err_old err_now err_new is fails same told =
     record { fault = fault; status_is = is; is_so = fails; told = rw same at told }
+
+-- all of the program's endings
+pub ruleset endings = (check_answers, run_answers, race_answers, number_answers, command_fails, fails_with)

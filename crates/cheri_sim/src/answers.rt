@@ -1,4 +1,5 @@
 //! The line that answers what a listing means.
+#![tactic(auto, unfolding(crate::specs::Answers::check_line))]
 
 ghost use Rattle.std.specs.Prelude.{◌≡◌, IfOk, string_bytes};
 ghost use Rattle.cheri_sim.specs.Answers.{check_line};
@@ -9,7 +10,6 @@ use std::fmt;
 
 /// The line of an image: how many harts, bytes of RAM and instructions it has. Fails only when out
 /// of memory.
-#[tactic(auto, unfolding(crate::specs::Answers::check_line))]
 pub fn check_text(alloc: Global, image: &Image) -> Result<String, NoMemory>
     ensures { IfOk result (λ text. string_bytes text ≡ check_line image.now) }
 {

@@ -1,4 +1,5 @@
 //! The program: runs one command, or reports why it failed.
+#![tactic(auto, using(crate::proofs::ProgramLemmas::endings))]
 
 ghost use Rattle.std.specs.Prelude.{None, ◌≡◌, ◌≢◌, ◌≤◌, ◌⊎◌, IfOk, IfErr, OnErr, OnOk, Err, Some, false, true};
 ghost use Rattle.command_line.specs.Requests.{asked, Check, Run, Race};
@@ -26,7 +27,6 @@ use std::sync::Wait;
 use std::thread::Threads;
 
 /// `check LISTING`.
-#[tactic(auto, using(crate::proofs::ProgramLemmas::check_answers))]
 fn check<F: Files, O: Write>(
     alloc: Global,
     listing: &str,
@@ -46,7 +46,6 @@ fn check<F: Files, O: Write>(
 }
 
 /// `run LISTING --order FILE [--json]`: both files are read before either is judged.
-#[tactic(auto, using(crate::proofs::ProgramLemmas::run_answers))]
 fn run<F: Files, O: Write>(
     alloc: Global,
     listing: &str,
@@ -78,7 +77,6 @@ fn run<F: Files, O: Write>(
 
 /// `race LISTING --turns N [--watch]`: done, whatever stopped the harts. Where it is watched, `err`
 /// then gets the line of the looks.
-#[tactic(auto, using(crate::proofs::ProgramLemmas::race_answers))]
 fn race<F: Files, O: Write, E: Write, R: Threads + Wait + Sync>(
     rt: &R,
     alloc: Global,
@@ -104,7 +102,6 @@ fn race<F: Files, O: Write, E: Write, R: Threads + Wait + Sync>(
 }
 
 /// `bounds BASE LEN`.
-#[tactic(auto, using(crate::proofs::ProgramLemmas::number_answers))]
 fn bounds<O: Write>(alloc: Global, base: &str, len: &str, out: &mut O) -> Result<(), Fault>
     ensures printed { OnOk result (HasWhole (IsNumbersAnswer (range_answer base.now len.now)) None
         (O.contents out.old) (O.contents out.new)) }
@@ -117,7 +114,6 @@ fn bounds<O: Write>(alloc: Global, base: &str, len: &str, out: &mut O) -> Result
 }
 
 /// `decode WORD`.
-#[tactic(auto, using(crate::proofs::ProgramLemmas::number_answers))]
 fn decode<O: Write>(alloc: Global, word: &str, out: &mut O) -> Result<(), Fault>
     ensures printed { OnOk result (HasWhole (IsNumbersAnswer (word_answer word.now)) None
         (O.contents out.old) (O.contents out.new)) }
@@ -137,7 +133,6 @@ fn words_of<'a>(alloc: Global, words: &'a [String]) -> Result<Vec<&'a str>, Allo
 }
 
 /// Does what the words ask for. The command line is judged first.
-#[tactic(auto, using(crate::proofs::ProgramLemmas::command_fails))]
 fn answer<F: Files, O: Write, E: Write, R: Threads + Wait + Sync>(
     rt: &R,
     alloc: Global,
@@ -194,7 +189,6 @@ pub fn report_fault<E: Write>(err: &mut E, fault: Fault) -> u8
 /// most 100) or a beginning of it where a write failed. With any other status `err` gets the one
 /// line of the fault. A write to `err` that fails does not change the status. Only a race starts
 /// threads and waits.
-#[tactic(auto, using(crate::proofs::ProgramLemmas::fails_with))]
 pub fn perform<F: Files, O: Write, E: Write, R: Threads + Wait + Sync>(
     rt: &R,
     alloc: Global,

@@ -1,4 +1,5 @@
 //! The race of a listing's harts, printed.
+#![tactic(auto, using(crate::proofs::RaceLemmas::races))]
 
 ghost use Rattle.std.specs.Prelude.{◌≡◌, ◌≤◌, ◌↔◌, length, OnOk, OnErr, IfOk, IfErr, Err, None};
 ghost use Rattle.std.specs.Prelude.{false, true};
@@ -167,7 +168,6 @@ fn raced<R: Threads + Wait + Sync>(
 /// Races the harts of an image, each in up to this many turns, and prints the report of what they
 /// left. Where the race is watched, a viewer looks on, and then its looks are printed to `err`,
 /// whether the line is taken or not.
-#[tactic(auto, using(crate::proofs::RaceLemmas::races))]
 pub fn print_race<O: Write, E: Write, R: Threads + Wait + Sync>(
     rt: &R,
     alloc: Global,

@@ -1,4 +1,5 @@
 //! What is printed of a report while it is made.
+#![tactic(auto, using(crate::proofs::ReportLemmas::prints))]
 
 ghost use Rattle.std.specs.Prelude.{OnOk, IfErr};
 ghost use Rattle.std.specs.Io.KnownBytes.{Appends};
@@ -30,7 +31,6 @@ fn write_shown<O: Write>(alloc: Global, view: View<'_>, out: &mut O) -> Result<(
 }
 
 /// Writes the report of what a view shows, and flushes.
-#[tactic(auto, using(crate::proofs::ReportLemmas::prints))]
 pub fn print_report<O: Write>(alloc: Global, view: View<'_>, out: &mut O) -> Result<(), Fault>
     ensures printed { OnOk result (Appends (O.contents out.old) (O.contents out.new)
         (report view.entry.image.now view.entry.entries.now (state_of view.entry))) }

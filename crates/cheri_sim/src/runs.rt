@@ -1,4 +1,5 @@
 //! The run of two texts, printed in the form that was asked for.
+#![tactic(auto, using(crate::proofs::RunLemmas::runs))]
 
 ghost use Rattle.std.specs.Prelude.{◌≡◌, IfOk, IfErr, false, true};
 ghost use Rattle.std.specs.Io.KnownBytes.{Appends};
@@ -69,7 +70,6 @@ fn simulate_to<O: Write>(
 
 /// Runs a listing in an order, and prints its report in this form, which is written while it is
 /// made. Answers the step that was refused, if one was.
-#[tactic(auto, using(crate::proofs::RunLemmas::runs))]
 pub fn print_run<O: Write>(
     alloc: Global,
     form: ReportForm,

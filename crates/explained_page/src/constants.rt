@@ -1,4 +1,5 @@
 //! The fixed parts of a page, by functions whose clauses hide their texts from what calls them.
+#![tactic(auto, unfolding(crate::proofs::Open::constants))]
 
 ghost use Rattle.std.specs.Prelude.{◌≡◌};
 ghost use Rattle.explained_page.specs.Page.{page_head, page_state, page_listing, page_end};
@@ -6,7 +7,6 @@ ghost use Rattle.explained_page.specs.Page.{page_head, page_state, page_listing,
 use crate::page::{PAGE_END, PAGE_HEAD, PAGE_LISTING, PAGE_STATE};
 
 /// What goes before the explanation.
-#[tactic(auto, unfolding(crate::specs::Page::page_head))]
 pub(crate) fn page_head() -> &'static str
     ensures { result.now ≡ page_head }
 {
@@ -14,7 +14,6 @@ pub(crate) fn page_head() -> &'static str
 }
 
 /// What goes before the state.
-#[tactic(auto, unfolding(crate::specs::Page::page_state))]
 pub(crate) fn page_state() -> &'static str
     ensures { result.now ≡ page_state }
 {
@@ -22,7 +21,6 @@ pub(crate) fn page_state() -> &'static str
 }
 
 /// What goes before the listing.
-#[tactic(auto, unfolding(crate::specs::Page::page_listing))]
 pub(crate) fn page_listing() -> &'static str
     ensures { result.now ≡ page_listing }
 {
@@ -30,7 +28,6 @@ pub(crate) fn page_listing() -> &'static str
 }
 
 /// What goes after the listing.
-#[tactic(auto, unfolding(crate::specs::Page::page_end))]
 pub(crate) fn page_end() -> &'static str
     ensures { result.now ≡ page_end }
 {

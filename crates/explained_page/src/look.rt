@@ -1,4 +1,5 @@
 //! One position of a run, as one JSON object.
+#![tactic(auto, using(crate::proofs::LookLemmas::next_no_float), unfolding(crate::proofs::Open::look))]
 
 ghost use Rattle.std.specs.Prelude.{◌≡◌, ◌+◌, ◌≤◌, ◌++◌, OnOk, IfOk, IfErr, length, string_bytes};
 ghost use Rattle.std.specs.Prelude.{false};
@@ -50,7 +51,6 @@ fn is_in_code(count: usize, addr: u64) -> bool
 }
 
 /// The line of the instruction at an address, if one is there.
-#[tactic(auto, unfolding(crate::specs::Look::line_at))]
 fn line_at(lines: &[u32], addr: u64) -> Option<u32>
     ensures { result ≡ line_at lines.now addr }
 {
@@ -65,7 +65,6 @@ fn line_at(lines: &[u32], addr: u64) -> Option<u32>
 }
 
 /// The line of a hart's next instruction: none where the hart has stopped.
-#[tactic(auto, unfolding(crate::specs::Look::next_line))]
 fn next_line(lines: &[u32], hart: &Hart) -> Option<u32>
     ensures { result ≡ next_line lines.now hart.now }
 {
@@ -86,7 +85,6 @@ fn line_json(line: Option<u32>) -> Value
 }
 
 /// The lines of the harts' next instructions, in JSON.
-#[tactic(auto, unfolding(crate::specs::Look::next_data))]
 fn next_json(alloc: Global, lines: &[u32], follower: &Follower) -> Result<Value, NoMemory>
     ensures { IfOk result (λ v. data_of v ≡ next_data lines.now follower.now.state.harts) }
 {
@@ -99,7 +97,6 @@ fn next_json(alloc: Global, lines: &[u32], follower: &Follower) -> Result<Value,
 }
 
 /// Appends them.
-#[tactic(auto, using(crate::proofs::LookLemmas::next_no_float))]
 fn write_next(
     alloc: Global,
     out: &mut String,
@@ -113,7 +110,6 @@ fn write_next(
 }
 
 /// Appends what is before the events.
-#[tactic(auto, unfolding(crate::specs::Look::look_head))]
 fn write_head(out: &mut String, at: usize) -> Result<(), NoMemory>
     ensures { OnOk result (string_bytes out.new ≡ string_bytes out.old ++ look_head at) }
 {
@@ -147,7 +143,6 @@ fn put_selected<S: Sink>(
 }
 
 /// Appends what is after them.
-#[tactic(auto, unfolding(crate::specs::Look::look_end))]
 fn write_end(
     alloc: Global,
     out: &mut String,
@@ -196,7 +191,6 @@ fn put_look<S: Sink>(
 }
 
 /// Writes a position of what a core of a listing took.
-#[tactic(auto, unfolding(crate::specs::Look::core_look))]
 fn put_core_look<S: Sink>(
     alloc: Global,
     core: &Core,

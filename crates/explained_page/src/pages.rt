@@ -1,4 +1,5 @@
 //! The page of what a core took.
+#![tactic(auto, using(crate::proofs::PageLemmas::texts_follow), unfolding(crate::proofs::Open::page))]
 
 ghost use Rattle.std.specs.Prelude.{◌≡◌, ◌+◌, OnOk};
 ghost use Rattle.std.specs.Io.KnownBytes.{Appends};
@@ -35,7 +36,6 @@ pub(crate) fn is_too_long(first: u32, last: u32, events: usize) -> bool
 }
 
 /// Writes the page up to the end of the explanation.
-#[tactic(auto, using(crate::proofs::PageLemmas::texts_follow), unfolding(crate::specs::Page::explanation_part))]
 fn put_explanation<S: Sink>(
     alloc: Global,
     core: &Core,
@@ -96,7 +96,6 @@ fn put_listing<S: Sink>(alloc: Global, listing: &[u8], sink: &mut S) -> Result<(
 
 /// Writes the page of what a core took; `lines` has the number of each instruction's line. After a
 /// fault the sink took a beginning of it.
-#[tactic(auto, using(crate::proofs::PageLemmas::texts_follow), unfolding(crate::specs::Page::page_of))]
 pub(crate) fn put_page<S: Sink>(
     alloc: Global,
     core: &Core,

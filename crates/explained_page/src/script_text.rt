@@ -1,4 +1,5 @@
 //! A text as a JSON text that can stand in an element of a page.
+#![tactic(auto, unfolding(crate::proofs::Open::script))]
 
 ghost use Rattle.std.specs.Prelude.{◌≡◌, ◌<◌, ◌/◌, ◌%◌, ◌++◌, ◌∷◌, [], OnOk};
 ghost use Rattle.std.specs.Char.{digit_char};
@@ -46,7 +47,6 @@ fn write_control(out: &mut Vec<u8>, byte: u8) -> Result<(), NoMemory>
 }
 
 /// Appends what stands in a JSON string for a byte.
-#[tactic(auto, unfolding(crate::proofs::Open::escapes))]
 fn write_escaped(out: &mut Vec<u8>, byte: u8) -> Result<(), NoMemory>
     ensures { OnOk result (out.new.items ≡ out.old.items ++ escape_byte byte) }
 {
@@ -74,7 +74,6 @@ fn write_byte(out: &mut Vec<u8>, byte: u8) -> Result<(), NoMemory>
 }
 
 /// Appends a text as a JSON text in which `<` is written `\u003c`.
-#[tactic(auto, unfolding(crate::specs::ScriptText::script_text))]
 pub(crate) fn write_script_text(out: &mut Vec<u8>, text: &[u8]) -> Result<(), NoMemory>
     ensures { OnOk result (out.new.items ≡ out.old.items ++ script_text text.now) }
 {

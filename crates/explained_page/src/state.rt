@@ -1,4 +1,5 @@
 //! The state of a machine that is followed, in JSON.
+#![tactic(auto, using(crate::proofs::StateLemmas::state_no_float), unfolding(crate::proofs::Open::state))]
 
 ghost use Rattle.std.specs.Prelude.{◌≡◌, ◌<◌, ◌++◌, IfOk, OnOk, length, string_bytes};
 ghost use Rattle.serde_json.specs.Data.{no_members, object, array};
@@ -46,7 +47,6 @@ fn named(follower: &Follower, hart: u8, name: Spot, value: Cap) -> NamedValue
 }
 
 /// A value, and where it is tagged its origin.
-#[tactic(auto, unfolding(explanations::specs::FactData::named_data))]
 fn named_json(alloc: Global, named: NamedValue) -> Result<Value, NoMemory>
     ensures { IfOk result (λ v. data_of v ≡ named_data named) }
 {
@@ -101,7 +101,6 @@ fn registers_json(
 }
 
 /// A hart.
-#[tactic(auto, unfolding(crate::specs::State::hart_data))]
 fn hart_json(alloc: Global, follower: &Follower, number: u8, hart: &Hart) -> Result<Value, NoMemory>
     requires { number < length follower.now.state.harts }
     ensures { IfOk result (λ v. data_of v
@@ -178,7 +177,6 @@ fn granules_json(alloc: Global, follower: &Follower) -> Result<Value, NoMemory>
 
 /// The state of a machine that is followed, in JSON: `harts` and `mem` as in a report, each tagged
 /// value with its origin as `from`. Fails only when out of memory.
-#[tactic(auto, unfolding(crate::specs::State::state_data))]
 pub fn state_json(alloc: Global, follower: &Follower) -> Result<Value, NoMemory>
     ensures { IfOk result (λ v. data_of v
         ≡ state_data (origins_now follower.now) follower.now.state) }
@@ -189,7 +187,6 @@ pub fn state_json(alloc: Global, follower: &Follower) -> Result<Value, NoMemory>
 }
 
 /// Appends the state of a machine that is followed, as its compact text in JSON.
-#[tactic(auto, using(crate::proofs::StateLemmas::state_no_float))]
 pub fn write_state(alloc: Global, out: &mut String, follower: &Follower) -> Result<(), NoMemory>
     ensures { OnOk result (string_bytes out.new ≡ string_bytes out.old
         ++ compact_text (state_data (origins_now follower.now) follower.now.state)) }

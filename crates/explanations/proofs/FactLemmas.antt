@@ -6,7 +6,7 @@ use Rattle.cheri_model.specs.declared.operation.Event.{Event}
 use Rattle.cheri_model.specs.declared.operation.Event.TheVariants as event
 use Rattle.report_lines.specs.EventData.{event_members}
 use Rattle.report_lines.specs.ValueData.{count, value_members}
-use Rattle.report_lines.proofs.JsonLemmas.{put_no_float, value_no_float, event_no_float}
+use Rattle.report_lines.proofs.JsonLemmas.{put_no_float, value_no_float, event_no_float, image_no_float}
 use Rattle.origins.specs.declared.place.Place.{Place}
 use Rattle.facts.specs.declared.step_facts.NamedValue.{NamedValue}
 use Rattle.facts.specs.declared.step_facts.UpToTwo.{UpToTwo}
@@ -79,4 +79,4 @@ sweep_no_float number e places =
     clears places (put (codes "number") (count number) (event_members e))
     (put_no_float (codes "number") (count number) (event_members e) refl (event_no_float e))
 
-pub ruleset floatless = (named_no_float, step_no_float, sweep_no_float)
+pub ruleset floatless = (named_no_float, step_no_float, sweep_no_float, image_no_float)

@@ -2,6 +2,7 @@ pub mod FactLemmas
 pub mod JsonParts
 pub mod Open
 pub mod Parts
+pub mod PieceLemmas
 pub mod PlainTexts
 pub mod RunLemmas
 pub mod StepTexts

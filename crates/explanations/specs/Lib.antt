@@ -1,4 +1,5 @@
 pub mod Names
+pub mod Pieces
 pub mod Reasons
 pub mod FactLines
 pub mod FactData

@@ -1,4 +1,5 @@
 //! Facts in JSON: the members of an event, with its facts.
+#![tactic(auto, unfolding(crate::proofs::Open::in_json))]
 
 ghost use Rattle.std.specs.Prelude.{◌≡◌, ◌++◌, [], ◌∷◌, codes, map, drop, IfOk, OnOk, string_bytes};
 ghost use Rattle.serde_json.specs.Data.{Members, object, no_members, put as with_member};
@@ -44,7 +45,6 @@ fn members_of(alloc: Global, value: Value) -> Map<String, Value>
 }
 
 /// A value, and where it is tagged its origin.
-#[tactic(auto, unfolding(crate::specs::FactData::named_data))]
 fn named_json(alloc: Global, named: NamedValue) -> Result<Value, NoMemory>
     ensures { IfOk result (λ v. data_of v ≡ named_data named) }
 {
@@ -239,7 +239,6 @@ fn put_line(
 }
 
 /// A step: the members of the report's entry, its number, and its facts.
-#[tactic(auto, unfolding(crate::specs::FactData::step_data))]
 pub(crate) fn step_json(
     alloc: Global,
     lines: &[u32],
@@ -263,7 +262,6 @@ pub(crate) fn step_json(
 }
 
 /// Puts a place that a sweep cleared.
-#[tactic(auto, unfolding(crate::specs::FactData::put_swept))]
 fn put_swept(alloc: Global, members: &mut Map<String, Value>, place: Place) -> Result<(), NoMemory>
     ensures { OnOk result (members_view members.new.entries
         ≡ put_swept (place ∷ []) (members_view members.old.entries)) }
@@ -305,7 +303,6 @@ fn put_clears(
 }
 
 /// A sweep: the members of the report's entry, its number, and what it cleared.
-#[tactic(auto, unfolding(crate::specs::FactData::sweep_data))]
 pub(crate) fn sweep_json(
     alloc: Global,
     number: usize,

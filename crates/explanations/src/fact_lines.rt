@@ -1,6 +1,7 @@
 //! Facts in words, a line each.
 
-ghost use Rattle.std.specs.Prelude.{◌≡◌, ◌++◌, OnOk, Some, string_bytes};
+ghost use Rattle.std.specs.Prelude.{◌≡◌, ◌++◌, OnOk, Some, codes, string_bytes};
+ghost use Rattle.explanations.specs.Names.{spot_name};
 ghost use Rattle.explanations.specs.FactLines.{
   if_any,
   up_to_two,
@@ -22,11 +23,12 @@ ghost use Rattle.explanations.specs.FactLines.{
 
 use crate::forms::write_form;
 use crate::names::{SpotName, SweptName, write_origin, write_spot};
+use crate::pieces::{write_line_start, write_register_start};
 use crate::reasons::{write_trap_why, write_why};
 use cheri_model::{Event, NoMemory};
 use facts::{Cleared, Extent, Fetched, NamedValue, StepFacts, Trapped, UpToTwo};
 use itoa::Buffer;
-use origins::Place;
+use origins::{Place, Spot};
 use report_lines::{CauseName, HexWord, write_event, write_value};
 
 /// Appends the origin of a value, if it has one.
@@ -43,12 +45,25 @@ fn write_from(out: &mut String, origin: &Option<Place>) -> Result<(), NoMemory>
     }
 }
 
+/// Appends a place, and a space.
+fn write_name(out: &mut String, name: Spot) -> Result<(), NoMemory>
+    ensures { OnOk result (string_bytes out.new
+        ≡ string_bytes out.old ++ (spot_name name ++ codes " ")) }
+{
+    match name {
+        Spot::Register(number) => write_register_start(out, number),
+        _ => {
+            write_spot(out, name)?;
+            out.push_str(" ")
+        }
+    }
+}
+
 /// Appends a place, its value, and the value's origin.
 fn write_named(out: &mut String, named: &NamedValue) -> Result<(), NoMemory>
     ensures { OnOk result (string_bytes out.new ≡ string_bytes out.old ++ named_text named.now) }
 {
-    write_spot(out, named.name)?;
-    out.push_str(" ")?;
+    write_name(out, named.name)?;
     write_value(out, named.value)?;
     write_from(out, &named.origin)
 }
@@ -215,9 +230,7 @@ fn write_fetched(out: &mut String, lines: &[u32], fetched: Option<Fetched>) -> R
 {
     if let Some(Fetched { number, instr }) = fetched {
         let line = line_of(lines, number);
-        out.push_str(" | line ")?;
-        out.push_str(Buffer::new().format(line))?;
-        out.push_str(": ")?;
+        write_line_start(out, line)?;
         write_form(out, instr.form())?;
     }
     Ok(())

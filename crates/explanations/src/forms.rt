@@ -10,18 +10,10 @@ use crate::mnemonics::{
     branch_name, immediate_name, load_name, shift_name, store_name, three_name, two_name,
     upper_name, word_shift_name,
 };
+use crate::pieces::{Lead, write_operand};
 use cheri_model::form::Form;
 use cheri_model::{NoMemory, Reg, Target};
 use itoa::{Buffer, Integer};
-
-/// Appends a text and a register's number.
-fn write_register(out: &mut String, before: &str, register: Reg) -> Result<(), NoMemory>
-    ensures { OnOk result (string_bytes out.new
-        ≡ string_bytes out.old ++ (before.now ++ decimal register)) }
-{
-    out.push_str(before)?;
-    out.push_str(Buffer::new().format(register.number()))
-}
 
 /// Appends an instruction's name and its first register.
 fn write_first(out: &mut String, name: &str, first: Reg) -> Result<(), NoMemory>
@@ -29,7 +21,7 @@ fn write_first(out: &mut String, name: &str, first: Reg) -> Result<(), NoMemory>
         ≡ string_bytes out.old ++ (name.now ++ (codes " c" ++ decimal first))) }
 {
     out.push_str(name)?;
-    write_register(out, " c", first)
+    write_operand(out, Lead::Space, first)
 }
 
 /// Appends an instruction's name and its first two registers.
@@ -38,7 +30,7 @@ fn write_two(out: &mut String, name: &str, first: Reg, second: Reg) -> Result<()
         ++ (name.now ++ (codes " c" ++ (decimal first ++ (codes ", c" ++ decimal second))))) }
 {
     write_first(out, name, first)?;
-    write_register(out, ", c", second)
+    write_operand(out, Lead::Comma, second)
 }
 
 /// Appends an instruction on three registers.
@@ -54,7 +46,7 @@ fn write_three(
         ++ (codes ", c" ++ decimal third))))))) }
 {
     write_two(out, name, first, second)?;
-    write_register(out, ", c", third)
+    write_operand(out, Lead::Comma, third)
 }
 
 /// Appends an instruction on two registers and a number.
@@ -89,7 +81,7 @@ fn write_access(
     write_first(out, name, first)?;
     out.push_str(", ")?;
     out.push_str(Buffer::new().format(offset))?;
-    write_register(out, "(c", second)?;
+    write_operand(out, Lead::Bracket, second)?;
     out.push_str(")")
 }
 

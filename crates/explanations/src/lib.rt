@@ -9,6 +9,7 @@ mod forms;
 mod mnemonics;
 mod named_json;
 mod names;
+mod pieces;
 mod reasons;
 mod runs;
 mod selection;

@@ -23,34 +23,13 @@ ghost use Rattle.explanations.specs.JsonText.{if_there};
 
 use crate::names::write_origin;
 use cap_ops::Cap;
-use cheri_model::{NoMemory, OType, SENTRY_TYPE, UNSEALED_TYPE};
+use cheri_model::NoMemory;
 use facts::NamedValue;
 use itoa::Buffer;
 use origins::{Place, Spot};
-use report_lines::{Hex, HexWord, granule_address};
+use report_lines::{Hex, HexWord, granule_address, write_type, write_word};
 use std::alloc::Global;
 use std::cmp::Ordering;
-
-/// Appends a word.
-fn write_word(out: &mut String, bits: u128) -> Result<(), NoMemory>
-    ensures { OnOk result (string_bytes out.new ≡ string_bytes out.old ++ word_text bits) }
-{
-    let mut digits = Buffer::new();
-    out.push_str(digits.format(HexWord((bits >> 64) as u64)))?;
-    out.push_str("_")?;
-    out.push_str(digits.format(HexWord((bits & u128::from(u64::MAX)) as u64)))
-}
-
-/// Appends an object type.
-fn write_type(out: &mut String, otype: OType) -> Result<(), NoMemory>
-    ensures { OnOk result (string_bytes out.new ≡ string_bytes out.old ++ type_text otype) }
-{
-    match otype.number() {
-        UNSEALED_TYPE => out.push_str("unsealed"),
-        SENTRY_TYPE => out.push_str("sentry"),
-        number => out.push_str(Buffer::new().format(number)),
-    }
-}
 
 /// Appends the member of an origin between these texts.
 fn write_origin_member(

@@ -1,4 +1,5 @@
 //! Reasons in words: why a tag was lost, and why a step trapped.
+#![tactic(auto, unfolding(crate::proofs::Open::reasons))]
 
 ghost use Rattle.std.specs.Prelude.{◌≡◌, ◌++◌, OnOk, Some, string_bytes};
 ghost use Rattle.explanations.specs.Reasons.{permission_set, lacks, untagged, sealed, outside_region};
@@ -138,7 +139,6 @@ fn write_more(
 }
 
 /// Appends that a base is above its top.
-#[tactic(auto, unfolding(crate::specs::Reasons::why_text))]
 fn write_base_above_top(out: &mut String, base: u64, top: u128) -> Result<(), NoMemory>
     ensures { OnOk result (string_bytes out.new
         ≡ string_bytes out.old ++ why_text (Why.BaseAboveTop base top)) }
@@ -152,7 +152,6 @@ fn write_base_above_top(out: &mut String, base: u64, top: u128) -> Result<(), No
 }
 
 /// Appends why a tag was lost.
-#[tactic(auto, unfolding(crate::specs::Reasons::why_text))]
 pub(crate) fn write_why(out: &mut String, why: Why) -> Result<(), NoMemory>
     ensures { OnOk result (string_bytes out.new ≡ string_bytes out.old ++ why_text why) }
 {
@@ -246,7 +245,6 @@ pub(crate) fn write_why(out: &mut String, why: Why) -> Result<(), NoMemory>
 }
 
 /// Appends why a step trapped.
-#[tactic(auto, unfolding(crate::specs::Reasons::trap_why_text))]
 pub(crate) fn write_trap_why(out: &mut String, why: TrapWhy) -> Result<(), NoMemory>
     ensures { OnOk result (string_bytes out.new ≡ string_bytes out.old ++ trap_why_text why) }
 {

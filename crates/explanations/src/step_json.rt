@@ -1,5 +1,5 @@
 //! A step that was done as JSON text, piece by piece.
-#![tactic(auto)]
+#![tactic(auto, using(crate::proofs::FactLemmas::floatless))]
 
 ghost use Rattle.std.specs.Prelude.{◌≡◌, ◌++◌, OnOk, None, Some, codes, decimal, string_bytes};
 ghost use Rattle.std.specs.Option.{option_map};
@@ -240,7 +240,6 @@ fn write_done(
 }
 
 /// Appends a step of any kind.
-#[tactic(auto, using(crate::proofs::FactLemmas::floatless))]
 fn write_any(
     alloc: Global,
     out: &mut String,

@@ -1,4 +1,5 @@
 //! The text of an explanation.
+#![tactic(auto, unfolding(crate::proofs::Open::shown))]
 
 ghost use Rattle.std.specs.Prelude.{◌≡◌, ◌+◌, ◌++◌, OnOk, None, string_bytes};
 ghost use Rattle.std.specs.Io.KnownBytes.{Appends};
@@ -56,7 +57,6 @@ fn write_sweep(
 }
 
 /// Appends a step and its facts, if it is shown.
-#[tactic(auto, unfolding(crate::proofs::Open::shown))]
 fn write_shown_step(
     out: &mut String,
     lines: &[u32],
@@ -77,7 +77,6 @@ fn write_shown_step(
 }
 
 /// Appends a sweep and what it cleared, if it is shown.
-#[tactic(auto, unfolding(crate::proofs::Open::shown))]
 fn write_shown_sweep(
     out: &mut String,
     lines: &[u32],
@@ -198,7 +197,6 @@ fn put_events<S: Sink>(
 }
 
 /// Appends the lines before the first event.
-#[tactic(auto, unfolding(crate::specs::Explanation::head_lines))]
 fn write_head(out: &mut String, image: &Image, count: usize) -> Result<(), NoMemory>
     ensures { OnOk result (string_bytes out.new
         ≡ string_bytes out.old ++ head_lines image.now count) }

@@ -1,4 +1,5 @@
 //! An explanation in JSON, event by event.
+#![tactic(auto, using(crate::proofs::FactLemmas::floatless), unfolding(crate::proofs::Open::item))]
 
 ghost use Rattle.std.specs.Prelude.{◌≡◌, ◌+◌, ◌||◌, ◌++◌, IfOk, OnOk, None, string_bytes, false};
 ghost use Rattle.std.specs.Io.KnownBytes.{Appends};
@@ -30,7 +31,6 @@ use sinks::{PIECE, Sink, WriteFault, make_room, put_whole};
 use std::alloc::{AllocError, Global};
 
 /// Appends a step, if it is shown, and gives whether an event is there now.
-#[tactic(auto, using(crate::proofs::FactLemmas::floatless), unfolding(crate::proofs::Open::item))]
 fn write_shown_step(
     alloc: Global,
     out: &mut String,
@@ -57,7 +57,6 @@ fn write_shown_step(
 }
 
 /// Appends a sweep, if it is shown, and gives whether an event is there now.
-#[tactic(auto, using(crate::proofs::FactLemmas::floatless), unfolding(crate::proofs::Open::item))]
 fn write_shown_sweep(
     alloc: Global,
     out: &mut String,
@@ -219,7 +218,6 @@ fn write_head(out: &mut String, count: usize) -> Result<(), NoMemory>
 }
 
 /// Appends what is after the events.
-#[tactic(auto, using(report_lines::proofs::JsonLemmas::floatless))]
 fn write_end(alloc: Global, out: &mut String, image: &Image) -> Result<(), NoMemory>
     ensures { OnOk result (string_bytes out.new ≡ string_bytes out.old ++ json_end image.now) }
 {

@@ -19,7 +19,6 @@ use Rattle.origins.specs.declared.place.Spot.{Spot}
 use Rattle.origins.specs.Origins.{Origins}
 use Rattle.facts.specs.declared.operands.Operands.{Operands}
 use Rattle.facts.specs.declared.step_facts.Cleared.{Cleared}
-use Rattle.facts.specs.declared.step_facts.Fetched.{Fetched}
 use Rattle.facts.specs.declared.step_facts.NamedValue.{NamedValue}
 use Rattle.facts.specs.declared.step_facts.UpToTwo.{UpToTwo}
 use Rattle.facts.specs.declared.why.Why.{Why}
@@ -56,13 +55,9 @@ unfoldable pub traps : Option Instr → HartState → Trap → TrapWhy
 unfolding why_of_cause access_why checked_by register
 traps fetched hart trap = trap_why fetched hart trap
 
-unfoldable pub fetching : List Instr → CapValue → Option Fetched
-unfolding fetched_of
-fetching program pcc = fetched_of program pcc
-
--- what a hart names
+-- what a hart fetches, and what it names
 unfoldable pub stepping : HartState → List CapValue → Origins → ℕ → Spot → NamedValue
-unfolding named_at
+unfolding named_at fetched_of
 stepping hart memory origins number spot = named_at hart memory origins number spot
 
 -- what a sweep clears

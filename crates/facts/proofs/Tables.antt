@@ -31,6 +31,8 @@ fits_granule memory address bytes fitting = grind (arith, nat_tests)
 
 pub ruleset placed = (fits_below, fits_granule)
 
+pub ruleset tables = (spot_is_place, placed)
+
 -- flows between what a hart names are between places of its table
 pub spots_are_flows : (table : Table) (number granules : ℕ) (flows : List Flow) → IsTableFor table number granules → AreSpots granules flows → AreFlows table number flows
 spots_are_flows table number granules [] for are = tt

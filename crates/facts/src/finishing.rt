@@ -1,5 +1,5 @@
 //! The second half of a step's facts: what is there after it.
-#![tactic(auto, unfolding(crate::proofs::Open::stepping))]
+#![tactic(auto, using(crate::proofs::Tables::tables), unfolding(crate::proofs::Open::stepping))]
 
 ghost use Rattle.std.specs.Prelude.{◌≡◌, ℕ, ◌+◌, ◌^◌, ◌<◌, List, length};
 ghost use Rattle.cap_model.specs.values.CapValue.{CapValue};
@@ -145,7 +145,6 @@ fn done_facts(
 }
 
 /// The address of an access, where it is aligned and in RAM; else that of the first byte of RAM.
-#[tactic(auto, using(crate::proofs::Tables::placed))]
 fn address_in(at: Option<Extent>, ram: &Ram) -> u64
     ensures value { IsPlaced ram.now at → result ≡ address_accessed at }
     ensures below { result < ram_base + 2 ^ 20 }

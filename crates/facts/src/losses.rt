@@ -1,6 +1,6 @@
 //! Why a result has no tag: for each capability instruction the first line of its table of reasons
 //! that holds, with the numbers that it speaks of (CHERI ISA v9, the instructions' own pages).
-#![tactic(auto, unfolding(crate::proofs::Open::losses))]
+#![tactic(auto, using(crate::proofs::Numbers::numbers), unfolding(crate::proofs::Open::losses))]
 
 ghost use Rattle.std.specs.Prelude.{◌≡◌, ◌+◌, ◌%◌, ◌^◌, ◌<◌, ◌≤◌, None};
 ghost use Rattle.cap_model.specs.results.Addresses.{address_of};
@@ -27,7 +27,6 @@ use cheri_model::{LAST_SEALABLE_TYPE, Perms, SENTRY_TYPE, permission};
 use origins::Spot;
 
 /// The exponent of a length: the number of its binary digits from bit 13 on.
-#[tactic(auto, using(cap_bounds::proofs::Digits::exponent_by_zeros))]
 fn exponent_of(len: u128) -> u8
     requires { len ≤ 2 ^ 64 }
     ensures value { result ≡ exponent len }
@@ -37,7 +36,6 @@ fn exponent_of(len: u128) -> u8
 }
 
 /// An address outside the representable region of these bounds.
-#[tactic(auto, using(crate::proofs::Numbers::steps))]
 fn outside_region(base: u64, top: u128, address: u64) -> Why
     requires ordered { base ≤ top }
     requires within { top ≤ 2 ^ 64 }
@@ -54,7 +52,6 @@ fn outside_region(base: u64, top: u128, address: u64) -> Why
 }
 
 /// The permissions of a value that another lacks.
-#[tactic(auto, using(crate::proofs::Numbers::and_at_most))]
 fn lacking(value: Cap, other: Cap) -> Perms
     ensures { result ≡ lacking value other }
 {

@@ -1,5 +1,5 @@
 //! The facts of one step of a hart: what is read before it, and what is there after it.
-#![tactic(auto, unfolding(crate::proofs::Open::stepping))]
+#![tactic(auto, using(crate::proofs::Tables::tables), unfolding(crate::proofs::Open::stepping))]
 
 ghost use Rattle.std.specs.Prelude.{◌≡◌, length};
 ghost use Rattle.std.specs.Option.{option_map, ForSome};
@@ -26,7 +26,6 @@ use origins::{OriginTable, Place, Spot};
 use tagged_mem::Ram;
 
 /// The instruction at PCC, where its fetch passes, and its number.
-#[tactic(auto, unfolding(crate::proofs::Open::fetching))]
 fn fetched(program: &[Instr], pcc: Cap) -> Option<Fetched>
     ensures { result ≡ fetched_of program.now pcc }
 {
@@ -52,7 +51,6 @@ fn value_at(spot: Spot, hart: &Hart, ram: &Ram) -> Cap
 }
 
 /// The origin of what is in a place that a hart names.
-#[tactic(auto, using(crate::proofs::Tables::spot_is_place))]
 fn origin_at(spot: Spot, number: u8, granules: usize, origins: &OriginTable) -> Place
     requires spot { IsSpot granules spot }
     requires table { IsTableFor origins.now number granules }
@@ -102,7 +100,6 @@ pub fn each_named(
 }
 
 /// The granule that an access lies in, where it is aligned and in RAM.
-#[tactic(auto, using(crate::proofs::Tables::placed))]
 fn granule_in(at: Option<Extent>, ram: &Ram) -> Option<Spot>
     ensures value { IsPlaced ram.now at → result ≡ granule_accessed at }
     ensures spot { ForSome result (IsSpot (length ram.now)) }

@@ -1,0 +1,10 @@
+-- Short texts of instructions.
+use Rattle.std.specs.Prelude.{ℕ, List, codes}
+use Rattle.explanations.specs.declared.pieces.Lead.{Lead}
+use Rattle.explanations.specs.declared.pieces.Lead.TheVariants.{Space, Comma, Bracket}
+
+-- what stands before a register: the first operand, a later one, or one that has an address
+abbrev pub lead_text : Lead → List ℕ
+lead_text Space = codes " c"
+lead_text Comma = codes ", c"
+lead_text Bracket = codes "(c"
