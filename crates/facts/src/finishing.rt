@@ -21,6 +21,7 @@ ghost use Rattle.facts.specs.Stepping.{
   IsNotTrap,
   address_accessed,
 };
+ghost use Rattle.facts.specs.declared.step_facts.StepFacts.{StepFacts};
 ghost use Rattle.facts.specs.StepFacts.{
   blank_facts,
   trapped_by,
@@ -86,7 +87,7 @@ fn fetch_facts(number: u8, outcome: Outcome, after: &Hart, facts: &mut StepFacts
 /// The facts of an instruction that trapped, by the hart after it, which has the values before it.
 fn trapped_facts(seen: &Seen, number: u8, trap: Trap, after: &Hart, facts: &mut StepFacts)
     ensures { (hart : HartState) (memory : List CapValue) (from : Origins) →
-        IsSeen seen.now number hart memory from → IsStopped hart after.now →
+        IsSeen seen.now facts.old number hart memory from → IsStopped hart after.now →
         facts.new ≡ trapped_facts number hart memory from seen.now.fetched trap }
 {
     facts.entry = Entry {
@@ -95,7 +96,6 @@ fn trapped_facts(seen: &Seen, number: u8, trap: Trap, after: &Hart, facts: &mut 
         outcome: Outcome::Trap(trap),
     };
     facts.fetched = Some(seen.fetched);
-    facts.reads = seen.reads;
     facts.at = seen.at;
     facts.finds = None;
     facts.traps = Some(trapped_by(&Some(seen.fetched.instr), after, trap));
@@ -116,7 +116,7 @@ fn done_facts(
 )
     requires { IsTableFor origins.now number (length ram.now) }
     ensures { (hart : HartState) (memory : List CapValue) (from later : Origins) →
-        IsSeen seen.now number hart memory from → Tells origins.now later →
+        IsSeen seen.now facts.old number hart memory from → Tells origins.now later →
         IsPlaced memory seen.now.at → IsPlaced ram.now seen.now.at →
         facts.new ≡ done_facts number hart memory from seen.now.fetched
         (record { hart = after.now; memory = ram.now; outcome = outcome }) later }
@@ -127,9 +127,7 @@ fn done_facts(
         outcome,
     };
     facts.fetched = Some(seen.fetched);
-    facts.reads = seen.reads;
     facts.at = seen.at;
-    facts.finds = seen.found;
     facts.traps = None;
     facts.leaves = if is_store(&seen.action) {
         found_at(seen.at, number, after, ram, origins)
@@ -137,7 +135,6 @@ fn done_facts(
         None
     };
     facts.sets = each_named(sets_of(&seen.action), number, after, ram, origins);
-    facts.clears = seen.clears;
 }
 
 /// The address of an access, where it is aligned and in RAM; else that of the first byte of RAM.
@@ -169,8 +166,8 @@ fn instruction_flows(seen: &Seen, ram: &Ram) -> StepFlows
 /// The flows of a step, by what was seen before it.
 pub fn flows_of_step(seen: &Option<Seen>, outcome: Outcome, ram: &Ram) -> StepFlows
     ensures value { (program : List Instr) (number : ℕ) (hart after : HartState)
-        (memory : List CapValue) (from : Origins) →
-        IsSeenBefore seen.now program number hart memory from →
+        (memory : List CapValue) (from : Origins) (facts : StepFacts) →
+        IsSeenBefore seen.now facts program number hart memory from →
         hart_step program hart memory
         ≡ record { hart = after; memory = ram.now; outcome = outcome } →
         list_of result ≡ step_flows program hart memory }
@@ -199,7 +196,7 @@ fn instruction_facts(
 )
     requires { IsTableFor origins.now number (length ram.now) }
     ensures { (hart : HartState) (memory : List CapValue) (from later : Origins) →
-        IsSeen seen.now number hart memory from → Tells origins.now later →
+        IsSeen seen.now facts.old number hart memory from → Tells origins.now later →
         (IsNotTrap outcome → IsPlaced memory seen.now.at) →
         (IsNotTrap outcome → IsPlaced ram.now seen.now.at) →
         ((trap : Trap) → outcome ≡ Outcome.Trap trap → IsStopped hart after.now) →
@@ -227,7 +224,7 @@ pub fn after_step(
     requires { IsTableFor origins.now number (length ram.now) }
     ensures { (program : List Instr) (hart : HartState) (memory : List CapValue)
         (from later : Origins) →
-        IsSeenBefore seen.now program number hart memory from → Tells origins.now later →
+        IsSeenBefore seen.now facts.old program number hart memory from → Tells origins.now later →
         hart_step program hart memory
         ≡ record { hart = after.now; memory = ram.now; outcome = outcome } →
         facts.new ≡ facts_by (fetched_of program hart.pcc) number hart memory from

@@ -98,7 +98,7 @@ fn follow_step(core: &mut Core, origins: &mut OriginTable, number: u8, facts: &m
 {
     let hart = hart_of(core, number);
     let memory = ram_of(core);
-    let seen = before_step(program_of(core), number, hart, memory, origins);
+    let seen = before_step(program_of(core), number, hart, memory, origins, facts);
     let outcome = stepped(core, number);
     let after = hart_of(core, number);
     let now = ram_of(core);
