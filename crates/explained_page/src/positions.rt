@@ -10,6 +10,7 @@ ghost use Rattle.following.specs.Following.{origins_now};
 use cheri_model::{Entry, Event, NoMemory};
 use cores::Core;
 use explanations::follow;
+use facts::StepFacts;
 use following::{Follower, SweepFault};
 use std::alloc::{AllocError, Global};
 
@@ -19,7 +20,8 @@ fn take_step(follower: &mut Follower, hart: u8)
     ensures { refused follower.old (operation.Step hart) ≡ None
         → follower.new ≡ core_after follower.old (operation.Step hart) }
 {
-    let _ = follower.step(hart);
+    let mut facts = StepFacts::blank();
+    let _ = follower.step(hart, &mut facts);
 }
 
 /// Takes a sweep once more.

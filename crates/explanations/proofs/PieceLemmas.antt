@@ -8,7 +8,7 @@ use Rattle.std.proofs.lemmas.Str.{IsAscii-append}
 use Rattle.std.proofs.lemmas.Str.Ascii.{IsAscii-nil, IsAscii-cons}
 use Rattle.explanations.specs.declared.pieces.Lead.{Lead}
 use Rattle.explanations.specs.declared.pieces.Lead.TheVariants.{Space, Comma, Bracket}
-use Rattle.explanations.specs.Pieces.{lead_text}
+use Rattle.explanations.specs.Pieces.{from_register_text, lead_text}
 
 -- ---- lengths
 
@@ -25,6 +25,10 @@ register_length n small = omega (arith, length-append (decimal n) (32 ∷ []), b
 
 pub start_length : (n : ℕ) → n < 2 ^ 32 → length (codes " | line " ++ (decimal n ++ codes ": ")) ≤ 20
 start_length n small = omega (arith, length-append (decimal n) (58 ∷ 32 ∷ []), line_length n small)
+
+pub from_length : (hart number : ℕ) → hart < 256 → number < 256 → length (from_register_text hart number) ≤ 14
+from_length hart number small below =
+    omega (arith, length-append (decimal hart) (58 ∷ 99 ∷ decimal number), byte_length hart small, byte_length number below)
 
 -- ---- bytes
 
@@ -44,6 +48,14 @@ start_ascii n small =
     (IsAscii-cons 101 (codes " ") (omega arith) (IsAscii-cons 32 [] (omega arith) IsAscii-nil))))))))
     (number_and n (58 ∷ 32 ∷ []) (omega arith) (IsAscii-cons 58 (32 ∷ []) (omega arith) (IsAscii-cons 32 [] (omega arith) IsAscii-nil)))
 
+pub from_ascii : (hart number : ℕ) → hart < 256 → number < 256 → IsAscii (from_register_text hart number)
+from_ascii hart number small below =
+    IsAscii-append (codes " from ") (decimal hart ++ 58 ∷ 99 ∷ decimal number)
+    (IsAscii-cons 32 (codes "from ") (omega arith) (IsAscii-cons 102 (codes "rom ") (omega arith) (IsAscii-cons 114 (codes "om ") (omega arith)
+    (IsAscii-cons 111 (codes "m ") (omega arith) (IsAscii-cons 109 (codes " ") (omega arith) (IsAscii-cons 32 [] (omega arith) IsAscii-nil))))))
+    (number_and hart (58 ∷ 99 ∷ decimal number) (omega arith)
+    (IsAscii-cons 58 (99 ∷ decimal number) (omega arith) (IsAscii-cons 99 (decimal number) (omega arith) (IsAscii-decimal number (omega arith)))))
+
 lead_ascii : (lead : Lead) → IsAscii (lead_text lead)
 lead_ascii Space = IsAscii-cons 32 (99 ∷ []) (omega arith) (IsAscii-cons 99 [] (omega arith) IsAscii-nil)
 lead_ascii Comma =
@@ -61,3 +73,11 @@ before_number lead n number at end text old digits now is same long written put 
     let within : length old ≤ 40 = omega (arith, long) in
     let none : drop 40 old ≡ [] = drop_of_length-le old within in
     rw (is, put, written, none, append-nil, same) refl
+
+pub from_written : (hart number h n at middle first end : ℕ) (old b c d now : List ℕ) → h ≡ hart → n ≡ number → length old ≡ 40
+    → drop at b ≡ decimal n ++ drop 40 old → drop middle c ≡ codes ":c" ++ drop at b → drop first d ≡ decimal h ++ drop middle c
+    → drop end now ≡ codes " from " ++ drop first d → drop end now ≡ from_register_text hart number
+from_written hart number h n at middle first end old b c d now same is long one two three four =
+    let within : length old ≤ 40 = omega (arith, long) in
+    let none : drop 40 old ≡ [] = drop_of_length-le old within in
+    rw (four, three, two, one, none, append-nil, same, is) refl

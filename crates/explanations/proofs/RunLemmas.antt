@@ -23,7 +23,7 @@ use Rattle.cores.specs.declared.faults.StepFault.TheVariants.{NoSuchHart, TraceF
 use Rattle.cores.specs.Cores.{CoreParts, opening_core, refused, core_after, unless_refused, unless_kept, applied}
 use Rattle.cores.specs.declared.faults.StepFault.{StepFault}
 use Rattle.facts.specs.declared.step_facts.StepFacts.{StepFacts}
-use Rattle.following.specs.Following.{answered_facts, next_facts as next_step_facts}
+use Rattle.following.specs.Following.{next_facts as next_step_facts}
 use Rattle.explanations.specs.Explanation.{Explained, explained_events}
 use Rattle.explanations.specs.NextFacts.{next_facts}
 
@@ -211,14 +211,10 @@ pub sweep_answered : (core : CoreParts) (lo hi : ℕ) (places : List Place) → 
 unfolding facts_of
 sweep_answered core lo hi places is = ap sweep is
 
-pub step_answered : (core : CoreParts) (hart : ℕ) (facts : StepFacts) → ◌≡◌ {A = Result StepFacts StepFault} (Ok facts) (answered_facts core hart)
-    → refused core (operation.Step hart) ≡ None → step facts ≡ next_facts core (operation.Step hart)
+pub step_answered : (core : CoreParts) (hart : ℕ) (facts : StepFacts) → facts ≡ next_step_facts core hart
+    → step facts ≡ next_facts core (operation.Step hart)
 unfolding facts_of
-step_answered core hart facts is none =
-    let made : ◌≡◌ {A = Result StepFacts StepFault} (Ok facts) (Ok (next_step_facts core hart)) =
-    is ∙ ap (λ r. unless_refused r (next_step_facts core hart)) none in
-    let same : facts ≡ next_step_facts core hart = cc in
-    ap step same
+step_answered core hart facts is = ap step is
 
 pub step_applied : (core after : CoreParts) (op : Op) → after ≡ applied core op → refused core op ≡ None → after ≡ core_after core op
 unfolding applied

@@ -23,7 +23,7 @@ ghost use Rattle.explanations.specs.FactLines.{
 
 use crate::forms::write_form;
 use crate::names::{SpotName, SweptName, write_origin, write_spot};
-use crate::pieces::{write_line_start, write_register_start};
+use crate::pieces::{write_from_register, write_line_start, write_register_start};
 use crate::reasons::{write_trap_why, write_why};
 use cheri_model::{Event, NoMemory};
 use facts::{Cleared, Extent, Fetched, NamedValue, StepFacts, Trapped, UpToTwo};
@@ -37,6 +37,7 @@ fn write_from(out: &mut String, origin: &Option<Place>) -> Result<(), NoMemory>
         ≡ string_bytes out.old ++ if_any from_text origin.now) }
 {
     match origin {
+        Some(Place::RegisterOf { hart, number }) => write_from_register(out, *hart, *number),
         Some(place) => {
             out.push_str(" from ")?;
             write_origin(out, *place)

@@ -3,7 +3,7 @@
 #![tactic(auto, using(crate::proofs::PieceLemmas::pieces))]
 
 ghost use Rattle.std.specs.Prelude.{◌≡◌, ◌++◌, OnOk, codes, decimal, string_bytes};
-ghost use Rattle.explanations.specs.Pieces.{lead_text};
+ghost use Rattle.explanations.specs.Pieces.{from_register_text, lead_text};
 
 use cheri_model::{NoMemory, Reg};
 use itoa::{Buffer, Integer, write_digits};
@@ -80,6 +80,28 @@ impl Integer for LineStart {
     }
 }
 
+/// Where a value comes from that was in a register of the image.
+#[derive(Clone, Copy)]
+struct FromRegister {
+    hart: u8,
+    number: u8,
+}
+
+impl Integer for FromRegister {
+    const MAX_STR_LEN: usize = 14;
+
+    ghost MAX_STR_LEN = { 14 };
+
+    ghost text = { λ r. from_register_text r.hart r.number };
+
+    fn write(self, buf: &mut [u8; BUFFER]) -> usize {
+        let number = write_digits(u64::from(self.number), buf, BUFFER);
+        let end = put_before(buf, number, b":c");
+        let hart = write_digits(u64::from(self.hart), buf, end);
+        put_before(buf, hart, b" from ")
+    }
+}
+
 /// Appends a register of an instruction, after what stands before it.
 pub(crate) fn write_operand(out: &mut String, lead: Lead, register: Reg) -> Result<(), NoMemory>
     ensures { OnOk result (string_bytes out.new
@@ -94,6 +116,14 @@ pub(crate) fn write_register_start(out: &mut String, number: u8) -> Result<(), N
         ≡ string_bytes out.old ++ (codes "c" ++ (decimal number ++ codes " "))) }
 {
     out.push_str(Buffer::new().format(RegisterStart(number)))
+}
+
+/// Appends where a value comes from that was in a register of the image.
+pub(crate) fn write_from_register(out: &mut String, hart: u8, number: u8) -> Result<(), NoMemory>
+    ensures { OnOk result (string_bytes out.new
+        ≡ string_bytes out.old ++ from_register_text hart number) }
+{
+    out.push_str(Buffer::new().format(FromRegister { hart, number }))
 }
 
 /// Appends what stands before an instruction: the number of its line.

@@ -102,6 +102,7 @@ fn write_next_step(
     selection: Selection,
     number: usize,
     follower: &mut Follower,
+    facts: &mut StepFacts,
     event: &Event,
     hart: u8,
 ) -> Result<(), NoMemory>
@@ -111,8 +112,8 @@ fn write_next_step(
     ensures after { OnOk result (refused follower.old (operation.Step hart) ≡ None
         → follower.new ≡ core_after follower.old (operation.Step hart)) }
 {
-    match follower.step(hart) {
-        Ok(facts) => write_shown_step(out, lines, selection, number, event, &facts),
+    match follower.step(hart, facts) {
+        Ok(()) => write_shown_step(out, lines, selection, number, event, facts),
         Err(_) => Ok(()),
     }
 }
@@ -150,6 +151,7 @@ fn write_next(
     selection: Selection,
     number: usize,
     follower: &mut Follower,
+    facts: &mut StepFacts,
     event: &Event,
 ) -> Result<(), NoMemory>
     ensures text { OnOk result (refused follower.old (operation_of event.now) ≡ None
@@ -160,7 +162,7 @@ fn write_next(
 {
     match event {
         Event::Step(Entry { hart, .. }) => {
-            write_next_step(out, lines, selection, number, follower, event, *hart)
+            write_next_step(out, lines, selection, number, follower, facts, event, *hart)
         }
         Event::Sweep { lo, hi, .. } => {
             write_next_sweep(
@@ -189,8 +191,9 @@ fn put_events<S: Sink>(
 {
     let view = core.view();
     let mut follower = follow(alloc, core)?;
+    let mut facts = StepFacts::blank();
     for (number, event) in view.entries.iter().enumerate() {
-        write_next(alloc, out, lines, selection, number, &mut follower, event)?;
+        write_next(alloc, out, lines, selection, number, &mut follower, &mut facts, event)?;
         make_room(out, sink)?;
     }
     Ok(())

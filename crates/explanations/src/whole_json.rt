@@ -90,6 +90,7 @@ fn write_next_step(
     later: bool,
     number: usize,
     follower: &mut Follower,
+    facts: &mut StepFacts,
     event: &Event,
     hart: u8,
 ) -> Result<bool, NoMemory>
@@ -102,9 +103,9 @@ fn write_next_step(
     ensures after { OnOk result (refused follower.old (operation.Step hart) ≡ None
         → follower.new ≡ core_after follower.old (operation.Step hart)) }
 {
-    match follower.step(hart) {
-        Ok(facts) => {
-            write_shown_step(alloc, out, lines, selection, later, number, event, &facts)
+    match follower.step(hart, facts) {
+        Ok(()) => {
+            write_shown_step(alloc, out, lines, selection, later, number, event, facts)
         }
         Err(_) => Ok(later),
     }
@@ -150,6 +151,7 @@ fn write_next(
     later: bool,
     number: usize,
     follower: &mut Follower,
+    facts: &mut StepFacts,
     event: &Event,
 ) -> Result<bool, NoMemory>
     ensures item { OnOk result (refused follower.old (operation_of event.now) ≡ None
@@ -163,7 +165,7 @@ fn write_next(
 {
     match event {
         Event::Step(Entry { hart, .. }) => write_next_step(
-            alloc, out, lines, selection, later, number, follower, event, *hart,
+            alloc, out, lines, selection, later, number, follower, facts, event, *hart,
         ),
         Event::Sweep { lo, hi, .. } => write_next_sweep(
             alloc, out, lines, selection, later, number, follower, event, *lo, *hi,
@@ -192,6 +194,7 @@ pub fn put_events<S: Sink>(
 {
     let view = core.view();
     let mut follower = follow(alloc, core)?;
+    let mut facts = StepFacts::blank();
     let mut later = false;
     for (number, event) in view.entries.iter().enumerate() {
         later = write_next(
@@ -202,6 +205,7 @@ pub fn put_events<S: Sink>(
             later,
             number,
             &mut follower,
+            &mut facts,
             event,
         )?;
         make_room(out, sink)?;

@@ -74,10 +74,10 @@ pub record IsPlacedStep (seen : Seen) (memory after : List CapValue) : Type 0 wh
   pub before : IsPlaced memory seen.at
   pub later : IsPlaced after seen.at
 
-pub seen_placed : (seen : Seen) (program : List Instr) (number : ℕ) (hart : HartState) (memory : List CapValue) (from : Origins) (after : Stepped) →
-    IsSeenBefore (Some seen) program number hart memory from → hart_step program hart memory ≡ after → IsNotTrap after.outcome →
+pub seen_placed : (seen : Seen) (facts : StepFacts) (program : List Instr) (number : ℕ) (hart : HartState) (memory : List CapValue) (from : Origins) (after : Stepped) →
+    IsSeenBefore (Some seen) facts program number hart memory from → hart_step program hart memory ≡ after → IsNotTrap after.outcome →
     IsPlacedStep seen memory after.memory
-seen_placed seen program number hart memory from after before is done =
+seen_placed seen facts program number hart memory from after before is done =
     let act = action seen.fetched.instr hart in
     let does : execute act hart memory ≡ after = sym (step_executes program hart memory seen.fetched before.0) ∙ is in
     let same : seen.at ≡ access_of act = before.1.at in
@@ -87,11 +87,11 @@ seen_placed seen program number hart memory from after before is done =
     record { before = placed; later = placed_same memory after.memory seen.at size placed }
 
 -- the flows of a step that is done are those of the instruction that was seen
-pub seen_flows : (seen : Seen) (program : List Instr) (number : ℕ) (hart : HartState) (memory : List CapValue) (from : Origins) →
-    IsSeenBefore (Some seen) program number hart memory from → (hart_step program hart memory).outcome ≡ outcome.Done →
+pub seen_flows : (seen : Seen) (facts : StepFacts) (program : List Instr) (number : ℕ) (hart : HartState) (memory : List CapValue) (from : Origins) →
+    IsSeenBefore (Some seen) facts program number hart memory from → (hart_step program hart memory).outcome ≡ outcome.Done →
     flows_at seen.fetched.instr (address_accessed seen.at) ≡ step_flows program hart memory
 unfolding step_flows
-seen_flows seen program number hart memory from before done =
+seen_flows seen facts program number hart memory from before done =
     let instr : seen.fetched.instr ≡ instruction_at program (address_of hart.pcc) = (fetch_is program hart.pcc seen.fetched before.0).instr in
     let at : seen.at ≡ access_of (action seen.fetched.instr hart) = before.1.at in
     ap (λ a. flows_at seen.fetched.instr (address_accessed a)) at

@@ -77,6 +77,20 @@ granule_stored act = if is_store act then granule_accessed (access_of act) else 
 abbrev pub entry : ℕ → HartState → Outcome → Entry
 entry number hart result = record { hart = number; pc = address_of hart.pcc; outcome = result }
 
+-- facts of a step that did nothing, which are still to be filled in
+abbrev pub blank_facts : StepFacts
+blank_facts = record {
+  entry = record { hart = 0; pc = 0; outcome = outcome.Done };
+  fetched = None;
+  reads = Zero;
+  at = None;
+  finds = None;
+  traps = None;
+  leaves = None;
+  sets = Zero;
+  clears = None;
+}
+
 -- the facts of a step whose fetch trapped
 abbrev pub fetch_facts : ℕ → HartState → Outcome → StepFacts
 fetch_facts number hart result =

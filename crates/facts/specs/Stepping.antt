@@ -15,6 +15,7 @@ use Rattle.origins.specs.declared.place.Place.{Place}
 use Rattle.origins.specs.Origins.{Origins}
 use Rattle.origins.specs.Table.{Table, IsPlace, origin_in}
 use Rattle.facts.specs.declared.step_facts.Extent.{Extent}
+use Rattle.facts.specs.declared.step_facts.StepFacts.{StepFacts}
 use Rattle.facts.specs.declared.stepping.Seen.{Seen}
 use Rattle.facts.specs.Names.{each_of, reads_of, access_of}
 use Rattle.facts.specs.Losses.{clears_of}
@@ -34,17 +35,17 @@ abbrev pub IsPlaced : List CapValue → Option Extent → Type 0
 IsPlaced memory None = ⊤
 IsPlaced memory (Some bytes) = fits memory bytes.address bytes.bytes ≡ true
 
--- what was seen of an instruction before its step
-pub record IsSeen (seen : Seen) (number : ℕ) (hart : HartState) (memory : List CapValue)
-    (origins : Origins) : Type 0 where
+-- what was seen of an instruction before its step, and the facts that are known by then
+pub record IsSeen (seen : Seen) (facts : StepFacts) (number : ℕ) (hart : HartState)
+    (memory : List CapValue) (origins : Origins) : Type 0 where
   pub pc : seen.pc ≡ address_of hart.pcc
   pub asked : action_of seen.action ≡ action seen.fetched.instr hart
-  pub reads : seen.reads ≡
+  pub reads : facts.reads ≡
       each_of (named_at hart memory origins number) (reads_of (form_of seen.fetched.instr))
   pub at : seen.at ≡ access_of (action seen.fetched.instr hart)
-  pub found : IsPlaced memory seen.at → seen.found ≡
+  pub found : IsPlaced memory seen.at → facts.finds ≡
       option_map (named_at hart memory origins number) (granule_accessed seen.at)
-  pub clears : seen.clears ≡ clears_of seen.fetched.instr hart seen.found
+  pub clears : facts.clears ≡ clears_of seen.fetched.instr hart facts.finds
 
 -- a hart that a step stopped: its values are those before the step
 abbrev pub IsStopped : HartState → HartState → Type 0
@@ -57,11 +58,11 @@ IsNotTrap outcome.Halt = ⊤
 IsNotTrap (outcome.Trap trap) = ⊥
 
 -- what was seen before a step of a hart: nothing where its fetch traps
-abbrev pub IsSeenBefore : Option Seen → List Instr → ℕ → HartState → List CapValue → Origins
-    → Type 0
-IsSeenBefore None program number hart memory origins = fetched_of program hart.pcc ≡ None
-IsSeenBefore (Some seen) program number hart memory origins =
-    (fetched_of program hart.pcc ≡ Some seen.fetched) × IsSeen seen number hart memory origins
+abbrev pub IsSeenBefore : Option Seen → StepFacts → List Instr → ℕ → HartState → List CapValue
+    → Origins → Type 0
+IsSeenBefore None facts program number hart memory origins = fetched_of program hart.pcc ≡ None
+IsSeenBefore (Some seen) facts program number hart memory origins =
+    (fetched_of program hart.pcc ≡ Some seen.fetched) × IsSeen seen facts number hart memory origins
 
 -- the address of an access; 0 where there is none
 abbrev pub address_accessed : Option Extent → ℕ

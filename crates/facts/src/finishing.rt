@@ -21,7 +21,9 @@ ghost use Rattle.facts.specs.Stepping.{
   IsNotTrap,
   address_accessed,
 };
+ghost use Rattle.facts.specs.declared.step_facts.StepFacts.{StepFacts};
 ghost use Rattle.facts.specs.StepFacts.{
+  blank_facts,
   trapped_by,
   fetch_trap,
   fetch_facts,
@@ -62,48 +64,44 @@ fn fetch_trap(outcome: Outcome, hart: &Hart) -> Option<Trapped>
 }
 
 /// The facts of a step whose fetch trapped, by the hart after it, which has the values before it.
-fn fetch_facts(number: u8, outcome: Outcome, after: &Hart) -> StepFacts
+/// All facts are filled in where they stay: they are wide, and each move of them counts.
+fn fetch_facts(number: u8, outcome: Outcome, after: &Hart, facts: &mut StepFacts)
     ensures { (hart : HartState) → IsStopped hart after.now →
-        result ≡ fetch_facts number hart outcome }
+        facts.new ≡ fetch_facts number hart outcome }
 {
-    StepFacts {
-        entry: Entry {
-            hart: number,
-            pc: after.pcc().addr(),
-            outcome,
-        },
-        fetched: None,
-        reads: UpToTwo::Zero,
-        at: None,
-        finds: None,
-        traps: fetch_trap(outcome, after),
-        leaves: None,
-        sets: UpToTwo::Zero,
-        clears: None,
-    }
+    facts.entry = Entry {
+        hart: number,
+        pc: after.pcc().addr(),
+        outcome,
+    };
+    facts.fetched = None;
+    facts.reads = UpToTwo::Zero;
+    facts.at = None;
+    facts.finds = None;
+    facts.traps = fetch_trap(outcome, after);
+    facts.leaves = None;
+    facts.sets = UpToTwo::Zero;
+    facts.clears = None;
 }
 
 /// The facts of an instruction that trapped, by the hart after it, which has the values before it.
-fn trapped_facts(seen: &Seen, number: u8, trap: Trap, after: &Hart) -> StepFacts
+fn trapped_facts(seen: &Seen, number: u8, trap: Trap, after: &Hart, facts: &mut StepFacts)
     ensures { (hart : HartState) (memory : List CapValue) (from : Origins) →
-        IsSeen seen.now number hart memory from → IsStopped hart after.now →
-        result ≡ trapped_facts number hart memory from seen.now.fetched trap }
+        IsSeen seen.now facts.old number hart memory from → IsStopped hart after.now →
+        facts.new ≡ trapped_facts number hart memory from seen.now.fetched trap }
 {
-    StepFacts {
-        entry: Entry {
-            hart: number,
-            pc: seen.pc,
-            outcome: Outcome::Trap(trap),
-        },
-        fetched: Some(seen.fetched),
-        reads: seen.reads,
-        at: seen.at,
-        finds: None,
-        traps: Some(trapped_by(&Some(seen.fetched.instr), after, trap)),
-        leaves: None,
-        sets: UpToTwo::Zero,
-        clears: None,
-    }
+    facts.entry = Entry {
+        hart: number,
+        pc: seen.pc,
+        outcome: Outcome::Trap(trap),
+    };
+    facts.fetched = Some(seen.fetched);
+    facts.at = seen.at;
+    facts.finds = None;
+    facts.traps = Some(trapped_by(&Some(seen.fetched.instr), after, trap));
+    facts.leaves = None;
+    facts.sets = UpToTwo::Zero;
+    facts.clears = None;
 }
 
 /// The facts of an instruction that was done, with the hart, the memory and the origins after it.
@@ -114,34 +112,29 @@ fn done_facts(
     after: &Hart,
     ram: &Ram,
     origins: &OriginTable,
-) -> StepFacts
+    facts: &mut StepFacts,
+)
     requires { IsTableFor origins.now number (length ram.now) }
     ensures { (hart : HartState) (memory : List CapValue) (from later : Origins) →
-        IsSeen seen.now number hart memory from → Tells origins.now later →
+        IsSeen seen.now facts.old number hart memory from → Tells origins.now later →
         IsPlaced memory seen.now.at → IsPlaced ram.now seen.now.at →
-        result ≡ done_facts number hart memory from seen.now.fetched
+        facts.new ≡ done_facts number hart memory from seen.now.fetched
         (record { hart = after.now; memory = ram.now; outcome = outcome }) later }
 {
-    let leaves = if is_store(&seen.action) {
+    facts.entry = Entry {
+        hart: number,
+        pc: seen.pc,
+        outcome,
+    };
+    facts.fetched = Some(seen.fetched);
+    facts.at = seen.at;
+    facts.traps = None;
+    facts.leaves = if is_store(&seen.action) {
         found_at(seen.at, number, after, ram, origins)
     } else {
         None
     };
-    StepFacts {
-        entry: Entry {
-            hart: number,
-            pc: seen.pc,
-            outcome,
-        },
-        fetched: Some(seen.fetched),
-        reads: seen.reads,
-        at: seen.at,
-        finds: seen.found,
-        traps: None,
-        leaves,
-        sets: each_named(sets_of(&seen.action), number, after, ram, origins),
-        clears: seen.clears,
-    }
+    facts.sets = each_named(sets_of(&seen.action), number, after, ram, origins);
 }
 
 /// The address of an access, where it is aligned and in RAM; else that of the first byte of RAM.
@@ -173,8 +166,8 @@ fn instruction_flows(seen: &Seen, ram: &Ram) -> StepFlows
 /// The flows of a step, by what was seen before it.
 pub fn flows_of_step(seen: &Option<Seen>, outcome: Outcome, ram: &Ram) -> StepFlows
     ensures value { (program : List Instr) (number : ℕ) (hart after : HartState)
-        (memory : List CapValue) (from : Origins) →
-        IsSeenBefore seen.now program number hart memory from →
+        (memory : List CapValue) (from : Origins) (facts : StepFacts) →
+        IsSeenBefore seen.now facts program number hart memory from →
         hart_step program hart memory
         ≡ record { hart = after; memory = ram.now; outcome = outcome } →
         list_of result ≡ step_flows program hart memory }
@@ -199,24 +192,25 @@ fn instruction_facts(
     after: &Hart,
     ram: &Ram,
     origins: &OriginTable,
-) -> StepFacts
+    facts: &mut StepFacts,
+)
     requires { IsTableFor origins.now number (length ram.now) }
     ensures { (hart : HartState) (memory : List CapValue) (from later : Origins) →
-        IsSeen seen.now number hart memory from → Tells origins.now later →
+        IsSeen seen.now facts.old number hart memory from → Tells origins.now later →
         (IsNotTrap outcome → IsPlaced memory seen.now.at) →
         (IsNotTrap outcome → IsPlaced ram.now seen.now.at) →
         ((trap : Trap) → outcome ≡ Outcome.Trap trap → IsStopped hart after.now) →
-        result ≡ instruction_facts outcome number hart memory from seen.now.fetched
+        facts.new ≡ instruction_facts outcome number hart memory from seen.now.fetched
         (record { hart = after.now; memory = ram.now; outcome = outcome }) later }
 {
     match outcome {
-        Outcome::Done => done_facts(seen, number, Outcome::Done, after, ram, origins),
-        Outcome::Halt => done_facts(seen, number, Outcome::Halt, after, ram, origins),
-        Outcome::Trap(trap) => trapped_facts(seen, number, trap, after),
+        Outcome::Done => done_facts(seen, number, Outcome::Done, after, ram, origins, facts),
+        Outcome::Halt => done_facts(seen, number, Outcome::Halt, after, ram, origins, facts),
+        Outcome::Trap(trap) => trapped_facts(seen, number, trap, after, facts),
     }
 }
 
-/// The facts of a step, by what was seen before it and what is there after it.
+/// Fills in the facts of a step, by what was seen before it and what is there after it.
 #[tactic(auto)]
 pub fn after_step(
     seen: &Option<Seen>,
@@ -225,18 +219,42 @@ pub fn after_step(
     after: &Hart,
     ram: &Ram,
     origins: &OriginTable,
-) -> StepFacts
+    facts: &mut StepFacts,
+)
     requires { IsTableFor origins.now number (length ram.now) }
     ensures { (program : List Instr) (hart : HartState) (memory : List CapValue)
         (from later : Origins) →
-        IsSeenBefore seen.now program number hart memory from → Tells origins.now later →
+        IsSeenBefore seen.now facts.old program number hart memory from → Tells origins.now later →
         hart_step program hart memory
         ≡ record { hart = after.now; memory = ram.now; outcome = outcome } →
-        result ≡ facts_by (fetched_of program hart.pcc) number hart memory from
+        facts.new ≡ facts_by (fetched_of program hart.pcc) number hart memory from
         (record { hart = after.now; memory = ram.now; outcome = outcome }) later }
 {
     match seen {
-        None => fetch_facts(number, outcome, after),
-        Some(seen) => instruction_facts(seen, number, outcome, after, ram, origins),
+        None => fetch_facts(number, outcome, after, facts),
+        Some(seen) => instruction_facts(seen, number, outcome, after, ram, origins, facts),
+    }
+}
+
+impl StepFacts {
+    /// Facts that are still to be filled in: those of a step that did nothing.
+    pub fn blank() -> StepFacts
+        ensures { result ≡ blank_facts }
+    {
+        StepFacts {
+            entry: Entry {
+                hart: 0,
+                pc: 0,
+                outcome: Outcome::Done,
+            },
+            fetched: None,
+            reads: UpToTwo::Zero,
+            at: None,
+            finds: None,
+            traps: None,
+            leaves: None,
+            sets: UpToTwo::Zero,
+            clears: None,
+        }
     }
 }

@@ -16,7 +16,7 @@ ghost use Rattle.facts.specs.StepFacts.{
 
 use crate::clearing::clears_of;
 use crate::names::{access_of, granule_at, reads_of};
-use crate::step_facts::{Cleared, Extent, Fetched, NamedValue, UpToTwo};
+use crate::step_facts::{Extent, Fetched, NamedValue, StepFacts, UpToTwo};
 use cap_ops::Cap;
 use cheri_model::{CODE_BASE, INSTRUCTION_BYTES, Instr, Reg};
 use hart::Hart;
@@ -131,38 +131,39 @@ pub fn found_at(
     }
 }
 
-/// What is seen of an instruction before its step.
+/// What is seen of an instruction before its step, beside the facts that are known by then.
 #[derive(Clone, Copy)]
 pub struct Seen {
     pub fetched: Fetched,
     pub pc: u64,
     pub action: Action,
-    pub reads: UpToTwo<NamedValue>,
     pub at: Option<Extent>,
-    pub found: Option<NamedValue>,
-    pub clears: Option<Cleared>,
 }
 
-/// The first half of a step's facts, before it.
-fn seen_before(fetched: &Fetched, number: u8, hart: &Hart, ram: &Ram, origins: &OriginTable) -> Seen
+/// The first half of a step's facts, before it: what is read, found and cleared.
+fn seen_before(
+    fetched: &Fetched,
+    number: u8,
+    hart: &Hart,
+    ram: &Ram,
+    origins: &OriginTable,
+    facts: &mut StepFacts,
+) -> Seen
     requires { IsTableFor origins.now number (length ram.now) }
     ensures same { result.fetched ≡ fetched.now }
     ensures seen { (from : Origins) → Tells origins.now from →
-        IsSeen result number hart.now ram.now from }
+        IsSeen result facts.new number hart.now ram.now from }
 {
     let action = instr_action(fetched.instr, hart);
     let at = access_of(&action);
-    let reads = each_named(reads_of(&fetched.instr.form()), number, hart, ram, origins);
-    let found = found_at(at, number, hart, ram, origins);
-    let clears = clears_of(&fetched.instr, &action, hart, &found);
+    facts.reads = each_named(reads_of(&fetched.instr.form()), number, hart, ram, origins);
+    facts.finds = found_at(at, number, hart, ram, origins);
+    facts.clears = clears_of(&fetched.instr, &action, hart, &facts.finds);
     Seen {
         fetched: *fetched,
         pc: hart.pcc().addr(),
         action,
-        reads,
         at,
-        found,
-        clears,
     }
 }
 
@@ -174,13 +175,14 @@ pub fn before_step(
     hart: &Hart,
     ram: &Ram,
     origins: &OriginTable,
+    facts: &mut StepFacts,
 ) -> Option<Seen>
     requires { IsTableFor origins.now number (length ram.now) }
     ensures { (from : Origins) → Tells origins.now from →
-        IsSeenBefore result program.now number hart.now ram.now from }
+        IsSeenBefore result facts.new program.now number hart.now ram.now from }
 {
     match fetched(program, hart.pcc()) {
-        Some(fetched) => Some(seen_before(&fetched, number, hart, ram, origins)),
+        Some(fetched) => Some(seen_before(&fetched, number, hart, ram, origins, facts)),
         None => None,
     }
 }

@@ -30,10 +30,9 @@ next_facts core hart = step_facts core.image core.state (origins_now core) hart
 abbrev pub next_swept : CoreParts → ℕ → ℕ → List Place
 next_swept core lo hi = swept_places lo hi core.state
 
--- what a step answers: its refusal, else its facts
-abbrev pub answered_facts : CoreParts → ℕ → Result StepFacts StepFault
-answered_facts core hart =
-    unless_refused (refused core (operation.Step hart)) (next_facts core hart)
+-- what a step answers: its refusal, if it is refused
+abbrev pub answered_step : CoreParts → ℕ → Result (Unit {0}) StepFault
+answered_step core hart = unless_refused (refused core (operation.Step hart)) tt
 
 -- a place of the core's machine
 abbrev pub IsPlaceOf : CoreParts → Place → Type 0

@@ -17,7 +17,7 @@ ghost use Rattle.following.specs.Following.{
   origins_now,
   next_facts,
   next_swept,
-  answered_facts,
+  answered_step,
   IsPlaceOf,
 };
 
@@ -88,22 +88,22 @@ fn ram_of(core: &Core) -> &Ram
     core.view().ram
 }
 
-/// A step that is not refused, with its facts.
-fn follow_step(core: &mut Core, origins: &mut OriginTable, number: u8) -> StepFacts
+/// A step that is not refused; fills in its facts.
+fn follow_step(core: &mut Core, origins: &mut OriginTable, number: u8, facts: &mut StepFacts)
     requires accepted { refused core.old (Op.Step number) ≡ None }
     requires followed { IsFollowed core.old origins.old }
-    ensures facts { result ≡ next_facts core.old number }
+    ensures facts { facts.new ≡ next_facts core.old number }
     ensures after { core.new ≡ core_after core.old (Op.Step number) }
     ensures followed_on { IsFollowed core.new origins.new }
 {
     let hart = hart_of(core, number);
     let memory = ram_of(core);
-    let seen = before_step(program_of(core), number, hart, memory, origins);
+    let seen = before_step(program_of(core), number, hart, memory, origins, facts);
     let outcome = stepped(core, number);
     let after = hart_of(core, number);
     let now = ram_of(core);
     origins.follow(number, flows_of_step(&seen, outcome, now));
-    after_step(&seen, number, outcome, after, now, origins)
+    after_step(&seen, number, outcome, after, now, origins, facts);
 }
 
 /// The places whose tag a sweep clears.
@@ -166,15 +166,20 @@ impl Follower {
         self.core.refusal(op)
     }
 
-    /// One step of this hart, with its facts. It is refused exactly where `refusal` says so, and
-    /// then nothing changes. Takes no memory.
-    pub fn step(&mut self, hart: u8) -> Result<StepFacts, StepFault>
-        ensures answered { result ≡ answered_facts self.old hart }
+    /// One step of this hart, whose facts are put in the place of others. It is refused exactly
+    /// where `refusal` says so, and then nothing changes. Takes no memory.
+    pub fn step(&mut self, hart: u8, facts: &mut StepFacts) -> Result<(), StepFault>
+        ensures answered { result ≡ answered_step self.old hart }
+        ensures facts { OnOk result (facts.new ≡ next_facts self.old hart) }
+        ensures kept { OnErr result (facts.new ≡ facts.old) }
         ensures applied { self.new ≡ applied self.old (Op.Step hart) }
     {
         match self.core.refusal(Op::Step(hart)) {
             Some(fault) => Err(fault),
-            None => Ok(follow_step(&mut self.core, &mut self.origins, hart)),
+            None => {
+                follow_step(&mut self.core, &mut self.origins, hart, facts);
+                Ok(())
+            }
         }
     }
 

@@ -13,10 +13,10 @@ returns-in-Ok-clause-text c =
     let core = c.args.follower.now in
     let text : EventFacts → List ℕ =
     λ facts. string_bytes c.args.out.now ++ shown_lines c.args.lines.now c.args.selection c.args.number (c.args.event.now, facts) in
-    let known : string_bytes c.write_shown_step.new.out ≡ text (step c.in-Ok.facts)
+    let known : string_bytes c.write_shown_step.new.out ≡ text (step c.step.new.facts)
     → (refused core (operation.Step c.args.hart) ≡ None
     → string_bytes c.write_shown_step.new.out ≡ text (next_facts core (operation.Step c.args.hart))) =
-    λ written none. written ∙ ap text (step_answered core c.args.hart c.in-Ok.facts (sym c.in-Ok.is ∙ c.step.ensures.answered) none) in
+    λ written none. written ∙ ap text (step_answered core c.args.hart c.step.new.facts c.in-Ok.ensures.facts) in
     on_ok c.write_shown_step.result _ _ known c.write_shown_step.ensures
 
 pub returns-in-Ok-clause-after : goal.returns-in-Ok-clause-after
@@ -24,7 +24,7 @@ returns-in-Ok-clause-after c =
     let core = c.args.follower.now in
     let text : EventFacts → List ℕ =
     λ facts. string_bytes c.args.out.now ++ shown_lines c.args.lines.now c.args.selection c.args.number (c.args.event.now, facts) in
-    let known : string_bytes c.write_shown_step.new.out ≡ text (step c.in-Ok.facts)
+    let known : string_bytes c.write_shown_step.new.out ≡ text (step c.step.new.facts)
     → (refused core (operation.Step c.args.hart) ≡ None → c.step.new.self ≡ core_after core (operation.Step c.args.hart)) =
     λ written none. step_applied core c.step.new.self _ c.step.ensures.applied none in
     on_ok c.write_shown_step.result _ _ known c.write_shown_step.ensures

@@ -15,21 +15,21 @@ returns-in-Ok-clause-item c =
     let text : EventFacts → List ℕ =
     λ facts. string_bytes c.args.out.now
     ++ shown_item c.args.lines.now c.args.selection c.args.later c.args.number (c.args.event.now, facts) in
-    let known : string_bytes c.write_shown_step.new.out ≡ text (step c.in-Ok.facts)
+    let known : string_bytes c.write_shown_step.new.out ≡ text (step c.step.new.facts)
     → (refused core (operation.Step c.args.hart) ≡ None
     → string_bytes c.write_shown_step.new.out ≡ text (next_facts core (operation.Step c.args.hart))) =
-    λ written none. written ∙ ap text (step_answered core c.args.hart c.in-Ok.facts (sym c.in-Ok.is ∙ c.step.ensures.answered) none) in
+    λ written none. written ∙ ap text (step_answered core c.args.hart c.step.new.facts c.in-Ok.ensures.facts) in
     on_ok c.write_shown_step.result _ _ known c.write_shown_step.ensures.item
 
 pub returns-in-Ok-clause-later : goal.returns-in-Ok-clause-later
 returns-in-Ok-clause-later c =
     let core = c.args.follower.now in
     let shown : EventFacts → Bool = λ facts. c.args.later || is_shown c.args.selection c.args.number facts in
-    let known : (now : Bool) → now ≡ shown (step c.in-Ok.facts)
+    let known : (now : Bool) → now ≡ shown (step c.step.new.facts)
     → (refused core (operation.Step c.args.hart) ≡ None
     → now ≡ shown (next_facts core (operation.Step c.args.hart))) =
-    λ now is none. is ∙ ap shown (step_answered core c.args.hart c.in-Ok.facts (sym c.in-Ok.is ∙ c.step.ensures.answered) none) in
-    if_ok c.write_shown_step.result (λ now. now ≡ shown (step c.in-Ok.facts))
+    λ now is none. is ∙ ap shown (step_answered core c.args.hart c.step.new.facts c.in-Ok.ensures.facts) in
+    if_ok c.write_shown_step.result (λ now. now ≡ shown (step c.step.new.facts))
     (λ now. refused core (operation.Step c.args.hart) ≡ None → now ≡ shown (next_facts core (operation.Step c.args.hart)))
     known c.write_shown_step.ensures.later
 
@@ -39,7 +39,7 @@ returns-in-Ok-clause-after c =
     let text : EventFacts → List ℕ =
     λ facts. string_bytes c.args.out.now
     ++ shown_item c.args.lines.now c.args.selection c.args.later c.args.number (c.args.event.now, facts) in
-    let known : string_bytes c.write_shown_step.new.out ≡ text (step c.in-Ok.facts)
+    let known : string_bytes c.write_shown_step.new.out ≡ text (step c.step.new.facts)
     → (refused core (operation.Step c.args.hart) ≡ None → c.step.new.self ≡ core_after core (operation.Step c.args.hart)) =
     λ written none. step_applied core c.step.new.self _ c.step.ensures.applied none in
     on_ok c.write_shown_step.result _ _ known c.write_shown_step.ensures.item

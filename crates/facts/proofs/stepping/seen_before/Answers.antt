@@ -1,5 +1,5 @@
 use Rattle.std.proofs.Common.{length}
 use Rattle.facts.proofs.stepping.seen_before.Goals as goal
 
-pub each_named-reads-requires-clause-spots : goal.each_named-reads-requires-clause-spots
-each_named-reads-requires-clause-spots c = c.reads_of.ensures.spots (length c.args.ram.now)
+pub each_named-facts-requires-clause-spots : goal.each_named-facts-requires-clause-spots
+each_named-facts-requires-clause-spots c = c.reads_of.ensures.spots (length c.args.ram.now)

@@ -56,7 +56,7 @@ returns-clause-facts c =
     let stepped : Stepped = record { hart = c.hart_of-after.result.now; memory = c.ram_of-now.result.now; outcome = c.stepped-outcome.result } in
     let is : hart_step program c.hart_of-hart.result.now memory ≡ stepped = ap (λ h. hart_step program h memory) hart ∙ parts in
     let flows : list_of c.flows_of_step.result ≡ step_flows program c.hart_of-hart.result.now memory =
-    c.flows_of_step.ensures.value program number c.hart_of-hart.result.now c.hart_of-after.result.now memory from seen is in
+    c.flows_of_step.ensures.value program number c.hart_of-hart.result.now c.hart_of-after.result.now memory from c.before_step-seen.new.facts seen is in
     let for = table_for_after core number c.args.origins.now c.stepped-outcome.new.core c.requires.followed there c.stepped-outcome.ensures.after in
     let are = spots_are_flows c.args.origins.now number (length c.ram_of-now.result.now) (list_of c.flows_of_step.result) (rw c.ram_of-now.ensures for) c.flows_of_step.ensures.spots in
     let tells = tells_after number (step_flows program c.hart_of-hart.result.now memory) from c.args.origins.now c.follow.new.self
@@ -79,7 +79,7 @@ returns-clause-followed_on c =
     let stepped : Stepped = record { hart = c.hart_of-after.result.now; memory = c.ram_of-now.result.now; outcome = c.stepped-outcome.result } in
     let is : hart_step program c.hart_of-hart.result.now memory ≡ stepped = ap (λ h. hart_step program h memory) hart ∙ parts in
     let flows : list_of c.flows_of_step.result ≡ step_flows program (hart_at core.state number) memory =
-    c.flows_of_step.ensures.value program number c.hart_of-hart.result.now c.hart_of-after.result.now memory from seen is ∙ ap (λ h. step_flows program h memory) hart in
+    c.flows_of_step.ensures.value program number c.hart_of-hart.result.now c.hart_of-after.result.now memory from c.before_step-seen.new.facts seen is ∙ ap (λ h. step_flows program h memory) hart in
     let for = table_for_after core number c.args.origins.now c.stepped-outcome.new.core c.requires.followed there c.stepped-outcome.ensures.after in
     let are = spots_are_flows c.args.origins.now number (length c.ram_of-now.result.now) (list_of c.flows_of_step.result) (rw c.ram_of-now.ensures for) c.flows_of_step.ensures.spots in
     let kept : IsCore (core_after core (operation.Step number)) = subst (λ core. IsCore core) c.stepped-outcome.ensures.after c.stepped-outcome.ensures.core in
