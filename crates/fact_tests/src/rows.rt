@@ -3,6 +3,7 @@
 
 use cap_ops::Cap;
 use cheri_model::{CODE_BASE, HartImage, Image, Instr, Perms, Reg, Value};
+use cores::StepFault;
 use facts::{Cleared, StepFacts, Trapped};
 use following::Follower;
 use samples::{ALL, Given};
@@ -49,6 +50,15 @@ fn image_of(
     Ok(Image::new(program, 64, granules, harts).ok_or("the parts make an image")?)
 }
 
+/// The facts of a step of hart 0.
+fn stepped(follower: &mut Follower) -> Result<StepFacts, StepFault> {
+    let mut facts = StepFacts::blank();
+    match follower.step(0, &mut facts) {
+        Ok(()) => Ok(facts),
+        Err(fault) => Err(fault),
+    }
+}
+
 /// The facts of one step of such a program.
 fn facts_at(
     rt: &impl Abort,
@@ -68,7 +78,7 @@ fn facts_at(
         granule,
     )?;
     let mut follower = Follower::boot(alloc, image, 1)?;
-    Ok(follower.step(0)?)
+    Ok(stepped(&mut follower)?)
 }
 
 /// The same from the program's start.
