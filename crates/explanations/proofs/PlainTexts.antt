@@ -1,5 +1,5 @@
 -- Texts that stand for themselves in JSON: no byte of theirs is escaped.
-use Rattle.std.proofs.Common.{◌≡◌, ℕ, zero, suc, pos, negsuc, ◌/◌, ◌%◌, ◌<◌, ◌==◌, Bool, true, false, cond, if◌then◌else◌, List, [], ◌∷◌, ◌++◌, codes, decimal, refl, ap, ◌∙◌, arith}
+use Rattle.std.proofs.Common.{◌≡◌, ℕ, zero, suc, pos, negsuc, ◌/◌, ◌%◌, ◌<◌, ◌==◌, Bool, true, false, if◌then◌else◌, List, [], ◌∷◌, ◌++◌, codes, decimal, refl, ◌∙◌, arith}
 use Rattle.std.specs.Prelude.{ℤ, ⊤}
 use Rattle.std.specs.Char.{digit_char}
 use Rattle.std.specs.Fmt.{digit_glyph, digits_onto, digits, signed_decimal}
@@ -34,7 +34,7 @@ use Rattle.facts.specs.declared.why.Why.{Why}
 use Rattle.facts.specs.declared.why.Why.TheVariants as why
 use Rattle.explanations.specs.Names.{spot_name, origin_name}
 use Rattle.explanations.specs.FactData.{spot_key}
-use Rattle.explanations.specs.Reasons.{permission_names, permission_set, untagged, sealed, lacks, outside_region, type_outside, why_text}
+use Rattle.explanations.specs.Reasons.{permission_names, permission_set, untagged, why_text}
 
 abbrev pub IsPlain : List ℕ → Type 0
 IsPlain s = escape s ≡ s

@@ -1,6 +1,6 @@
 -- The events of a run and their facts, one by one, and a core that takes a run's operations once more.
-use Rattle.std.proofs.Common.{◌≡◌, ℕ, zero, suc, ◌+◌, ◌<◌, ◌≤◌, Bool, true, false, not, ◌&&◌, List, [], ◌∷◌, ◌++◌, length, take, get_or, map, refl, ap, sym, subst, ◌∙◌, arith, length-take}
-use Rattle.std.specs.Prelude.{nat_lt, if◌then◌else◌, Option, Some, None, Result, Ok, Err, OnOk, IfOk}
+use Rattle.std.proofs.Common.{◌≡◌, ℕ, zero, suc, ◌+◌, ◌<◌, ◌≤◌, Bool, true, false, not, List, [], ◌∷◌, ◌++◌, length, take, get_or, map, refl, ap, sym, subst, ◌∙◌, arith, length-take}
+use Rattle.std.specs.Prelude.{nat_lt, if◌then◌else◌, Some, None, Result, Ok, Err, OnOk, IfOk}
 use Rattle.std.proofs.lemmas.Bool.{and_parts, lt-ltb}
 use Rattle.std.proofs.lemmas.Bool.Decides.{nat_tests}
 use Rattle.std.proofs.lemmas.List.{length-map, take-map, map_more, get_or-map}
@@ -20,8 +20,7 @@ use Rattle.origins.specs.declared.place.Place.{Place}
 use Rattle.origins.specs.Origins.{Origins, came_from, origins_after, replayed_origins}
 use Rattle.facts.specs.EventFacts.{EventFacts, step, sweep, swept_places, facts_of, facts_along, replayed_facts}
 use Rattle.cores.specs.declared.faults.StepFault.TheVariants.{NoSuchHart, TraceFull, HartStopped, BadRange}
-use Rattle.cores.specs.Cores.{CoreParts, opening_core, refused, core_after, unless_refused, unless_kept, applied}
-use Rattle.cores.specs.declared.faults.StepFault.{StepFault}
+use Rattle.cores.specs.Cores.{CoreParts, opening_core, refused, core_after, unless_kept, applied}
 use Rattle.facts.specs.declared.step_facts.StepFacts.{StepFacts}
 use Rattle.following.specs.Following.{next_facts as next_step_facts}
 use Rattle.explanations.specs.Explanation.{Explained, explained_events}

@@ -1,23 +1,22 @@
 -- A step in JSON, member by member: the members in the order of their keys, of which some may be absent, and their texts.
-use Rattle.std.proofs.Common.{◌≡◌, Less, Greater, ℕ, Bool, true, false, List, [], ◌∷◌, ◌++◌, Option, Some, None, codes, decimal, refl, ap, sym, ◌∙◌, append_assoc, append-nil}
+use Rattle.std.proofs.Common.{◌≡◌, Less, Greater, ℕ, true, false, List, [], ◌∷◌, ◌++◌, Option, Some, None, codes, decimal, refl, ap, ◌∙◌, append_assoc, append-nil}
 use Rattle.std.specs.Prelude.{⊤}
 use Rattle.std.specs.Option.{option_map}
 use Rattle.std.specs.Ordering.{nat_cmp}
 use Rattle.std.specs.Cmp.Lexicographic.{slice_cmp}
 use Rattle.json.specs.Print.{quoted}
 use Rattle.serde_json.proofs.OnLiterals.{serde_json_on_literals}
-use Rattle.serde_json.specs.Data.{Data, string, object, Members, no_members, member, put}
+use Rattle.serde_json.specs.Data.{Data, string, Members, no_members, member, put}
 use Rattle.serde_json.specs.Written.{compact_text, members_text}
-use Rattle.cheri_model.specs.declared.operation.Event.TheVariants as event
 use Rattle.cheri_model.specs.declared.trace.Outcome.TheVariants as outcome
-use Rattle.report_lines.specs.EventData.{event_members, step_members}
+use Rattle.report_lines.specs.EventData.{event_members}
 use Rattle.report_lines.specs.ValueData.{count}
 use Rattle.report_lines.specs.ValueText.{hex_text}
 use Rattle.facts.specs.declared.step_facts.NamedValue.{NamedValue}
 use Rattle.facts.specs.declared.step_facts.UpToTwo.{UpToTwo}
 use Rattle.facts.specs.declared.step_facts.UpToTwo.TheVariants.{Zero, One, Two}
 use Rattle.facts.specs.declared.step_facts.StepFacts.{StepFacts}
-use Rattle.explanations.specs.FactData.{put_any, put_names, place_data, extent_data, cleared_data, instruction_data, line_data, why_data, step_data}
+use Rattle.explanations.specs.FactData.{put_any, put_names, place_data, extent_data, cleared_data, instruction_data, line_data, step_data}
 use Rattle.explanations.specs.JsonText.{if_there, names_data}
 use Rattle.explanations.proofs.PlainTexts as plain
 

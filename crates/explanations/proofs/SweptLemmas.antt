@@ -1,7 +1,7 @@
 -- The places that a sweep cleared, one by one.
 use Rattle.std.proofs.Common.{◌≡◌, ℕ, ◌+◌, ◌<◌, ◌≤◌, List, [], ◌∷◌, ◌++◌, length, drop, get_or, append_assoc, append-nil, drop-cons, add-one}
 use Rattle.std.proofs.Math.ListN.{drop_of_length-le}
-use Rattle.serde_json.specs.Data.{Members, no_members}
+use Rattle.serde_json.specs.Data.{Members}
 use Rattle.origins.specs.declared.place.Place.{Place}
 use Rattle.explanations.specs.FactLines.{swept_line, swept_lines}
 use Rattle.explanations.specs.FactData.{put_swept}

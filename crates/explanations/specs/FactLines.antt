@@ -1,11 +1,10 @@
 -- Facts in words, a line each.
 use Rattle.std.specs.Prelude.{ℕ, List, [], ◌∷◌, ◌++◌, codes, decimal, slice_index, Option, Some, None}
-use Rattle.cheri_model.specs.declared.operation.Event.{Event}
 use Rattle.cheri_model.specs.declared.operation.Event.TheVariants as event
 use Rattle.cheri_model.specs.instructions.Form.{form_of}
 use Rattle.notation.specs.Instructions.{form_text}
 use Rattle.report_lines.specs.Texts.{◌+++◌, line}
-use Rattle.report_lines.specs.ValueText.{hex_text, value_text}
+use Rattle.report_lines.specs.ValueText.{value_text}
 use Rattle.report_lines.specs.Names.{cause_name}
 use Rattle.report_lines.specs.EventText.{event_text}
 use Rattle.origins.specs.declared.place.Place.{Place}

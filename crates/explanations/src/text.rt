@@ -193,7 +193,16 @@ fn put_events<S: Sink>(
     let mut follower = follow(alloc, core)?;
     let mut facts = StepFacts::blank();
     for (number, event) in view.entries.iter().enumerate() {
-        write_next(alloc, out, lines, selection, number, &mut follower, &mut facts, event)?;
+        write_next(
+            alloc,
+            out,
+            lines,
+            selection,
+            number,
+            &mut follower,
+            &mut facts,
+            event,
+        )?;
         make_room(out, sink)?;
     }
     Ok(())

@@ -104,9 +104,7 @@ fn write_next_step(
         → follower.new ≡ core_after follower.old (operation.Step hart)) }
 {
     match follower.step(hart, facts) {
-        Ok(()) => {
-            write_shown_step(alloc, out, lines, selection, later, number, event, facts)
-        }
+        Ok(()) => { write_shown_step(alloc, out, lines, selection, later, number, event, facts) }
         Err(_) => Ok(later),
     }
 }

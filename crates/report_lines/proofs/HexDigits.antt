@@ -132,8 +132,12 @@ word_ascii bits =
 
 pub word_length : (bits : ℕ) → length (word_text bits) ≡ 33
 word_length bits =
-    omega (arith, length-append (hex_text 16 (bits / 2 ^ 64)) (95 ∷ hex_text 16 (bits % 2 ^ 64)), digits_length 16 (bits / 2 ^ 64),
-    digits_length 16 (bits % 2 ^ 64))
+    omega (
+      arith,
+      length-append (hex_text 16 (bits / 2 ^ 64)) (95 ∷ hex_text 16 (bits % 2 ^ 64)),
+      digits_length 16 (bits / 2 ^ 64),
+      digits_length 16 (bits % 2 ^ 64),
+    )
 
 pub bounds_ascii : (parts : Capability) → IsAscii (bounds_text parts)
 bounds_ascii parts =
@@ -144,9 +148,14 @@ bounds_ascii parts =
 
 pub bounds_length : (parts : Capability) → length (bounds_text parts) ≡ 40
 bounds_length parts =
-    omega (arith, length-append (hex_text 16 parts.base) (32 ∷ (hex_text 17 parts.top ++ 32 ∷ hex_text 5 parts.perms)),
-    length-append (hex_text 17 parts.top) (32 ∷ hex_text 5 parts.perms), digits_length 16 parts.base, digits_length 17 parts.top,
-    digits_length 5 parts.perms)
+    omega (
+      arith,
+      length-append (hex_text 16 parts.base) (32 ∷ (hex_text 17 parts.top ++ 32 ∷ hex_text 5 parts.perms)),
+      length-append (hex_text 17 parts.top) (32 ∷ hex_text 5 parts.perms),
+      digits_length 16 parts.base,
+      digits_length 17 parts.top,
+      digits_length 5 parts.perms,
+    )
 
 -- the last five digits of a word, and what follows the last digit in a buffer
 pub five_digits : (n : ℕ) → take 5 (drop 11 (hex_text 16 n)) ≡ hex_text 5 n

@@ -1,5 +1,5 @@
 -- Values, events and images in JSON: one value more in an object, and that none has a float.
-use Rattle.std.proofs.Common.{◌≡◌, Ordering, Less, Equal, Greater, ℕ, List, codes, Bool, true, false, ◌||◌, if◌then◌else◌, refl}
+use Rattle.std.proofs.Common.{◌≡◌, Ordering, Less, Equal, Greater, ℕ, List, Bool, true, false, ◌||◌, if◌then◌else◌, refl}
 use Rattle.std.specs.Ordering.{nat_cmp, match_ordering}
 use Rattle.std.specs.Cmp.Lexicographic.{slice_cmp}
 use Rattle.serde_json.specs.Data.{Data, string, Members, no_members, member, put}

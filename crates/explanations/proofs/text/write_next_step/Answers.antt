@@ -1,4 +1,4 @@
-use Rattle.std.proofs.Common.{◌≡◌, ℕ, List, ◌++◌, string_bytes, ap, sym, ◌∙◌}
+use Rattle.std.proofs.Common.{◌≡◌, ℕ, List, ◌++◌, string_bytes, ap, ◌∙◌}
 use Rattle.std.specs.Prelude.{None}
 use Rattle.cheri_model.specs.declared.operation.Op.TheVariants as operation
 use Rattle.facts.specs.EventFacts.{EventFacts, step}
