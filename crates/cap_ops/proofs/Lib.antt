@@ -2,7 +2,9 @@ pub mod Exactness
 pub mod Made
 pub mod Makings
 pub mod MadeAgain
+pub mod BoundsFields
 pub mod Unpacking
+pub mod Narrowed
 pub mod Open
 pub mod BuiltAgain
 pub mod RawLengths

@@ -14,7 +14,8 @@ use Rattle.cap_model.proofs.Words.WordsBack.{upper_of_word, raw_base_of_upper, r
 use Rattle.cap_model.proofs.Bounds.WindowsHold.{lawful_bounds_in_window}
 use Rattle.cap_model.proofs.Results.Values.{open_parts, bits_lt, perms_known}
 use Rattle.cap_model.proofs.Results.AddressResults.{window_test, test_of_window, set_address-result}
-use Rattle.cap_ops.specs.Unpacked.{IsUnpacked}
+use Rattle.cap_ops.specs.Unpacked.{HasBoundsOf, IsUnpacked}
+use Rattle.cap_ops.proofs.BoundsFields.{same_base, same_top}
 use Rattle.cap_ops.proofs.Made.{address_word, made_tagged, made_value}
 
 -- a lawful value is read as its bits are
@@ -124,6 +125,20 @@ module _ (v w : CapValue) (tag : Bool) (upper addr base top otype permissions fl
     (kept : IsUnpacked w tag upper addr base top otype permissions flag) (is : w ≡ v) where
   own : IsUnpacked v tag upper addr base top otype permissions flag
   own = subst (λ (u : CapValue). IsUnpacked u tag upper addr base top otype permissions flag) is kept
+
+  pub own_addr : bits_of v % 2 ^ 64 ≡ addr
+  own_addr = own.addr
+
+  -- with an upper half that has the same bounds
+  module _ (edited : ℕ) (same : HasBoundsOf (bits_of v / 2 ^ 64) edited) where
+    as_upper : HasBoundsOf upper edited
+    as_upper = rw own.upper at same
+
+    pub edited_base : base ≡ raw_base edited addr
+    edited_base = (decoded_of v tag upper addr base top otype permissions flag own).base ∙ sym (same_base upper edited as_upper addr)
+
+    pub edited_top : top ≡ raw_top edited addr
+    edited_top = (decoded_of v tag upper addr base top otype permissions flag own).top ∙ sym (same_top upper edited as_upper addr)
 
   pub keeps_tag_inside : (a : ℕ) → is_open v ≡ true → a < 2 ^ 64 → base ≤ a → a ≤ top → true ≡ (is_open v && keeps_bounds v a)
   keeps_tag_inside a opened below from to =

@@ -1,7 +1,7 @@
 -- What a capability value keeps beside its word.
 use Rattle.std.specs.Prelude.{◌≡◌, ℕ, ◌%◌, ◌^◌, Bool}
 use Rattle.cap_model.specs.values.CapValue.{CapValue, IsLawfulValue, bits_of, tag_of}
-use Rattle.cap_model.specs.words.Fields.{field_of_perms}
+use Rattle.cap_model.specs.words.Fields.{field_of_perms, with_null_fields}
 use Rattle.cap_model.specs.results.Readings.{base_of, top_of, high_of, flags_of, object_type_of}
 use Rattle.cap_model.specs.results.Readings.{permissions_of}
 
@@ -17,3 +17,7 @@ pub record IsUnpacked (v : CapValue) (t : Bool) (u a low high o p f : ℕ) : Typ
   pub otype : object_type_of v ≡ o
   pub permissions : field_of_perms (permissions_of v) ≡ p
   pub flag : flags_of v ≡ f
+
+-- an upper half has the same fields IE, T and B as another, which are its low 27 bits
+abbrev pub HasBoundsOf : ℕ → ℕ → Type 0
+HasBoundsOf other upper = with_null_fields upper % 2 ^ 27 ≡ with_null_fields other % 2 ^ 27

@@ -18,6 +18,7 @@ ghost use Rattle.cap_model.specs.results.EditedWords.{word_of_halves};
 ghost use Rattle.cap_model.specs.words.RawBounds.{raw_base, raw_top};
 ghost use Rattle.cap_model.specs.results.Readings.{top_of};
 ghost use Rattle.cap_model.specs.results.Addresses.{address_of, is_open, keeps_bounds, set_address};
+ghost use Rattle.cap_ops.specs.Unpacked.{HasBoundsOf};
 
 use crate::fields::permission_field;
 use cap_bounds::{decode, fields};
@@ -205,7 +206,17 @@ impl Cap {
         requires { IsTaggedWord tag (word_of_halves upper addr) }
         ensures { result ≡ value_at tag (word_of_halves upper addr) }
     {
-        let (base, top) = decode(upper, addr);
+        Cap::from_decoded(tag, upper, addr, decode(upper, addr))
+    }
+
+    /// The same, where the word's base and top are known.
+    pub(crate) fn from_decoded(tag: bool, upper: u64, addr: u64, bounds: (u64, u128)) -> Cap
+        requires tagged { IsTaggedWord tag (word_of_halves upper addr) }
+        requires base { bounds.0 ≡ raw_base upper addr }
+        requires top { bounds.1 ≡ raw_top upper addr }
+        ensures { result ≡ value_at tag (word_of_halves upper addr) }
+    {
+        let (base, top) = bounds;
         let parts = fields(upper);
         Cap {
             top,
@@ -217,6 +228,15 @@ impl Cap {
             flag: parts.flag,
             tag,
         }
+    }
+
+    /// With another upper half, which has the same bounds, and this tag.
+    pub(crate) fn edited(self, tag: bool, upper: u64) -> Cap
+        requires tagged { IsTaggedWord tag (word_of_halves upper (bits_of self % 2 ^ 64)) }
+        requires bounds { HasBoundsOf (bits_of self / 2 ^ 64) upper }
+        ensures { result ≡ value_at tag (word_of_halves upper (bits_of self % 2 ^ 64)) }
+    {
+        Cap::from_decoded(tag, upper, self.addr, (self.base, self.top))
     }
 
     /// At another address, where it is known whether the tag stays.

@@ -2,7 +2,7 @@
 //! the same edited word without a tag (CHERI ISA v9, "capability instructions").
 #![tactic(auto, using(crate::proofs::Open::masks), unfolding(crate::proofs::Open::changes))]
 
-ghost use Rattle.std.specs.Prelude.{◌≡◌, ◌+◌, ◌%◌, ◌^◌, ◌&&◌};
+ghost use Rattle.std.specs.Prelude.{◌≡◌, ◌+◌, ◌%◌, ◌^◌, ◌&&◌, true};
 ghost use Rattle.cap_model.specs.values.CapValue.{parts_of, IsLawfulValue};
 ghost use Rattle.cap_model.specs.results.Addresses.{
   address_of,
@@ -17,17 +17,33 @@ ghost use Rattle.cap_model.specs.results.Addresses.{
   set_bounds_exact,
 };
 ghost use Rattle.cap_model.specs.results.Fields.{and_perm, set_flags, set_high};
+ghost use Rattle.cap_model.specs.words.RawBounds.{raw_base, raw_top};
 
 use crate::cap::Cap;
 use crate::fields::{with_flag, with_perms, with_rounded_fields};
-use cap_bounds::representable;
+use cap_bounds::{Rounded, decode, representable};
+
+/// The bounds of a word, which are its rounding's where the tag stays: then nothing is decoded. A
+/// rounding past the address space has bounds that no word is decoded to.
+fn rounded_bounds(kept: bool, upper: u64, addr: u64, rounded: Rounded) -> (u64, u128)
+    requires base { kept ≡ true → rounded.base ≡ raw_base upper addr }
+    requires top { kept ≡ true → rounded.top ≡ raw_top upper addr }
+    ensures base { result.0 ≡ raw_base upper addr }
+    ensures top { result.1 ≡ raw_top upper addr }
+{
+    if kept {
+        (rounded.base, rounded.top)
+    } else {
+        decode(upper, addr)
+    }
+}
 
 impl Cap {
     /// The same word without a tag (CClearTag).
     pub fn clear_tag(self) -> Cap
         ensures { result ≡ clear_tag self }
     {
-        Cap::from_word(self.bits())
+        self.edited(false, self.high())
     }
 
     /// Another address (CSetAddr). The tag stays where this is open and the bounds stay the same.
@@ -42,6 +58,16 @@ impl Cap {
         ensures { result ≡ inc_offset self offset }
     {
         self.set_addr(self.addr().wrapping_add(offset))
+    }
+
+    /// `set_addr` to an address where this is known to be open and to keep its bounds: nothing is
+    /// tested, and nothing decoded.
+    pub fn at(self, addr: u64) -> Cap
+        requires open { is_open self ≡ true }
+        requires kept { keeps_bounds self addr ≡ true }
+        ensures { result ≡ set_address self addr }
+    {
+        self.moved(addr, true)
     }
 
     /// Whether this is open and keeps its bounds at another address.
@@ -65,18 +91,20 @@ impl Cap {
     pub fn set_bounds(self, len: u64) -> Cap
         ensures { result ≡ set_bounds self len }
     {
+        let addr = self.addr();
         let kept = self.may_narrow(len);
-        let (upper, _exact) = with_rounded_fields(self.high(), self.addr(), u128::from(len));
-        Cap::from_halves(kept, upper, self.addr())
+        let (upper, rounded) = with_rounded_fields(self.high(), addr, u128::from(len));
+        Cap::from_decoded(kept, upper, addr, rounded_bounds(kept, upper, addr, rounded))
     }
 
     /// As `set_bounds`, and the tag stays only where nothing is rounded (CSetBoundsExact).
     pub fn set_bounds_exact(self, len: u64) -> Cap
         ensures { result ≡ set_bounds_exact self len }
     {
-        let (upper, exact) = with_rounded_fields(self.high(), self.addr(), u128::from(len));
-        let kept = self.may_narrow_exactly(len, exact);
-        Cap::from_halves(kept, upper, self.addr())
+        let addr = self.addr();
+        let (upper, rounded) = with_rounded_fields(self.high(), addr, u128::from(len));
+        let kept = self.may_narrow_exactly(len, rounded.exact);
+        Cap::from_decoded(kept, upper, addr, rounded_bounds(kept, upper, addr, rounded))
     }
 
     /// Whether this is open and the range of `len` addresses from its address on lies in its
@@ -104,7 +132,7 @@ impl Cap {
         ensures { result ≡ and_perm self mask }
     {
         let perms = (u64::from(self.permission_bits()) & mask) as u32;
-        Cap::from_halves(self.is_open(), with_perms(self.high(), perms), self.addr())
+        self.edited(self.is_open(), with_perms(self.high(), perms))
     }
 
     /// The lowest bit of a number as the flag (CSetFlags). The tag stays where this is open.
@@ -112,7 +140,7 @@ impl Cap {
         ensures { result ≡ set_flags self flags }
     {
         let flag = (flags % 2) as u8;
-        Cap::from_halves(self.is_open(), with_flag(self.high(), flag), self.addr())
+        self.edited(self.is_open(), with_flag(self.high(), flag))
     }
 
     /// Another upper half, never with a tag (CSetHigh).

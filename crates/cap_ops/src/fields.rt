@@ -10,9 +10,10 @@ ghost use Rattle.cap_model.specs.results.EditedWords.{
   with_bounds_fields,
   with_rounded_fields,
 };
+ghost use Rattle.cap_model.specs.bounds.Rounding.{rounded_base, rounded_top};
 ghost use Rattle.cap_model.specs.results.Addresses.{is_exact};
 
-use cap_bounds::{exclusive_or_null, set_bounds};
+use cap_bounds::{Rounded, exclusive_or_null, set_bounds};
 
 /// The permissions as the upper half has them, which are its high 16 bits.
 pub(crate) fn permission_field(upper: u64) -> u16
@@ -67,16 +68,16 @@ pub(crate) fn with_bounds_fields(upper: u64, ie: u8, t: u16, b: u16) -> u64
     exclusive_or_null(high + (u64::from(ie) << 26) + (u64::from(t) << 14) + u64::from(b))
 }
 
-/// The upper half whose bounds fields are those of the rounding of base and length, and whether
-/// that is exact.
-pub(crate) fn with_rounded_fields(upper: u64, base: u64, len: u128) -> (u64, bool)
+/// The upper half whose bounds fields are those of the rounding of base and length, and the
+/// rounding.
+pub(crate) fn with_rounded_fields(upper: u64, base: u64, len: u128) -> (u64, Rounded)
     requires { len ≤ 2 ^ 64 }
     ensures fields { result.0 ≡ with_rounded_fields upper base len }
-    ensures exact { result.1 ≡ is_exact base len }
+    ensures base { result.1.base ≡ rounded_base base len }
+    ensures top { result.1.top ≡ rounded_top base len }
+    ensures exact { result.1.exact ≡ is_exact base len }
 {
     let rounded = set_bounds(base, len);
-    (
-        with_bounds_fields(upper, rounded.ie, rounded.t, rounded.b),
-        rounded.exact,
-    )
+    let upper = with_bounds_fields(upper, rounded.ie, rounded.t, rounded.b);
+    (upper, rounded)
 }

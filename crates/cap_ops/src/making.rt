@@ -64,7 +64,8 @@ impl Cap {
             return Err(MakeFault::PastEnd);
         }
         let unbounded = with_otype(with_perms(0, perms.known_bits()), otype.number());
-        let (upper, exact) = with_rounded_fields(unbounded, base, len);
+        let (upper, rounded) = with_rounded_fields(unbounded, base, len);
+        let exact = rounded.exact;
         if !exact {
             return Err(MakeFault::Inexact);
         }

@@ -31,11 +31,7 @@ impl Cap {
     {
         let otype = authority.addr();
         let kept = self.may_seal(authority);
-        Cap::from_halves(
-            kept,
-            with_otype(self.high(), (otype % (1 << 18)) as u32),
-            self.addr(),
-        )
+        self.edited(kept, with_otype(self.high(), (otype % (1 << 18)) as u32))
     }
 
     /// Unsealed (CUnseal). Global stays only where both have it. The tag stays where this is tagged
@@ -47,7 +43,7 @@ impl Cap {
         let perms = self.unsealed_perms(authority);
         let kept = self.may_unseal(authority);
         let upper = with_perms(with_otype(self.high(), UNSEALED_TYPE), perms);
-        Cap::from_halves(kept, upper, self.addr())
+        self.edited(kept, upper)
     }
 
     /// Sealed as a sentry, which can only be jumped to (CSealEntry). The tag stays where this is
@@ -56,7 +52,7 @@ impl Cap {
         ensures { result ≡ seal_entry self }
     {
         let kept = self.may_seal_entry();
-        Cap::from_halves(kept, with_otype(self.high(), SENTRY_TYPE), self.addr())
+        self.edited(kept, with_otype(self.high(), SENTRY_TYPE))
     }
 
     /// Unsealed, with the tag as it is: what a jump makes of a sentry, and of a sealed pair (CJALR,
@@ -64,11 +60,7 @@ impl Cap {
     pub fn unsealed(self) -> Cap
         ensures { result ≡ unsealed self }
     {
-        Cap::from_halves(
-            self.tag(),
-            with_otype(self.high(), UNSEALED_TYPE),
-            self.addr(),
-        )
+        self.edited(self.tag(), with_otype(self.high(), UNSEALED_TYPE))
     }
 
     /// Whether this may be sealed under the authority.

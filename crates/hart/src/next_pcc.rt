@@ -17,9 +17,10 @@ pub fn next_pcc(pcc: Cap) -> Cap
     ensures value { result ≡ next_pcc pcc }
     ensures lawful { IsLawfulValue result }
 {
-    let next = pcc.set_addr(pcc.addr().wrapping_add(INSTRUCTION_BYTES));
-    // The getters say that both are lawful.
-    let _lawful = (pcc.tag(), next.tag());
+    // The getter says that it is lawful, here and below.
+    let _lawful = pcc.tag();
+    let next = pcc.at(pcc.addr().wrapping_add(INSTRUCTION_BYTES));
+    let _next_lawful = next.tag();
     next
 }
 
@@ -41,7 +42,7 @@ pub fn at_target(pcc: Cap, target: u64) -> Cap
 {
     // The getter says that it is lawful.
     let _lawful = pcc.tag();
-    pcc.set_addr(target)
+    pcc.at(target)
 }
 
 /// What becomes of PCC where a jump goes through a tagged capability, with the target in its

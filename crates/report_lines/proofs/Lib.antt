@@ -1,5 +1,6 @@
 pub mod Open
 pub mod HexDigits
+pub mod DoneSteps
 pub mod Items
 pub mod JsonLemmas
 pub mod JsonTexts

@@ -3,12 +3,12 @@ use Rattle.std.specs.Prelude.{ℕ, List}
 use Rattle.cheri_model.specs.declared.operation.Event.{Event}
 use Rattle.serde_json.specs.Data.{Members}
 use Rattle.report_lines.specs.EventData.{event_members, image_data}
-use Rattle.report_lines.specs.EventText.{ending, event_text}
+use Rattle.report_lines.specs.EventText.{event_text}
 use Rattle.report_lines.specs.Lines.{image_line, count_line, event_line, status_line, pcc_line}
 use Rattle.report_lines.specs.Lines.{register_line, granule_line}
 
 unfoldable pub event_texts : ℕ → Event → List ℕ
-unfolding ending event_text
+unfolding event_text
 event_texts number event = event_text number event
 
 unfoldable pub lines : ℕ → List ℕ

@@ -20,9 +20,10 @@ outcome_text outcome.Done = codes "done"
 outcome_text outcome.Halt = codes "halt"
 outcome_text (outcome.Trap trap) = codes "trap" +++ cause_text trap
 
--- the same, after a space
-unfoldable pub ending : Outcome → List ℕ
-ending outcome = codes " " +++ outcome_text outcome
+-- what stands after the number of a step that was done
+abbrev pub done_text : ℕ → ℕ → List ℕ
+done_text hart pc =
+    codes " hart=" +++ decimal hart +++ codes " pc=" +++ hex_text 16 pc +++ codes " done"
 
 -- whether a hart runs
 abbrev pub status_text : Status → List ℕ
@@ -35,7 +36,8 @@ status_text (status.Trapped trap) = codes "trapped" +++ cause_text trap
 unfoldable pub event_text : ℕ → Event → List ℕ
 event_text number (event.Step entry) =
     decimal number +++ codes " hart=" +++ decimal entry.hart
-    +++ codes " pc=" +++ hex_text 16 entry.pc +++ ending entry.outcome
+    +++ codes " pc=" +++ hex_text 16 entry.pc +++ codes " "
+    +++ outcome_text entry.outcome
 event_text number (event.Sweep cleared lo hi) =
     decimal number +++ codes " sweep lo=" +++ hex_text 16 lo +++ codes " hi=" +++ hex_text 17 hi
     +++ codes " cleared=" +++ decimal cleared

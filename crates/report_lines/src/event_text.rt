@@ -1,16 +1,20 @@
 //! Outcomes, statuses and events as texts.
 
-#![tactic(auto, unfolding(crate::proofs::Open::event_texts))]
+#![tactic(
+    auto,
+    using(crate::proofs::DoneSteps::lengths),
+    unfolding(crate::proofs::Open::event_texts)
+)]
 
 ghost use Rattle.std.specs.Prelude.{◌≡◌, ◌++◌, OnOk, Some, string_bytes};
 ghost use Rattle.std.specs.Fmt.{DisplaysOnOk};
 ghost use Rattle.cheri_model.specs.declared.operation.Event.TheVariants as event;
-ghost use Rattle.report_lines.specs.EventText.{cause_text, ending, event_text, outcome_text};
+ghost use Rattle.report_lines.specs.EventText.{cause_text, done_text, event_text, outcome_text};
 ghost use Rattle.report_lines.specs.EventText.{status_text};
 
-use crate::digits::{Hex, HexWord};
+use crate::digits::{BUFFER, Hex, HexWord, put_before, word_digits};
 use cheri_model::{Entry, Event, NoMemory, Outcome, Status, Trap};
-use itoa::Buffer;
+use itoa::{Buffer, Integer, write_digits};
 use std::fmt;
 
 /// A trap's cause and register.
@@ -58,30 +62,47 @@ impl fmt::Display for StatusText {
     }
 }
 
-/// Appends how a step ended, after a space. Most steps are done.
-fn write_ending(out: &mut String, outcome: Outcome) -> Result<(), NoMemory>
-    ensures { OnOk result (string_bytes out.new ≡ string_bytes out.old ++ ending outcome) }
-{
-    match outcome {
-        Outcome::Done => out.push_str(" done"),
-        _ => write!(out, " {}", OutcomeText(outcome)),
+/// A step that was done, after its number: the hart, and the address of its PCC before it.
+#[derive(Clone, Copy)]
+struct DoneStep {
+    hart: u8,
+    pc: u64,
+}
+
+/// Written into `itoa`'s buffer as one piece: a report has up to 100,000 of them.
+impl Integer for DoneStep {
+    const MAX_STR_LEN: usize = 34;
+
+    ghost MAX_STR_LEN = { 34 };
+
+    ghost text = { λ s. done_text s.hart s.pc };
+
+    fn write(self, buf: &mut [u8; BUFFER]) -> usize {
+        let end = put_before(buf, BUFFER, b" done");
+        let end = put_before(buf, end, &word_digits(self.pc));
+        let end = put_before(buf, end, b" pc=");
+        let hart = write_digits(u64::from(self.hart), buf, end);
+        put_before(buf, hart, b" hart=")
     }
 }
 
-/// Appends a step after its number, piece by piece: a report has up to 100,000 of them, and a
-/// formatter takes twice the time.
+/// Appends a step after its number.
 fn write_step(out: &mut String, number: usize, entry: &Entry) -> Result<(), NoMemory>
     ensures { OnOk result (string_bytes out.new
         ≡ string_bytes out.old ++ event_text number (event.Step entry.now)) }
 {
-    let mut digits = Buffer::new();
-    out.push_str(digits.format(number))?;
-    out.push_str(" hart=")?;
-    out.push_str(digits.format(entry.hart))?;
-    out.push_str(" pc=")?;
-    out.push_str(digits.format(HexWord(entry.pc)))?;
-    write_ending(out, entry.outcome)?;
-    Ok(())
+    let Entry { hart, pc, outcome } = *entry;
+    match outcome {
+        Outcome::Done => {
+            let mut digits = Buffer::new();
+            out.push_str(digits.format(number))?;
+            out.push_str(digits.format(DoneStep { hart, pc }))
+        }
+        _ => {
+            let (pc, outcome) = (HexWord(pc), OutcomeText(outcome));
+            write!(out, "{number} hart={hart} pc={pc} {outcome}")
+        }
+    }
 }
 
 /// Appends a sweep after its number.

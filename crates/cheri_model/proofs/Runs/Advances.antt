@@ -17,38 +17,47 @@ use Rattle.cap_model.proofs.Results.AddressResults.{test_of_window}
 use Rattle.cheri_model.proofs.Runs.ChecksPassed.{IsPlacedAccess}
 
 -- an address in the bounds, or at their top, modulo 2^64
-pub placed_is : (v : CapValue) (n a : ℕ) → IsLawfulValue v → is_open v ≡ true → (parts_of v).base ≤ n → n ≤ (parts_of v).top →
-    a ≡ n % 2 ^ 64 → set_address v a ≡ with_address v a
+placed_stays : (v : CapValue) (n a : ℕ) → IsLawfulValue v → is_open v ≡ true → (parts_of v).base ≤ n → n ≤ (parts_of v).top →
+    a ≡ n % 2 ^ 64 → keeps_bounds v a ≡ true
+placed_stays (raw word) n a h opened from to is = absurd (false≢true opened)
+placed_stays (valid c) n a h opened from to is = test_of_window c.base _ a (rw is (lawful_bounds_in_window c h n from to))
+
+kept_is : (v : CapValue) (a : ℕ) → is_open v ≡ true → keeps_bounds v a ≡ true → set_address v a ≡ with_address v a
 unfolding set_address with_address
-placed_is (raw word) n a h opened from to is = absurd (false≢true opened)
-placed_is (valid c) n a h opened from to is =
-    let inside : keeps_bounds (valid c) a ≡ true =
-    test_of_window c.base _ a (rw is (lawful_bounds_in_window c h n from to)) in
-    rw (opened, inside) refl
+kept_is (raw word) a opened kept = absurd (false≢true opened)
+kept_is (valid c) a opened kept = rw (opened, kept) refl
 
 top_at_most : (v : CapValue) → IsLawfulValue v → is_open v ≡ true → (parts_of v).top ≤ 2 ^ 64
 top_at_most (valid c) h opened = h.top_at_most
 top_at_most (raw word) h opened = absurd (false≢true opened)
 
 -- a target whose four bytes are in the bounds
-pub target_is : (v : CapValue) (target : ℕ) → IsLawfulValue v → is_open v ≡ true → in_bounds v target 4 ≡ true →
-    set_address v target ≡ with_address v target
-target_is v target h opened within =
+pub target_stays : (v : CapValue) (target : ℕ) → IsLawfulValue v → is_open v ≡ true → in_bounds v target 4 ≡ true →
+    keeps_bounds v target ≡ true
+target_stays v target h opened within =
     let inside = and_parts (nat_le (parts_of v).base target) _ within in
     let from = leb-true _ _ inside.0 in
     let to = leb-true _ _ inside.1 in
     let most = top_at_most v h opened in
-    placed_is v target target h opened from (omega arith) (omega arith)
+    placed_stays v target target h opened from (omega arith) (omega arith)
+
+pub target_is : (v : CapValue) (target : ℕ) → IsLawfulValue v → is_open v ≡ true → in_bounds v target 4 ≡ true →
+    set_address v target ≡ with_address v target
+target_is v target h opened within = kept_is v target opened (target_stays v target h opened within)
 
 -- four bytes on, where the four at the address are in the bounds
-pub following_is : (v : CapValue) → IsLawfulValue v → is_open v ≡ true → in_bounds v (address_of v) 4 ≡ true →
-    set_address v ((address_of v + 4) % 2 ^ 64) ≡ next_pcc v
-unfolding next_pcc
-following_is v h opened within =
+pub following_stays : (v : CapValue) → IsLawfulValue v → is_open v ≡ true → in_bounds v (address_of v) 4 ≡ true →
+    keeps_bounds v ((address_of v + 4) % 2 ^ 64) ≡ true
+following_stays v h opened within =
     let inside = and_parts (nat_le (parts_of v).base (address_of v)) _ within in
     let from = leb-true _ _ inside.0 in
     let to = leb-true _ _ inside.1 in
-    placed_is v (address_of v + 4) ((address_of v + 4) % 2 ^ 64) h opened (omega arith) to refl
+    placed_stays v (address_of v + 4) ((address_of v + 4) % 2 ^ 64) h opened (omega arith) to refl
+
+pub following_is : (v : CapValue) → IsLawfulValue v → is_open v ≡ true → in_bounds v (address_of v) 4 ≡ true →
+    set_address v ((address_of v + 4) % 2 ^ 64) ≡ next_pcc v
+unfolding next_pcc
+following_is v h opened within = kept_is v ((address_of v + 4) % 2 ^ 64) opened (following_stays v h opened within)
 
 -- what a jump makes of the capability that it goes through is open, with the same bounds
 pub unsealed_is_open : (v : CapValue) → tag_of v ≡ true → is_open (unsealed v) ≡ true
