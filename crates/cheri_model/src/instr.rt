@@ -191,7 +191,9 @@ pub enum Instr {
 
 impl Instr {
     /// The same instruction by its form: its name among those with the same operands, and the
-    /// operands.
+    /// operands. Inlined, so that a step goes from its instruction to what that does by one jump
+    /// through a table.
+    #[inline(always)]
     #[tactic(auto, unfolding(crate::specs::instructions::Form::form_of))]
     pub fn form(self) -> Form
         ensures { result ≡ form_of self }

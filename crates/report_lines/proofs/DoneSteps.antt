@@ -12,12 +12,17 @@ use Rattle.report_lines.proofs.HexDigits.{digits_ascii, digits_length}
 pub byte_length : (n : ℕ) → n < 256 → length (decimal n) ≤ 3
 byte_length n small = length-decimal-le 3 n (omega arith) (omega arith) (omega arith)
 
-pub ruleset lengths = (byte_length)
+pub number_length : (n : ℕ) → n < 1000000 → length (decimal n) ≤ 6
+number_length n small = length-decimal-le 6 n (omega arith) (omega arith) (omega arith)
 
-pub done_length : (hart pc : ℕ) → hart < 256 → length (done_text hart pc) ≤ 34
-done_length hart pc small =
+pub ruleset lengths = (byte_length, number_length)
+
+pub done_length : (number hart pc : ℕ) → number < 1000000 → hart < 256 → length (done_text number hart pc) ≤ 40
+done_length number hart pc short small =
     omega (
       arith,
+      length-append (decimal number) (codes " hart=" ++ (decimal hart ++ (codes " pc=" ++ (hex_text 16 pc ++ codes " done")))),
+      number_length number short,
       length-append (decimal hart) (codes " pc=" ++ (hex_text 16 pc ++ codes " done")),
       length-append (hex_text 16 pc) (codes " done"),
       byte_length hart small,
@@ -36,10 +41,15 @@ pc_ascii pc =
     IsAscii-cons 32 (codes "pc=" ++ text) (omega arith) (IsAscii-cons 112 (codes "c=" ++ text) (omega arith)
     (IsAscii-cons 99 (codes "=" ++ text) (omega arith) (IsAscii-cons 61 text (omega arith) digits)))
 
-pub done_ascii : (hart pc : ℕ) → hart < 256 → IsAscii (done_text hart pc)
-done_ascii hart pc small =
+hart_ascii : (hart pc : ℕ) → hart < 256 → IsAscii (codes " hart=" ++ (decimal hart ++ (codes " pc=" ++ (hex_text 16 pc ++ codes " done"))))
+hart_ascii hart pc small =
     let text = decimal hart ++ (codes " pc=" ++ (hex_text 16 pc ++ codes " done")) in
     let digits = IsAscii-append (decimal hart) (codes " pc=" ++ (hex_text 16 pc ++ codes " done")) (IsAscii-decimal hart (omega arith)) (pc_ascii pc) in
     IsAscii-cons 32 (codes "hart=" ++ text) (omega arith) (IsAscii-cons 104 (codes "art=" ++ text) (omega arith)
     (IsAscii-cons 97 (codes "rt=" ++ text) (omega arith) (IsAscii-cons 114 (codes "t=" ++ text) (omega arith)
     (IsAscii-cons 116 (codes "=" ++ text) (omega arith) (IsAscii-cons 61 text (omega arith) digits)))))
+
+pub done_ascii : (number hart pc : ℕ) → number < 1000000 → hart < 256 → IsAscii (done_text number hart pc)
+done_ascii number hart pc short small =
+    IsAscii-append (decimal number) (codes " hart=" ++ (decimal hart ++ (codes " pc=" ++ (hex_text 16 pc ++ codes " done"))))
+    (IsAscii-decimal number (omega arith)) (hart_ascii hart pc small)

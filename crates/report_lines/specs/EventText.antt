@@ -20,10 +20,11 @@ outcome_text outcome.Done = codes "done"
 outcome_text outcome.Halt = codes "halt"
 outcome_text (outcome.Trap trap) = codes "trap" +++ cause_text trap
 
--- what stands after the number of a step that was done
-abbrev pub done_text : ℕ → ℕ → List ℕ
-done_text hart pc =
-    codes " hart=" +++ decimal hart +++ codes " pc=" +++ hex_text 16 pc +++ codes " done"
+-- a step that was done, after its number
+abbrev pub done_text : ℕ → ℕ → ℕ → List ℕ
+done_text number hart pc =
+    decimal number +++ codes " hart=" +++ decimal hart
+    +++ codes " pc=" +++ hex_text 16 pc +++ codes " done"
 
 -- whether a hart runs
 abbrev pub status_text : Status → List ℕ

@@ -6,11 +6,12 @@
     unfolding(crate::proofs::Open::event_texts)
 )]
 
-ghost use Rattle.std.specs.Prelude.{◌≡◌, ◌++◌, OnOk, Some, string_bytes};
+ghost use Rattle.std.specs.Prelude.{◌≡◌, ◌<◌, ◌++◌, OnOk, Some, string_bytes};
 ghost use Rattle.std.specs.Fmt.{DisplaysOnOk};
 ghost use Rattle.cheri_model.specs.declared.operation.Event.TheVariants as event;
 ghost use Rattle.report_lines.specs.EventText.{cause_text, done_text, event_text, outcome_text};
 ghost use Rattle.report_lines.specs.EventText.{status_text};
+ghost use Rattle.report_lines.specs.declared.event_text.TheConstants.{FIRST_LONG_NUMBER};
 
 use crate::digits::{BUFFER, Hex, HexWord, put_before, word_digits};
 use cheri_model::{Entry, Event, NoMemory, Outcome, Status, Trap};
@@ -62,27 +63,34 @@ impl fmt::Display for StatusText {
     }
 }
 
-/// A step that was done, after its number: the hart, and the address of its PCC before it.
+/// A step with a smaller number has a line that fits `itoa`'s buffer. No trace is longer.
+const FIRST_LONG_NUMBER: usize = 1_000_000;
+
+/// A step that was done, with its number in the trace: the hart, and the address of its PCC before
+/// the step.
 #[derive(Clone, Copy)]
 struct DoneStep {
+    number: usize,
     hart: u8,
     pc: u64,
+    ghost short: { number < FIRST_LONG_NUMBER },
 }
 
 /// Written into `itoa`'s buffer as one piece: a report has up to 100,000 of them.
 impl Integer for DoneStep {
-    const MAX_STR_LEN: usize = 34;
+    const MAX_STR_LEN: usize = 40;
 
-    ghost MAX_STR_LEN = { 34 };
+    ghost MAX_STR_LEN = { 40 };
 
-    ghost text = { λ s. done_text s.hart s.pc };
+    ghost text = { λ s. done_text s.number s.hart s.pc };
 
     fn write(self, buf: &mut [u8; BUFFER]) -> usize {
         let end = put_before(buf, BUFFER, b" done");
         let end = put_before(buf, end, &word_digits(self.pc));
         let end = put_before(buf, end, b" pc=");
         let hart = write_digits(u64::from(self.hart), buf, end);
-        put_before(buf, hart, b" hart=")
+        let end = put_before(buf, hart, b" hart=");
+        write_digits(self.number as u64, buf, end)
     }
 }
 
@@ -92,17 +100,13 @@ fn write_step(out: &mut String, number: usize, entry: &Entry) -> Result<(), NoMe
         ≡ string_bytes out.old ++ event_text number (event.Step entry.now)) }
 {
     let Entry { hart, pc, outcome } = *entry;
-    match outcome {
-        Outcome::Done => {
-            let mut digits = Buffer::new();
-            out.push_str(digits.format(number))?;
-            out.push_str(digits.format(DoneStep { hart, pc }))
-        }
-        _ => {
-            let (pc, outcome) = (HexWord(pc), OutcomeText(outcome));
-            write!(out, "{number} hart={hart} pc={pc} {outcome}")
+    if outcome == Outcome::Done {
+        if number < FIRST_LONG_NUMBER {
+            return out.push_str(Buffer::new().format(DoneStep { number, hart, pc }));
         }
     }
+    let (pc, outcome) = (HexWord(pc), OutcomeText(outcome));
+    write!(out, "{number} hart={hart} pc={pc} {outcome}")
 }
 
 /// Appends a sweep after its number.

@@ -6,7 +6,8 @@ use Rattle.report_lines.proofs.event_text.DoneStepInteger.write.Goals as goal
 pub returns-clause-written : goal.returns-clause-written
 returns-clause-written c =
     rw (
-      c.put_before.ensures.written,
+      c.write_digits.ensures.written,
+      c.put_before-end-4.ensures.written,
       c.write_digits-hart.ensures.written,
       c.put_before-end-3.ensures.written,
       c.put_before-end-2.ensures.written,
@@ -17,7 +18,7 @@ returns-clause-written c =
     ) refl
 
 pub returns-clause-ascii : goal.returns-clause-ascii
-returns-clause-ascii c = done_ascii c.args.self.hart c.args.self.pc (omega arith)
+returns-clause-ascii c = done_ascii c.args.self.number c.args.self.hart c.args.self.pc (omega arith) (omega arith)
 
 pub returns-clause-short : goal.returns-clause-short
-returns-clause-short c = done_length c.args.self.hart c.args.self.pc (omega arith)
+returns-clause-short c = done_length c.args.self.number c.args.self.hart c.args.self.pc (omega arith) (omega arith)
