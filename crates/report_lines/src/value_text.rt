@@ -55,7 +55,7 @@ impl fmt::Display for Word {
     }
 }
 
-/// Written into `itoa`'s buffer as one piece: three pieces take twice the time to append.
+/// Written into `itoa`'s buffer, so that its three parts are appended at once.
 impl Integer for Word {
     const MAX_STR_LEN: usize = 33;
 
@@ -76,7 +76,7 @@ impl Integer for Word {
 #[derive(Clone, Copy)]
 struct Bounds(Cap);
 
-/// As one piece, too.
+/// At once, too.
 impl Integer for Bounds {
     const MAX_STR_LEN: usize = 40;
 
@@ -132,7 +132,7 @@ impl fmt::Display for ValueText {
 #[derive(Clone, Copy)]
 struct TaggedWord(Cap);
 
-/// As one piece, too.
+/// At once, too.
 impl Integer for TaggedWord {
     const MAX_STR_LEN: usize = 35;
 
