@@ -1,5 +1,4 @@
-//! Short texts with a number in them, each appended at once: most of an explanation's time goes into
-//! appending.
+//! Short texts with a number in them, each appended at once.
 #![tactic(auto, using(crate::proofs::PieceLemmas::pieces))]
 
 ghost use Rattle.std.specs.Prelude.{◌≡◌, ◌++◌, OnOk, codes, decimal, string_bytes};
