@@ -4,11 +4,12 @@ ghost use Rattle.std.specs.Prelude.{◌≡◌};
 ghost use Rattle.cheri_sim.specs.Faults.{fault_text, status_of};
 
 use command_line::CommandFault;
+use cores::StepFault;
 use harts::RunFault;
 use inputs::InputFault;
-use machine::{SimFault, StepFault};
 use number_lines::NumberFault;
 use reports::{ReportFault, SinkFailed};
+use simulation::SimFault;
 use std::alloc::AllocError;
 use std::fmt;
 

@@ -11,10 +11,10 @@ ghost use Rattle.cheri_sim.specs.Runs.{IsRunAnswer, longest_run, report_in};
 
 use crate::faults::Fault;
 use command_line::ReportForm;
-use machine::{GREATEST_TRACE_LIMIT, SimFault, StepFault};
+use cores::{GREATEST_TRACE_LIMIT, StepFault};
 use printing::flush;
 use reports::{Sink, ToWrite};
-use simulation::{simulate, simulate_json};
+use simulation::{SimFault, simulate, simulate_json};
 use std::alloc::Global;
 use std::io::Write;
 

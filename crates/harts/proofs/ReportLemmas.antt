@@ -5,7 +5,7 @@ use Rattle.std.specs.List.{range_with_len}
 use Rattle.std.proofs.lemmas.List.Elements.{All-nil, All-cons, All-head, All-tail, All-map}
 use Rattle.cheri_model.specs.declared.operation.Event.{Event}
 use Rattle.cheri_model.specs.runs.Replay.{step_count}
-use Rattle.machine.specs.Shares.{ShareParts, share_at, shares_of}
+use Rattle.shared_machine.specs.Shares.{ShareParts, share_at, shares_of}
 use Rattle.harts.specs.declared.workers.HartReport.{HartReport}
 use Rattle.harts.specs.Reports.{AreReports, KeepsTurns}
 

@@ -3,7 +3,7 @@
 ghost use Rattle.std.specs.Prelude.{◌≡◌};
 
 use cores::BootFault;
-use machine::OpenFault;
+use shared_machine::OpenFault;
 use std::alloc::AllocError;
 use std::error::Error;
 use std::fmt;

@@ -7,7 +7,8 @@ ghost use Rattle.cheri_model.specs.runs.Sweeps.{is_range};
 ghost use Rattle.cores.specs.Cores.{IsCore};
 
 use cheri_model::{Event, Op};
-use machine::{Machine, Naming, StepFault, Watch, WatchFault};
+use cores::StepFault;
+use shared_machine::{Machine, Naming, Watch, WatchFault};
 use std::marker::Model;
 use std::sync::{Mutex, MutexGuard, Wait};
 use std::thread;

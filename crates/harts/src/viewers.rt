@@ -1,6 +1,6 @@
 //! Who looks on at a race, from the thread that started it.
 
-use machine::{Naming, Watch};
+use shared_machine::{Naming, Watch};
 
 /// Who looks on at a race.
 pub trait Viewer {

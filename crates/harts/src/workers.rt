@@ -7,7 +7,8 @@ ghost use Rattle.harts.specs.Reports.{IsReason, goes_on};
 use crate::gates::{Gate, Turn};
 use crate::lock::Shared;
 use cheri_model::{Entry, Outcome};
-use machine::{Naming, Share, StepFault};
+use cores::StepFault;
+use shared_machine::{Naming, Share};
 use std::sync::Wait;
 
 /// Why a hart's loop ended.

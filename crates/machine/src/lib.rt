@@ -1,16 +1,12 @@
-//! The machine that threads share: a core with one share for each hart, which watchers look at
-//! without a lock. It hands up what it is made of, and what runs an order or two texts alone.
+//! A whole machine: the core, the machine that threads share, and what runs an order or two texts
+//! alone.
+//!
+//! Each stands in a crate of its own, with its contract: `cores`, `shared_machine` and
+//! `simulation`.
 #![tactic(auto)]
 
-mod faults;
-pub mod laws;
-mod machines;
-mod shares;
-mod watching;
-
 pub use cores::{BootFault, Core, GREATEST_TRACE_LIMIT, StepFault, run_judged, run_order};
-pub use faults::{OpenFault, WatchFault};
-pub use machines::Machine;
-pub use shares::{Blanks, Lane, Naming, Share};
+pub use shared_machine::laws;
+pub use shared_machine::{Blanks, Lane, Look, Machine, Naming, OpenFault};
+pub use shared_machine::{Receipt, Share, Watch, WatchFault};
 pub use simulation::{SimFault, simulate};
-pub use watching::watch::{Look, Receipt, Watch};

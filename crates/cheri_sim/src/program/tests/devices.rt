@@ -3,10 +3,10 @@
 use crate::faults::Fault;
 use crate::program::tests::{FIRST, Folder, Full, RUN, Unflushed, answer, compare, owned};
 use crate::program::{perform, report_fault};
+use cores::StepFault;
 use grammar::fault::ListingFaultKind;
 use inputs::{FileFault, InputFault, fault_of};
 use listings::ListingFault;
-use machine::StepFault;
 use orders::{OrderFault, OrderFaultKind};
 use std::io::ErrorKind;
 use std::str;

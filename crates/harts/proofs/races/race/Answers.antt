@@ -2,7 +2,7 @@
 use Rattle.std.proofs.Common.{◌≡◌, List, length, sym, ap, subst, ◌∙◌}
 use Rattle.std.specs.Prelude.{All}
 use Rattle.cheri_model.specs.declared.operation.Event.{Event}
-use Rattle.machine.specs.Shares.{ShareParts, shares_of}
+use Rattle.shared_machine.specs.Shares.{ShareParts, shares_of}
 use Rattle.harts.proofs.ReportLemmas.{nothing_counted, reports_raced}
 use Rattle.harts.proofs.races.race.Goals as goal
 
