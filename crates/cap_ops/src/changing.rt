@@ -94,7 +94,12 @@ impl Cap {
         let addr = self.addr();
         let kept = self.may_narrow(len);
         let (upper, rounded) = with_rounded_fields(self.high(), addr, u128::from(len));
-        Cap::from_decoded(kept, upper, addr, rounded_bounds(kept, upper, addr, rounded))
+        Cap::from_decoded(
+            kept,
+            upper,
+            addr,
+            rounded_bounds(kept, upper, addr, rounded),
+        )
     }
 
     /// As `set_bounds`, and the tag stays only where nothing is rounded (CSetBoundsExact).
@@ -104,7 +109,12 @@ impl Cap {
         let addr = self.addr();
         let (upper, rounded) = with_rounded_fields(self.high(), addr, u128::from(len));
         let kept = self.may_narrow_exactly(len, rounded.exact);
-        Cap::from_decoded(kept, upper, addr, rounded_bounds(kept, upper, addr, rounded))
+        Cap::from_decoded(
+            kept,
+            upper,
+            addr,
+            rounded_bounds(kept, upper, addr, rounded),
+        )
     }
 
     /// Whether this is open and the range of `len` addresses from its address on lies in its

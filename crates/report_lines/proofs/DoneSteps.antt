@@ -15,8 +15,6 @@ byte_length n small = length-decimal-le 3 n (omega arith) (omega arith) (omega a
 pub number_length : (n : ℕ) → n < 1000000 → length (decimal n) ≤ 6
 number_length n small = length-decimal-le 6 n (omega arith) (omega arith) (omega arith)
 
-pub ruleset lengths = (byte_length, number_length)
-
 pub done_length : (number hart pc : ℕ) → number < 1000000 → hart < 256 → length (done_text number hart pc) ≤ 40
 done_length number hart pc short small =
     omega (

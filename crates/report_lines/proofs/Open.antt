@@ -6,6 +6,7 @@ use Rattle.report_lines.specs.EventData.{event_members, image_data}
 use Rattle.report_lines.specs.EventText.{event_text}
 use Rattle.report_lines.specs.Lines.{image_line, count_line, event_line, status_line, pcc_line}
 use Rattle.report_lines.specs.Lines.{register_line, granule_line}
+use Rattle.report_lines.proofs.DoneSteps.{byte_length, number_length}
 
 unfoldable pub event_texts : ℕ → Event → List ℕ
 unfolding event_text
@@ -18,3 +19,6 @@ lines count = count_line count
 unfoldable pub events : Event → Members
 unfolding event_members image_data
 events event = event_members event
+
+-- how many digits a hart and a number of a short line have
+pub ruleset lengths = (byte_length, number_length)

@@ -1,10 +1,6 @@
 //! Outcomes, statuses and events as texts.
 
-#![tactic(
-    auto,
-    using(crate::proofs::DoneSteps::lengths),
-    unfolding(crate::proofs::Open::event_texts)
-)]
+#![tactic(auto, using(crate::proofs::Open::lengths), unfolding(crate::proofs::Open::event_texts))]
 
 ghost use Rattle.std.specs.Prelude.{◌≡◌, ◌<◌, ◌++◌, OnOk, Some, string_bytes};
 ghost use Rattle.std.specs.Fmt.{DisplaysOnOk};
