@@ -191,7 +191,10 @@ fn expand<G: Graph>(
         (first.from + 1) tree.new.nodes.rows tree.new.edges.items) }
 {
     for label in first.label..graph.label_count() {
-        let edge = Edge { from: first.from, label };
+        let edge = Edge {
+            from: first.from,
+            label,
+        };
         if !follow(graph, tree, row, limit, edge)? {
             return Ok(Some(edge));
         }
