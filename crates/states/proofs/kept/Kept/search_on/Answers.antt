@@ -3,13 +3,16 @@ use Rattle.cheri_model.specs.runs.Machine.{MachineState, opening_state}
 use Rattle.graph_search.specs.Trees.{state_at}
 use Rattle.schedules.specs.Schedules.{next}
 use Rattle.states.specs.Graphs.{state_in}
+use Rattle.states.specs.Kept.{KeptParts}
 use Rattle.states.proofs.KeptLemmas.{searched, first_state}
 use Rattle.states.proofs.kept.Kept.search_on.Goals as goal
 
 pub explore_more-requires-clause-more : goal.explore_more-requires-clause-more
 explore_more-requires-clause-more g c =
     let within = c.self.invariant.search.within in
-    omega arith
+    let same : c.self.inside.limit ≡ c.args.self.limit = ap (λ (k : KeptParts). k.limit) c.self.view_is in
+    let more : c.args.self.limit ≤ c.args.limit = c.requires in
+    omega (arith, within, same, more)
 
 pub explore_more-requires-clause-wide : goal.explore_more-requires-clause-wide
 explore_more-requires-clause-wide g c =
