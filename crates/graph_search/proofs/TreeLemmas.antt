@@ -1,6 +1,6 @@
 -- What is so of the lists of a search.
 use Rattle.std.proofs.Common.{◌≡◌, ◌≢◌, ℕ, zero, suc, ◌+◌, ◌<◌, ◌≤◌, List, [], ◌∷◌, ◌++◌, length, arith, ap, sym, ◌∙◌, refl, inl, inr, subst, length-append}
-use Rattle.std.specs.Prelude.{Option, Some, None, IsSome, IfSome, is_some, Bool, true, false, option_and_then, slice_get}
+use Rattle.std.specs.Prelude.{Option, Some, None, IsSome, IfSome, is_some, is_none, Bool, true, false, option_and_then, slice_get}
 use Rattle.std.proofs.Math.Path.{fun_ext}
 use Rattle.std.proofs.Math.Seq.{get_or-append_seam}
 use Rattle.std.proofs.lemmas.List.{get_or_append_left}
@@ -8,7 +8,7 @@ use Rattle.std.proofs.lemmas.Option.{none-some, same_Some, slice_get_within, opt
 use Rattle.graph_search.specs.declared.edges.Edge.{Edge}
 use Rattle.graph_search.specs.Graphs.{LeadsTo}
 use Rattle.graph_search.specs.Trees.{state_at, edge_at, IsFound, Adds, IsOrderly}
-use Rattle.graph_search.specs.Searches.{IsSearched, IsSearching, IsExplored, GoesOn}
+use Rattle.graph_search.specs.Searches.{IsSearched, IsSearching, IsExplored, GoesOn, IsCut, Reaches, place_of}
 use Rattle.graph_search.proofs.SearchLemmas.{moved, added, next_node}
 use Rattle.graph_search.proofs.WitnessLemmas.{finished, stopped}
 
@@ -172,14 +172,14 @@ searching_begins {S} next meaning limit row edges s some even means =
 
 -- how a search ends
 pub ends : {S : Type 0} (next : S → ℕ → Option S) (meaning : List ℕ → Option S) (limit : ℕ)
-    (nodes : List (List ℕ)) (edges : List Edge) (on : Bool) (start : S) →
-    GoesOn next meaning limit (length nodes) 0 nodes edges on → state_at meaning nodes 0 ≡ Some start →
-    IsExplored next start limit (state_at meaning nodes) (edge_at edges) (length nodes) on
-ends {S} next meaning limit nodes edges true start h first =
+    (nodes : List (List ℕ)) (edges : List Edge) (cut : Option Edge) (start : S) →
+    Reaches next meaning limit (length nodes) nodes edges cut → state_at meaning nodes 0 ≡ Some start →
+    IsExplored next start limit (state_at meaning nodes) (edge_at edges) (length nodes) (is_none cut)
+ends {S} next meaning limit nodes edges None start h first =
     finished next (state_at meaning nodes) (edge_at edges) (length nodes) limit h.searched start first h.within
-ends {S} next meaning limit nodes edges false start h first =
-    stopped next (state_at meaning nodes) (edge_at edges) (length nodes) limit h.0 h.1 h.2.searched start first
-    h.2.within h.3
+ends {S} next meaning limit nodes edges (Some edge) start h first =
+    stopped next (state_at meaning nodes) (edge_at edges) (length nodes) limit edge.from edge.label h.1.searched start
+    first h.1.within h.2
 
 pub orderly : {S : Type 0} (next : S → ℕ → Option S) (meaning : List ℕ → Option S) (limit : ℕ)
     (nodes : List (List ℕ)) (edges : List Edge) (f l : ℕ) → IsSearching next meaning limit nodes edges f l →
@@ -187,10 +187,11 @@ pub orderly : {S : Type 0} (next : S → ℕ → Option S) (meaning : List ℕ �
 orderly {S} next meaning limit nodes edges f l h = record { even = h.even; older = h.searched.older }
 
 pub ends_orderly : {S : Type 0} (next : S → ℕ → Option S) (meaning : List ℕ → Option S) (limit : ℕ)
-    (nodes : List (List ℕ)) (edges : List Edge) (on : Bool) →
-    GoesOn next meaning limit (length nodes) 0 nodes edges on → IsOrderly nodes edges
-ends_orderly {S} next meaning limit nodes edges true h = orderly next meaning limit nodes edges (length nodes) 0 h
-ends_orderly {S} next meaning limit nodes edges false h = orderly next meaning limit nodes edges h.0 h.1 h.2
+    (nodes : List (List ℕ)) (edges : List Edge) (cut : Option Edge) →
+    Reaches next meaning limit (length nodes) nodes edges cut → IsOrderly nodes edges
+ends_orderly {S} next meaning limit nodes edges None h = orderly next meaning limit nodes edges (length nodes) 0 h
+ends_orderly {S} next meaning limit nodes edges (Some edge) h =
+    orderly next meaning limit nodes edges edge.from edge.label h.1
 
 -- what the node's row means
 pub node_means : {S : Type 0} (meaning : List ℕ → Option S) (nodes : List (List ℕ)) (i : ℕ) (row : List ℕ) (s : S) →
@@ -292,13 +293,11 @@ module _ {S : Type 0} (next next' : S → ℕ → Option S) (meaning meaning' : 
       ((m n : List ℕ) (s : S) → meaning' m ≡ Some s → meaning' n ≡ Some s → m ≡ n) →
       (number : Option ℕ) → IfSome number (λ i. slice_get nodes i ≡ Some to) →
       (number ≡ None → (i : ℕ) → slice_get nodes i ≢ Some to) →
-      GoesOn next' meaning' limit edge.from (edge.label + 1) nodes edges (is_some number)
+      GoesOn next' meaning' limit edge nodes edges (is_some number)
   step_at_limit leading full one (Some i) there absent = step_found leading i there
   step_at_limit leading full one None there absent =
       let t = target leading in
       let few = h.within in (
-        edge.from,
-        edge.label,
         after_step,
         record {
           full = omega arith;
@@ -313,3 +312,53 @@ module _ {S : Type 0} (next next' : S → ℕ → Option S) (meaning meaning' : 
           );
         },
       )
+
+-- a search may go on with another limit
+pub stands_on : {S : Type 0} (next : S → ℕ → Option S) (meaning : List ℕ → Option S) (before limit : ℕ)
+    (nodes : List (List ℕ)) (edges : List Edge) (cut : Option Edge) →
+    Reaches next meaning before (length nodes) nodes edges cut → length nodes ≤ limit →
+    IsSearching next meaning limit nodes edges (place_of (length nodes) cut).from (place_of (length nodes) cut).label
+stands_on {S} next meaning before limit nodes edges None h within = record {
+  some = h.some;
+  within = within;
+  even = h.even;
+  searched = h.searched;
+}
+stands_on {S} next meaning before limit nodes edges (Some edge) h within = record {
+  some = h.1.some;
+  within = within;
+  even = h.1.even;
+  searched = h.1.searched;
+}
+
+pub stands_within : {S : Type 0} (next : S → ℕ → Option S) (meaning : List ℕ → Option S) (before : ℕ)
+    (nodes : List (List ℕ)) (edges : List Edge) (cut : Option Edge) →
+    Reaches next meaning before (length nodes) nodes edges cut → (place_of (length nodes) cut).from ≤ length nodes
+stands_within {S} next meaning before nodes edges None h = omega arith
+stands_within {S} next meaning before nodes edges (Some edge) h = let low = h.0 in omega arith
+
+-- Where a search stands, in a graph with the same edges in which nodes have the same states.
+module _ {S : Type 0} (next next' : S → ℕ → Option S) (meaning meaning' : List ℕ → Option S) (limit : ℕ)
+    (nodes : List (List ℕ)) (edges : List Edge) (same : next' ≡ next)
+    (states : state_at meaning' nodes ≡ state_at meaning nodes) where
+  searching_same : (f l : ℕ) → IsSearching next meaning limit nodes edges f l →
+      IsSearching next' meaning' limit nodes edges f l
+  searching_same f l h = record {
+    some = h.some;
+    within = h.within;
+    even = h.even;
+    searched = subst (λ (n : S → ℕ → Option S). IsSearched n (state_at meaning' nodes) (edge_at edges)
+        (length nodes) f l) (sym same)
+        (subst (λ (at : ℕ → Option S). IsSearched next at (edge_at edges) (length nodes) f l) (sym states) h.searched);
+  }
+
+  cut_same : IsCut next (state_at meaning nodes) (length nodes) limit →
+      IsCut next' (state_at meaning' nodes) (length nodes) limit
+  cut_same h =
+      subst (λ (n : S → ℕ → Option S). IsCut n (state_at meaning' nodes) (length nodes) limit) (sym same)
+      (subst (λ (at : ℕ → Option S). IsCut next at (length nodes) limit) (sym states) h)
+
+  pub stands_same : (cut : Option Edge) → Reaches next meaning limit (length nodes) nodes edges cut →
+      Reaches next' meaning' limit (length nodes) nodes edges cut
+  stands_same None h = searching_same (length nodes) 0 h
+  stands_same (Some edge) h = (h.0, searching_same edge.from edge.label h.1, cut_same h.2)

@@ -1,7 +1,7 @@
 -- A search in breadth: it follows the edges of the first node, label by label, then those of the
 -- second, and so on, and adds each new state as the last node. So nodes stand in the order of their
 -- witnesses.
-use Rattle.std.specs.Prelude.{◌≡◌, ◌≢◌, ℕ, ◌<◌, ◌≤◌, List, length, Option, Some, Bool, true, false}
+use Rattle.std.specs.Prelude.{◌≡◌, ◌≢◌, ℕ, ◌<◌, ◌≤◌, List, length, Option, Some, None, Bool, true, false, ◌+◌}
 use Rattle.std.specs.Prelude.{reverse}
 use Rattle.graph_search.specs.declared.edges.Edge.{Edge}
 use Rattle.graph_search.specs.Walks.{IsReachable, IsWalk, IsWitness, IsBefore}
@@ -73,11 +73,26 @@ pub record IsCut {S : Type 0} (next : S → ℕ → Option S) (at : ℕ → Opti
   pub more : (i l : ℕ) × (s t : S) × (at i ≡ Some s) × (next s l ≡ Some t)
       × ((j : ℕ) → at j ≢ Some t)
 
--- The search goes on to this node and label; or it is cut.
-abbrev pub GoesOn : {S : Type 0} → (S → ℕ → Option S) → (List ℕ → Option S) → ℕ → ℕ → ℕ →
+-- The search goes on behind this edge; or it is cut at it.
+abbrev pub GoesOn : {S : Type 0} → (S → ℕ → Option S) → (List ℕ → Option S) → ℕ → Edge →
     List (List ℕ) → List Edge → Bool → Type 0
-GoesOn next meaning limit node label nodes edges true =
-    IsSearching next meaning limit nodes edges node label
-GoesOn next meaning limit node label nodes edges false =
-    (i l : ℕ) × IsSearching next meaning limit nodes edges i l
+GoesOn next meaning limit edge nodes edges true =
+    IsSearching next meaning limit nodes edges edge.from (edge.label + 1)
+GoesOn next meaning limit edge nodes edges false =
+    IsSearching next meaning limit nodes edges edge.from edge.label
+    × IsCut next (state_at meaning nodes) (length nodes) limit
+
+-- where a search of so many nodes stands
+abbrev pub place_of : ℕ → Option Edge → Edge
+place_of count None = record { from = count; label = 0 }
+place_of count (Some edge) = edge
+
+-- The search goes on to this node; or it is cut at an edge.
+abbrev pub Reaches : {S : Type 0} → (S → ℕ → Option S) → (List ℕ → Option S) → ℕ → ℕ →
+    List (List ℕ) → List Edge → Option Edge → Type 0
+Reaches next meaning limit node nodes edges None =
+    IsSearching next meaning limit nodes edges node 0
+Reaches next meaning limit node nodes edges (Some edge) =
+    (edge.from < length nodes)
+    × IsSearching next meaning limit nodes edges edge.from edge.label
     × IsCut next (state_at meaning nodes) (length nodes) limit

@@ -28,11 +28,14 @@ Adds node edge nodes edges nodes' edges' =
     ⊎ (((i : ℕ) → slice_get nodes i ≢ Some node) × (nodes' ≡ nodes ++ node ∷ [])
     × (edges' ≡ edges ++ edge ∷ []))
 
--- What a search found: the nodes, their edges, and whether there are no more.
+-- What a search found: the nodes, all as wide, their edges, whether there are no more, and else the
+-- edge at which it was cut.
 pub record Found : Type 0 where
+  pub width : ℕ
   pub nodes : List (List ℕ)
   pub edges : List Edge
   pub complete : Bool
+  pub cut : Option Edge
 
 -- each node has an edge, and all but the first an edge from an older node
 pub record IsOrderly (nodes : List (List ℕ)) (edges : List Edge) : Type 0 where

@@ -15,4 +15,4 @@ pub use edges::Edge;
 pub use graphs::Graph;
 pub use progress::{CountedProgress, NoProgress, Progress};
 pub use reached::Reached;
-pub use search::explore;
+pub use search::{explore, explore_more};

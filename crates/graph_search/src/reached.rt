@@ -10,6 +10,7 @@ ghost use Rattle.std.specs.Prelude.{
   slice_get,
   Some,
   None,
+  is_none,
   option_copied,
   reverse,
   IfOk,
@@ -17,6 +18,7 @@ ghost use Rattle.std.specs.Prelude.{
 };
 ghost use Rattle.graph_search.specs.Trees.{IsTrace, IsOrderly, edge_at};
 
+use crate::edges::Edge;
 use crate::trees::Tree;
 use std::alloc::{AllocError, Global};
 use std::marker::Model;
@@ -25,38 +27,54 @@ use std::marker::Model;
 #[derive(Drop)]
 pub struct Reached {
     tree: Tree,
-    complete: bool,
+    /// The edge at which the search was cut, if it was.
+    cut: Option<Edge>,
 }
 
 impl Model for Reached {
+    ghost use Rattle.std.specs.Prelude.{is_none};
     ghost use Rattle.graph_search.specs.Trees.{Found, IsOrderly};
 
     ghost Value = { Found };
 
     ghost view = { λ a. record {
+      width = a.tree.nodes.width;
       nodes = a.tree.nodes.rows;
       edges = a.tree.edges.items;
-      complete = a.complete;
+      complete = is_none a.cut;
+      cut = a.cut;
     } };
 
     ghost invariant = { λ a. IsOrderly a.tree.nodes.rows a.tree.edges.items };
 }
 
 impl Reached {
-    pub(crate) fn new(tree: Tree, complete: bool) -> Reached
+    pub(crate) fn new(tree: Tree, cut: Option<Edge>) -> Reached
         requires { IsOrderly tree.nodes.rows tree.edges.items }
+        ensures width { result.width ≡ tree.nodes.width }
         ensures nodes { result.nodes ≡ tree.nodes.rows }
         ensures edges { result.edges ≡ tree.edges.items }
-        ensures complete { result.complete ≡ complete }
+        ensures complete { result.complete ≡ is_none cut }
+        ensures cut { result.cut ≡ cut }
     {
-        Reached { tree, complete }
+        Reached { tree, cut }
+    }
+
+    /// Takes it apart.
+    pub(crate) fn into_parts(self) -> (Tree, Option<Edge>)
+        ensures width { result.0.nodes.width ≡ self.width }
+        ensures nodes { result.0.nodes.rows ≡ self.nodes }
+        ensures edges { result.0.edges.items ≡ self.edges }
+        ensures cut { result.1 ≡ self.cut }
+    {
+        (self.tree, self.cut)
     }
 
     /// Whether every state that can be reached was found.
     pub fn is_complete(&self) -> bool
         ensures { result ≡ self.now.complete }
     {
-        self.complete
+        self.cut.is_none()
     }
 
     /// How many nodes were found.

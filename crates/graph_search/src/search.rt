@@ -14,7 +14,7 @@ ghost use Rattle.std.specs.Prelude.{
   IfOk,
 };
 ghost use Rattle.graph_search.specs.Trees.{state_at, edge_at};
-ghost use Rattle.graph_search.specs.Searches.{IsExplored, IsSearching, GoesOn};
+ghost use Rattle.graph_search.specs.Searches.{IsExplored, IsSearching, GoesOn, Reaches, place_of};
 
 use crate::edges::Edge;
 use crate::graphs::Graph;
@@ -39,67 +39,147 @@ pub fn explore<G: Graph, P: Progress>(
     ensures same_graph { G.next graph.new ≡ G.next graph.old }
     ensures same_labels { G.label_count graph.new ≡ G.label_count graph.old }
     ensures same_width { G.width graph.new ≡ G.width graph.old }
+    ensures wide { IfOk result (λ found. found.width ≡ G.width graph.new) }
+    ensures stands { IfOk result (λ found. Reaches (G.next graph.new) (G.meaning graph.new) limit
+        (length found.nodes) found.nodes found.edges found.cut) }
     ensures explored { IfOk result (λ found.
         (s : G.State) → G.meaning graph.old start.now ≡ Some s →
         IsExplored (G.next graph.new) s limit (state_at (G.meaning graph.new) found.nodes)
         (edge_at found.edges) (length found.nodes) found.complete) }
 {
-    let mut tree = Tree::new(alloc, start)?;
+    let tree = Tree::new(alloc, start)?;
+    let first = Edge { from: 0, label: 0 };
+    search_on(alloc, graph, tree, first, limit, progress)
+}
+
+/// Goes on with a search of this graph that was cut, with a limit that is no less. What it finds is
+/// what a search with that limit finds at once.
+pub fn explore_more<G: Graph, P: Progress>(
+    alloc: Global,
+    graph: &mut G,
+    reached: Reached,
+    limit: u32,
+    progress: &mut P,
+) -> Result<Reached, AllocError>
+    requires more { length reached.nodes ≤ limit }
+    requires wide { reached.width ≡ G.width graph.old }
+    requires stands { (before : ℕ) × Reaches (G.next graph.old) (G.meaning graph.old) before
+        (length reached.nodes) reached.nodes reached.edges reached.cut }
+    ensures same_graph { G.next graph.new ≡ G.next graph.old }
+    ensures same_labels { G.label_count graph.new ≡ G.label_count graph.old }
+    ensures same_width { G.width graph.new ≡ G.width graph.old }
+    ensures wide { IfOk result (λ found. found.width ≡ G.width graph.new) }
+    ensures stands { IfOk result (λ found. Reaches (G.next graph.new) (G.meaning graph.new) limit
+        (length found.nodes) found.nodes found.edges found.cut) }
+    ensures explored { IfOk result (λ found. (s : G.State) →
+        state_at (G.meaning graph.old) reached.nodes 0 ≡ Some s →
+        IsExplored (G.next graph.new) s limit (state_at (G.meaning graph.new) found.nodes)
+        (edge_at found.edges) (length found.nodes) found.complete) }
+{
+    let (tree, cut) = reached.into_parts();
+    let place = place_of(tree.len(), cut);
+    search_on(alloc, graph, tree, place, limit, progress)
+}
+
+/// Where a search of so many nodes stands.
+fn place_of(count: u32, cut: Option<Edge>) -> Edge
+    ensures { result ≡ place_of count cut }
+{
+    match cut {
+        Some(edge) => edge,
+        None => Edge {
+            from: count,
+            label: 0,
+        },
+    }
+}
+
+/// Searches from where a search stands.
+fn search_on<G: Graph, P: Progress>(
+    alloc: Global,
+    graph: &mut G,
+    mut tree: Tree,
+    place: Edge,
+    limit: u32,
+    progress: &mut P,
+) -> Result<Reached, AllocError>
+    requires wide { tree.nodes.width ≡ G.width graph.old }
+    requires before { IsSearching (G.next graph.old) (G.meaning graph.old) limit
+        tree.nodes.rows tree.edges.items place.from place.label }
+    requires within { place.from ≤ length tree.nodes.rows }
+    ensures same_graph { G.next graph.new ≡ G.next graph.old }
+    ensures same_labels { G.label_count graph.new ≡ G.label_count graph.old }
+    ensures same_width { G.width graph.new ≡ G.width graph.old }
+    ensures wide { IfOk result (λ found. found.width ≡ G.width graph.new) }
+    ensures stands { IfOk result (λ found. Reaches (G.next graph.new) (G.meaning graph.new) limit
+        (length found.nodes) found.nodes found.edges found.cut) }
+    ensures explored { IfOk result (λ found. (s : G.State) →
+        state_at (G.meaning graph.old) tree.nodes.rows 0 ≡ Some s →
+        IsExplored (G.next graph.new) s limit (state_at (G.meaning graph.new) found.nodes)
+        (edge_at found.edges) (length found.nodes) found.complete) }
+{
     let mut row = Vec::new(alloc);
-    row.resize(start.len(), 0)?;
-    let complete = expand_all(graph, &mut tree, row.as_mut_slice(), limit, progress)?;
-    Ok(Reached::new(tree, complete))
+    row.resize(graph.width(), 0)?;
+    let cut = expand_all(graph, &mut tree, row.as_mut_slice(), limit, place, progress)?;
+    Ok(Reached::new(tree, cut))
 }
 
 /// How many nodes are expanded between two reports of progress.
 const REPORT_EVERY: u32 = 4096;
 
-/// Follows the edges of all nodes. False where the tree was full and an edge led to another state.
+/// Follows all edges from this one on. Answers the edge that led to another state where the tree was
+/// full, if one did.
 fn expand_all<G: Graph, P: Progress>(
     graph: &mut G,
     tree: &mut Tree,
     row: &mut [u32],
     limit: u32,
+    place: Edge,
     progress: &mut P,
-) -> Result<bool, AllocError>
+) -> Result<Option<Edge>, AllocError>
     requires room { length row.old ≡ G.width graph.old }
     requires wide { tree.old.nodes.width ≡ G.width graph.old }
     requires before { IsSearching (G.next graph.old) (G.meaning graph.old) limit
-        tree.old.nodes.rows tree.old.edges.items 0 0 }
+        tree.old.nodes.rows tree.old.edges.items place.from place.label }
+    requires within { place.from ≤ length tree.old.nodes.rows }
     ensures same_graph { G.next graph.new ≡ G.next graph.old }
     ensures same_labels { G.label_count graph.new ≡ G.label_count graph.old }
     ensures same_width { G.width graph.new ≡ G.width graph.old }
     ensures first { IfOk result (λ _. state_at (G.meaning graph.new) tree.new.nodes.rows 0
         ≡ state_at (G.meaning graph.old) tree.old.nodes.rows 0) }
-    ensures after { IfOk result (GoesOn (G.next graph.new) (G.meaning graph.new) limit
-        (length tree.new.nodes.rows) 0 tree.new.nodes.rows tree.new.edges.items) }
+    ensures same_rows { tree.new.nodes.width ≡ tree.old.nodes.width }
+    ensures after { IfOk result (Reaches (G.next graph.new) (G.meaning graph.new) limit
+        (length tree.new.nodes.rows) tree.new.nodes.rows tree.new.edges.items) }
 {
-    let mut node = 0;
+    let mut node = place.from;
+    let mut label = place.label;
     while node < tree.len() {
         if node % REPORT_EVERY == 0 {
             progress.report(tree.len());
         }
-        if !expand(graph, tree, row, limit, node)? {
-            return Ok(false);
+        let cut = expand(graph, tree, row, limit, Edge { from: node, label })?;
+        if cut.is_some() {
+            return Ok(cut);
         }
         node += 1;
+        label = 0;
     }
-    Ok(true)
+    Ok(None)
 }
 
-/// Follows the edges of one node.
+/// Follows the edges of one node, from this one on.
 fn expand<G: Graph>(
     graph: &mut G,
     tree: &mut Tree,
     row: &mut [u32],
     limit: u32,
-    node: u32,
-) -> Result<bool, AllocError>
+    first: Edge,
+) -> Result<Option<Edge>, AllocError>
     requires room { length row.old ≡ G.width graph.old }
     requires wide { tree.old.nodes.width ≡ G.width graph.old }
-    requires there { node < length tree.old.nodes.rows }
+    requires there { first.from < length tree.old.nodes.rows }
     requires before { IsSearching (G.next graph.old) (G.meaning graph.old) limit
-        tree.old.nodes.rows tree.old.edges.items node 0 }
+        tree.old.nodes.rows tree.old.edges.items first.from first.label }
     ensures same_graph { G.next graph.new ≡ G.next graph.old }
     ensures same_labels { G.label_count graph.new ≡ G.label_count graph.old }
     ensures same_width { G.width graph.new ≡ G.width graph.old }
@@ -107,15 +187,19 @@ fn expand<G: Graph>(
     ensures first { IfOk result (λ _. state_at (G.meaning graph.new) tree.new.nodes.rows 0
         ≡ state_at (G.meaning graph.old) tree.old.nodes.rows 0) }
     ensures grown { IfOk result (λ _. length tree.old.nodes.rows ≤ length tree.new.nodes.rows) }
-    ensures after { IfOk result (GoesOn (G.next graph.new) (G.meaning graph.new) limit
-        (node + 1) 0 tree.new.nodes.rows tree.new.edges.items) }
+    ensures after { IfOk result (Reaches (G.next graph.new) (G.meaning graph.new) limit
+        (first.from + 1) tree.new.nodes.rows tree.new.edges.items) }
 {
-    for label in 0..graph.label_count() {
-        if !follow(graph, tree, row, limit, Edge { from: node, label })? {
-            return Ok(false);
+    for label in first.label..graph.label_count() {
+        let edge = Edge {
+            from: first.from,
+            label,
+        };
+        if !follow(graph, tree, row, limit, edge)? {
+            return Ok(Some(edge));
         }
     }
-    Ok(true)
+    Ok(None)
 }
 
 /// Follows one edge, where there is one.
@@ -140,7 +224,7 @@ fn follow<G: Graph>(
         ≡ state_at (G.meaning graph.old) tree.old.nodes.rows 0) }
     ensures grown { IfOk result (λ _. length tree.old.nodes.rows ≤ length tree.new.nodes.rows) }
     ensures after { IfOk result (GoesOn (G.next graph.new) (G.meaning graph.new) limit
-        edge.from (edge.label + 1) tree.new.nodes.rows tree.new.edges.items) }
+        edge tree.new.nodes.rows tree.new.edges.items) }
 {
     if !graph.step(tree.node(edge.from), edge.label, row)? {
         return Ok(true);

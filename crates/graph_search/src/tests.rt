@@ -7,7 +7,7 @@ ghost use Rattle.graph_search.specs.Doubling.{number_of, below};
 use crate::graphs::Graph;
 use crate::progress::{CountedProgress, NoProgress};
 use crate::reached::Reached;
-use crate::search::explore;
+use crate::search::{explore, explore_more};
 use std::alloc::AllocError;
 use std::test::Fail;
 
@@ -122,6 +122,26 @@ fn limits_are_kept(rt: HostRuntime) -> Result<(), Fail> {
         assert_eq!(rt; found.is_complete(), limit >= 10, "{limit}");
         assert!(rt; found.node(found.len()).is_none(), "{limit}");
     }
+    Ok(())
+}
+
+/// A search that was cut goes on at the edge at which it was, and ends as one with the last limit.
+#[test]
+fn searches_go_on(rt: HostRuntime) -> Result<(), Fail> {
+    let mut graph = Numbers { size: 11 };
+    let found = explore(rt.alloc(), &mut graph, &[1], 4, &mut NoProgress)?;
+    assert_eq!(rt; found.len(), 4);
+    let found = explore_more(rt.alloc(), &mut graph, found, 7, &mut NoProgress)?;
+    assert_eq!(rt; found.len(), 7);
+    assert!(rt; !found.is_complete());
+    let found = explore_more(rt.alloc(), &mut graph, found, 100, &mut NoProgress)?;
+    assert!(rt; found.is_complete());
+    let mut node = 0u32;
+    for number in [1, 2, 4, 3, 8, 5, 6, 9, 10, 7] {
+        assert_eq!(rt; number_at(&found, node), Some(number));
+        node = node.saturating_add(1);
+    }
+    assert_eq!(rt; found.len(), 10);
     Ok(())
 }
 

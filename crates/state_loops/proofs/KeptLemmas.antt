@@ -5,6 +5,7 @@ use Rattle.cheri_model.specs.runs.Image.{ImageParts}
 use Rattle.cheri_model.specs.runs.Machine.{MachineState, opening_state}
 use Rattle.graph_search.specs.Searches.{IsExplored}
 use Rattle.graph_search.specs.Trees.{Found, state_at, edge_at}
+use Rattle.graph_search.proofs.TreeLemmas.{stands_same}
 use Rattle.graph_loops.specs.Loops.{AreMeant}
 use Rattle.loop_search.specs.Verdicts.{AreDistinct, IsVerdict}
 use Rattle.loop_search.specs.declared.judging.Verdict.{Verdict}
@@ -59,6 +60,9 @@ module _ (image : ImageParts) (sweeps : List SweepRange) (g : GraphParts) (found
       harts = harts_same;
       search = subst (λ (a : ℕ → Option MachineState). IsExplored (next image sweeps) (opening_state image) limit a
           (edge_at found.edges) (length found.nodes) found.complete) (sym states_same) kept.search;
+      wide = kept.wide;
+      stands = stands_same (next g.image g.sweeps) (next g'.image g'.sweeps) (state_in g) (state_in g') limit
+          found.nodes found.edges edges states found.cut kept.stands;
     }
 
     pub kept_same : IsSame (kept_of image sweeps g.store found limit) (kept_of image sweeps g'.store found limit)

@@ -55,11 +55,11 @@ found_value table values v n h lawful at =
     let w = map_some row_of (slice_get values n) (row_of v) mapped in
     w.1 ∙ ap (λ (x : CapValue). Some x) (one_value w.0 v (all_at IsLawfulValue values n w.0 h.lawful w.1) lawful w.2)
 
-last_item : {A : Type 0} (xs : List A) (x : A) → slice_get (xs ++ x ∷ []) (length xs) ≡ Some x
+pub last_item : {A : Type 0} (xs : List A) (x : A) → slice_get (xs ++ x ∷ []) (length xs) ≡ Some x
 last_item [] x = refl
 last_item (y ∷ ys) x = last_item ys x
 
-earlier_item : {A : Type 0} (xs : List A) (x : A) (i : ℕ) (y : A) → i < length xs → slice_get (xs ++ x ∷ []) i ≡ Some y →
+pub earlier_item : {A : Type 0} (xs : List A) (x : A) (i : ℕ) (y : A) → i < length xs → slice_get (xs ++ x ∷ []) i ≡ Some y →
     slice_get xs i ≡ Some y
 earlier_item [] x i y below is = absurd (omega arith)
 earlier_item (z ∷ zs) x zero y below is = is

@@ -1,4 +1,5 @@
 pub mod Numbered
 pub mod Values
 pub mod Codes
+pub mod Memories
 pub mod Stores

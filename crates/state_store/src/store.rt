@@ -1,6 +1,6 @@
 //! The store.
 
-ghost use Rattle.std.specs.Prelude.{◌≡◌, ◌≢◌, ℕ, ◌<◌, [], List, Some, length, slice_get, IsSome, IfOk, OnErr};
+ghost use Rattle.std.specs.Prelude.{◌≡◌, ◌≢◌, ℕ, ◌<◌, [], List, Some, length, slice_get, slice_set, IsSome, IfOk, OnErr};
 ghost use Rattle.cap_model.specs.values.CapValue.{CapValue};
 ghost use Rattle.cheri_model.specs.steps.Hart.{HartState};
 ghost use Rattle.cheri_model.specs.runs.Sweeps.{swept_memory};
@@ -8,7 +8,7 @@ ghost use Rattle.state_store.specs.Numbered.{Extends, IsThereOrLast};
 ghost use Rattle.state_store.specs.Stores.{hart_at, memory_at, Keeps, IsOneRow};
 
 use crate::harts::{HART_WIDTH, load_hart, row_of_hart};
-use crate::memories::row_of_memory;
+use crate::memories::{Memories, row_of_memory};
 use crate::values::Values;
 use cap_ops::Cap;
 use cheri_model::Value;
@@ -24,7 +24,7 @@ use tagged_mem::Ram;
 pub struct Store {
     values: Values,
     harts: Interner,
-    memories: Interner,
+    memories: Memories,
     granules: usize,
 }
 
@@ -54,7 +54,7 @@ impl Store {
         Store {
             values: Values::new(alloc),
             harts: Interner::new(alloc, HART_WIDTH),
-            memories: Interner::new(alloc, granules),
+            memories: Memories::new(alloc, granules),
             granules,
         }
     }
@@ -161,5 +161,23 @@ impl Store {
         ensures same_values { self.new.values ≡ self.old.values }
     {
         self.memories.insert(row)
+    }
+
+    /// The number of a memory with the value of another number in one granule.
+    pub fn number_written(
+        &mut self,
+        memory: u32,
+        granule: u32,
+        value: u32,
+    ) -> Result<u32, AllocError>
+        requires memory { IsSome (memory_at self.old memory) }
+        requires granule { granule < self.old.granules }
+        ensures numbered { IfOk result (λ id. (row : List ℕ) →
+            slice_get self.old.memories memory ≡ Some row →
+            slice_get self.new.memories id ≡ Some (slice_set row granule value)) }
+        ensures kept { Keeps self.old self.new }
+        ensures same_harts { self.new.harts ≡ self.old.harts }
+    {
+        self.memories.insert_written(memory, granule, value)
     }
 }

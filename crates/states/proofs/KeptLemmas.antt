@@ -8,7 +8,7 @@ use Rattle.cheri_model.specs.runs.Image.{ImageParts}
 use Rattle.cheri_model.specs.runs.ImageForm.{is_image}
 use Rattle.cheri_model.specs.runs.Machine.{MachineState, opening_state}
 use Rattle.cheri_model.specs.runs.Replay.{is_legal, replayed_state, state_after}
-use Rattle.graph_search.specs.Searches.{IsExplored}
+use Rattle.graph_search.specs.Searches.{IsExplored, Reaches}
 use Rattle.graph_search.specs.Trees.{IsTrace, Found, state_at, edge_at}
 use Rattle.graph_search.specs.Walks.{IsWitness}
 use Rattle.schedules.specs.declared.ranges.SweepRange.{SweepRange}
@@ -36,8 +36,11 @@ same_meaning g image sweeps same =
 pub searched : (g : GraphParts) (image : ImageParts) (sweeps : List SweepRange) (found : Found) (limit : ℕ) →
     next g.image g.sweeps ≡ next image sweeps → length g.image.harts ≡ length image.harts →
     IsExplored (next g.image g.sweeps) (opening_state image) limit (state_at (state_in g) found.nodes)
-    (edge_at found.edges) (length found.nodes) found.complete → IsKept image sweeps g found limit
-searched g image sweeps found limit edges harts explored = record {
+    (edge_at found.edges) (length found.nodes) found.complete →
+    found.width ≡ length g.image.harts + 1 →
+    Reaches (next g.image g.sweeps) (state_in g) limit (length found.nodes) found.nodes found.edges found.cut →
+    IsKept image sweeps g found limit
+searched g image sweeps found limit edges harts explored wide stands = record {
   edges = edges;
   harts = harts;
   search = subst (λ (m : List ℕ → Option MachineState). IsExplored (next image sweeps) (opening_state image) limit
@@ -45,19 +48,16 @@ searched g image sweeps found limit edges harts explored = record {
       (same_meaning g image sweeps harts)
       (subst (λ (f : MachineState → ℕ → Option MachineState). IsExplored f (opening_state image) limit
       (state_at (state_in g) found.nodes) (edge_at found.edges) (length found.nodes) found.complete) edges explored);
+  wide = wide ∙ ap (λ (n : ℕ). n + 1) harts;
+  stands = stands;
 }
 
--- the first node is the opening state's, and so searches can begin again there
-pub first_node : (image : ImageParts) (sweeps : List SweepRange) (g : GraphParts) (found : Found) (limit : ℕ) →
-    IsKept image sweeps g found limit →
-    (row : List ℕ) × (slice_get found.nodes 0 ≡ Some row) × (state_in g row ≡ Some (opening_state image))
-first_node image sweeps g found limit kept =
-    let first = then_some (state_in (record { image = image; sweeps = sweeps; store = g.store })) (slice_get found.nodes 0)
-    (opening_state image) kept.search.first in (
-      first.0,
-      first.1,
-      ap (λ (m : List ℕ → Option MachineState). m first.0) (same_meaning g image sweeps kept.harts) ∙ first.2,
-    )
+-- the first node is the opening state's
+pub first_state : (image : ImageParts) (sweeps : List SweepRange) (g : GraphParts) (found : Found) (limit : ℕ) →
+    IsKept image sweeps g found limit → state_at (state_in g) found.nodes 0 ≡ Some (opening_state image)
+first_state image sweeps g found limit kept =
+    ap (λ (m : List ℕ → Option MachineState). state_at m found.nodes 0) (same_meaning g image sweeps kept.harts)
+    ∙ kept.search.first
 
 -- how many granules the memories have
 pub kept_granules : (kept : KeptParts) → IsSearch kept → is_image kept.image ≡ true →

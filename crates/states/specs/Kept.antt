@@ -1,11 +1,11 @@
 -- What a search kept: the first states in the order of their witnesses.
-use Rattle.std.specs.Prelude.{◌≡◌, ℕ, ◌<◌, List, length, Option, Some, None, Bool, true, false, ◌⊎◌}
+use Rattle.std.specs.Prelude.{◌≡◌, ℕ, ◌+◌, ◌<◌, List, length, Option, Some, None, Bool, true, false, ◌⊎◌}
 use Rattle.cheri_model.specs.declared.operation.Op.{Op}
 use Rattle.cheri_model.specs.runs.Image.{ImageParts}
 use Rattle.cheri_model.specs.runs.Machine.{MachineState, opening_state}
 use Rattle.cheri_model.specs.runs.Replay.{is_legal, replayed_state}
 use Rattle.graph_search.specs.declared.edges.Edge.{Edge}
-use Rattle.graph_search.specs.Searches.{IsExplored}
+use Rattle.graph_search.specs.Searches.{IsExplored, Reaches}
 use Rattle.graph_search.specs.Trees.{IsFound, state_at, edge_at, Found}
 use Rattle.graph_search.specs.Walks.{IsWitness}
 use Rattle.schedules.specs.declared.ranges.SweepRange.{SweepRange}
@@ -57,12 +57,15 @@ IsSearch kept =
     (at kept) (edge kept) (count kept) kept.complete
 
 -- What is kept beside: a graph with the edges of that image and those sweeps, in whose store the
--- states are.
+-- states are, and where the search stands in it.
 pub record IsKept (image : ImageParts) (sweeps : List SweepRange) (graph : GraphParts)
     (found : Found) (limit : ℕ) : Type 0 where
   pub edges : next graph.image graph.sweeps ≡ next image sweeps
   pub harts : length graph.image.harts ≡ length image.harts
   pub search : IsSearch (kept_of image sweeps graph.store found limit)
+  pub wide : found.width ≡ length image.harts + 1
+  pub stands : Reaches (next graph.image graph.sweeps) (state_in graph) limit
+      (length found.nodes) found.nodes found.edges found.cut
 
 -- The witness of a state as an order: of the orders that lead to it the shortest, and of those the
 -- least, harts ascending before sweeps in the order given.

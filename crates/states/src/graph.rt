@@ -315,9 +315,7 @@ impl MachineGraph {
             slice_get self.old.store.values value ≡ Some v →
             memory_at self.new.store id ≡ Some (slice_set m granule v)) }
     {
-        self.row.copy_from_slice(self.store.memory(memory));
-        self.row[granule as usize] = value;
-        self.store.number_row(self.row.as_slice())
+        self.store.number_written(memory, granule, value)
     }
 
     /// Takes a sweep.

@@ -26,7 +26,7 @@ ghost use Rattle.states.specs.Kept.{kept_of, at, count, IsKept, IsSearch, IsWitn
 
 use crate::graph::MachineGraph;
 use cheri_model::{Image, Op};
-use graph_search::{Progress, Reached, explore};
+use graph_search::{Progress, Reached, explore, explore_more};
 use schedules::SweepRange;
 use state_store::State;
 use std::alloc::{AllocError, Global};
@@ -103,31 +103,28 @@ impl Kept {
         })
     }
 
-    /// Searches again, with another limit. What the search learned of single steps is kept.
-    pub fn search_again<P: Progress>(
+    /// Goes on with the search, with a limit that is no less. What it keeps then is what a search
+    /// with that limit keeps.
+    pub fn search_on<P: Progress>(
         self,
         alloc: Global,
         limit: u32,
         progress: &mut P,
     ) -> Result<Kept, AllocError>
-        requires { 0 < limit }
+        requires { self.limit ≤ limit }
         ensures image { IfOk result (λ kept. kept.image ≡ self.image) }
         ensures sweeps { IfOk result (λ kept. kept.sweeps ≡ self.sweeps) }
         ensures limit { IfOk result (λ kept. kept.limit ≡ limit) }
     {
-        let Some(first) = self.reached.node(0) else {
-            unreachable!()
-        };
-        let start = Vec::from_slice(alloc, first)?;
-        Kept::search(
-            alloc,
-            self.image,
-            self.sweeps,
-            self.graph,
-            start.as_slice(),
+        let mut graph = self.graph;
+        let reached = explore_more(alloc, &mut graph, self.reached, limit, progress)?;
+        Ok(Kept {
+            image: self.image,
+            sweeps: self.sweeps,
+            graph,
+            reached,
             limit,
-            progress,
-        )
+        })
     }
 
     /// How many states are kept.

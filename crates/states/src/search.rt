@@ -102,7 +102,7 @@ pub fn find_from<T: StateTest, P: Progress>(
     let mut state = first_passing(&kept, test);
     while state.is_none() && !kept.is_complete() && kept.limit() < limit {
         let stage = limit.min(kept.limit().saturating_mul(STAGE_GROWTH));
-        kept = kept.search_again(alloc, stage, progress)?;
+        kept = kept.search_on(alloc, stage, progress)?;
         state = first_passing(&kept, test);
     }
     Ok(Found { kept, state })

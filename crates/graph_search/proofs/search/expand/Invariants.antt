@@ -13,9 +13,9 @@ invariant-loop-label g l = record {
   wide : l.tree.nodes.width ≡ g.G.Graph.width l.graph;
   ending : l.label-end ≡ g.G.Graph.label_count l.graph;
   grown : length l.fn.tree.nodes.rows ≤ length l.tree.nodes.rows;
-  there : l.node < length l.tree.nodes.rows;
+  there : l.first.from < length l.tree.nodes.rows;
   first : state_at (g.G.Graph.meaning l.graph) l.tree.nodes.rows 0
       ≡ state_at (g.G.Graph.meaning l.fn.graph) l.fn.tree.nodes.rows 0;
   before : IsSearching (g.G.Graph.next l.graph) (g.G.Graph.meaning l.graph) l.limit
-      l.tree.nodes.rows l.tree.edges.items l.node l.label;
+      l.tree.nodes.rows l.tree.edges.items l.first.from l.label;
 }

@@ -8,6 +8,7 @@ invariant-loop-node g l = record {
   same_graph : g.G.Graph.next l.graph ≡ g.G.Graph.next l.fn.graph;
   same_labels : g.G.Graph.label_count l.graph ≡ g.G.Graph.label_count l.fn.graph;
   same_width : g.G.Graph.width l.graph ≡ g.G.Graph.width l.fn.graph;
+  same_rows : l.tree.nodes.width ≡ l.fn.tree.nodes.width;
   room : length l.row ≡ g.G.Graph.width l.graph;
   wide : l.tree.nodes.width ≡ g.G.Graph.width l.graph;
   there : l.node ≤ length l.tree.nodes.rows;
@@ -15,7 +16,7 @@ invariant-loop-node g l = record {
       ≡ state_at (g.G.Graph.meaning l.fn.graph) l.fn.tree.nodes.rows 0;
   few : length l.tree.nodes.rows ≤ l.limit;
   before : IsSearching (g.G.Graph.next l.graph) (g.G.Graph.meaning l.graph) l.limit
-      l.tree.nodes.rows l.tree.edges.items l.node 0;
+      l.tree.nodes.rows l.tree.edges.items l.node l.label;
 }
 
 abbrev pub decreases-loop-node : goal.decreases-loop-node

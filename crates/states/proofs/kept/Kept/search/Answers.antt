@@ -22,3 +22,4 @@ invariant_of-result g c =
     let harts : length c.explore.new.graph.image.harts ≡ length c.args.image.harts = omega arith in
     searched c.explore.new.graph c.args.image c.args.sweeps.items c.in_ok-reached.reached c.args.limit (edges ∙ c.requires.edges) harts
     (c.in_ok-reached.ensures.explored (opening_state c.args.image) c.requires.opening)
+    c.in_ok-reached.ensures.wide c.in_ok-reached.ensures.stands

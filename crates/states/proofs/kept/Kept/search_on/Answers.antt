@@ -1,0 +1,37 @@
+use Rattle.std.proofs.Common.{◌≡◌, ◌≤◌, ◌+◌, ℕ, List, length, ◌∙◌, ap, sym, arith}
+use Rattle.cheri_model.specs.runs.Machine.{MachineState, opening_state}
+use Rattle.graph_search.specs.Trees.{state_at}
+use Rattle.schedules.specs.Schedules.{next}
+use Rattle.states.specs.Graphs.{state_in}
+use Rattle.states.specs.Kept.{KeptParts}
+use Rattle.states.proofs.KeptLemmas.{searched, first_state}
+use Rattle.states.proofs.kept.Kept.search_on.Goals as goal
+
+pub explore_more-requires-clause-more : goal.explore_more-requires-clause-more
+explore_more-requires-clause-more g c =
+    let within = c.self.invariant.search.within in
+    let same : c.self.inside.limit ≡ c.args.self.limit = ap (λ (k : KeptParts). k.limit) c.self.view_is in
+    let more : c.args.self.limit ≤ c.args.limit = c.requires in
+    omega (arith, within, same, more)
+
+pub explore_more-requires-clause-wide : goal.explore_more-requires-clause-wide
+explore_more-requires-clause-wide g c =
+    c.self.invariant.wide ∙ ap (λ (n : ℕ). n + 1) (sym c.self.invariant.harts)
+
+pub explore_more-requires-clause-stands : goal.explore_more-requires-clause-stands
+explore_more-requires-clause-stands g c = (c.self.inside.limit, c.self.invariant.stands)
+
+pub invariant_of-result : goal.invariant_of-result
+invariant_of-result g c =
+    let kept = c.self.invariant in
+    let old = c.self.inside.graph in
+    let edges : next c.explore_more.new.graph.image c.explore_more.new.graph.sweeps ≡ next old.image old.sweeps =
+    c.explore_more.ensures.same_graph in
+    let width : length c.explore_more.new.graph.image.harts + 1 ≡ length old.image.harts + 1 = c.explore_more.ensures.same_width in
+    let same = kept.harts in
+    let harts : length c.explore_more.new.graph.image.harts ≡ length c.self.inside.image.harts = omega arith in
+    searched c.explore_more.new.graph c.self.inside.image c.self.inside.sweeps.items c.in_ok-reached.reached c.args.limit
+    (edges ∙ kept.edges) harts
+    (c.in_ok-reached.ensures.explored (opening_state c.self.inside.image)
+    (first_state c.self.inside.image c.self.inside.sweeps.items old c.self.inside.reached c.self.inside.limit kept))
+    c.in_ok-reached.ensures.wide c.in_ok-reached.ensures.stands
