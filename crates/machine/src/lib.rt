@@ -6,7 +6,7 @@
 #![tactic(auto)]
 
 pub use cores::{BootFault, Core, GREATEST_TRACE_LIMIT, StepFault, run_judged, run_order};
-pub use shared_machine::laws;
-pub use shared_machine::{Blanks, Lane, Look, Machine, Naming, OpenFault};
-pub use shared_machine::{Receipt, Share, Watch, WatchFault};
+pub use shared_machine::{
+    Blanks, Lane, Look, Machine, Naming, OpenFault, Receipt, Share, Watch, WatchFault, laws,
+};
 pub use simulation::{SimFault, simulate};
