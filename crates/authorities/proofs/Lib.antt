@@ -1,4 +1,4 @@
-pub mod Open
+pub mod Unfold
 pub mod RightsLemmas
 pub mod ListLemmas
 pub mod AddLemmas

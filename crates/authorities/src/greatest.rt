@@ -1,5 +1,5 @@
 //! Lists of the greatest rights.
-#![tactic(auto, unfolding(crate::proofs::Open::lists))]
+#![tactic(auto, unfolding(crate::proofs::Unfold::lists))]
 
 ghost use Rattle.std.specs.Prelude.{◌≡◌, ◌++◌, filter, IfOk};
 ghost use Rattle.authorities.specs.Gathering.{is_covered, stays, with_rights};

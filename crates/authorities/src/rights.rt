@@ -1,5 +1,5 @@
 //! Bounds and permissions.
-#![tactic(auto, unfolding(crate::proofs::Open::rights))]
+#![tactic(auto, unfolding(crate::proofs::Unfold::rights))]
 
 ghost use Rattle.std.specs.Prelude.{◌≡◌};
 ghost use Rattle.authorities.specs.Authorities.{rights_of, is_within, is_before};

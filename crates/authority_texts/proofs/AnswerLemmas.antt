@@ -21,7 +21,7 @@ use Rattle.schedules.specs.declared.ranges.SweepRange.{SweepRange}
 use Rattle.shown_states.specs.Endings.{ending_of, IsWritten, IsUnwritten}
 use Rattle.shown_states.specs.declared.form.Ending.{Ending}
 use Rattle.shown_states.specs.declared.form.Format.{Format}
-use Rattle.sinks.specs.Sinks.{TakesBeginning}
+use Rattle.sinks.specs.Sinks.{TakesPrefix}
 use Rattle.sinks.specs.declared.fault.WriteFault.{WriteFault}
 use Rattle.states.specs.Graphs.{state_in}
 use Rattle.states.specs.Kept.{KeptParts, count, at, graph_of, IsSearch, AreAllKept}
@@ -134,7 +134,7 @@ said_written kept format text ending old new answer is taken =
     (text, subst (λ (e : Ending). IsAuthorityAnswer kept.image kept.sweeps kept.limit format text e) (sym is) answer, taken)
 
 pub said_begun : (kept : KeptParts) (format : Format) (text : List ℕ) (fault : WriteFault) (old new : Option (List ℕ))
-    → IsAuthorityAnswer kept.image kept.sweeps kept.limit format text (ending_of kept.complete) → TakesBeginning old new text
+    → IsAuthorityAnswer kept.image kept.sweeps kept.limit format text (ending_of kept.complete) → TakesPrefix old new text
     → IsUnwritten (λ t. (ending : Ending) × IsAuthorityAnswer kept.image kept.sweeps kept.limit format t ending) old new fault
 said_begun kept format text fault old new answer begun = inr (text, (ending_of kept.complete, answer), begun)
 

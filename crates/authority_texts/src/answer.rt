@@ -7,7 +7,7 @@ ghost use Rattle.authority_texts.specs.AuthorityTexts.{said};
 ghost use Rattle.authority_texts.specs.Told.{AreTold, AreAllTold};
 ghost use Rattle.shown_states.specs.Endings.{IsUnwritten, IsWritten};
 ghost use Rattle.shown_states.specs.declared.form.Ending.{Ending};
-ghost use Rattle.sinks.specs.Sinks.{TakesBeginning};
+ghost use Rattle.sinks.specs.Sinks.{TakesPrefix};
 ghost use Rattle.states.specs.Kept.{count};
 
 use crate::json::write_json;
@@ -42,7 +42,7 @@ fn write_said(
     }
 }
 
-/// Writes an answer. After a fault of the writing the sink took a beginning of it.
+/// Writes an answer. After a fault of the writing the sink took a prefix of it.
 fn put_said<S: Sink>(
     alloc: Global,
     format: Format,
@@ -51,11 +51,11 @@ fn put_said<S: Sink>(
     memory: &[Told],
     sink: &mut S,
 ) -> Result<(), WriteFault>
-    ensures whole { OnOk result (Appends (S.taken sink.old) (S.taken sink.new)
+    ensures whole { OnOk result (Appends (S.written sink.old) (S.written sink.new)
         (said format kept.now.complete kept.now.image (count kept.now) harts.now memory.now)) }
-    ensures beginning { TakesBeginning (S.taken sink.old) (S.taken sink.new)
+    ensures prefix { TakesPrefix (S.written sink.old) (S.written sink.new)
         (said format kept.now.complete kept.now.image (count kept.now) harts.now memory.now) }
-    ensures place { S.place sink.new ≡ S.place sink.old }
+    ensures identity { S.identity sink.new ≡ S.identity sink.old }
 {
     let mut out = String::new(alloc);
     write_said(alloc, format, &mut out, kept, harts, memory)?;
@@ -97,11 +97,11 @@ fn put_found<S: Sink>(
     requires { AreFound found.now.kept found.now.harts.items found.now.memory.items }
     ensures written { IfOk result (λ ending. IsWritten
         (λ text. IsAuthorityAnswer found.now.kept.image found.now.kept.sweeps found.now.kept.limit
-        format text ending) (S.taken sink.old) (S.taken sink.new)) }
+        format text ending) (S.written sink.old) (S.written sink.new)) }
     ensures begun { IfErr result (IsUnwritten (λ text. (ending : Ending)
         × IsAuthorityAnswer found.now.kept.image found.now.kept.sweeps found.now.kept.limit
-        format text ending) (S.taken sink.old) (S.taken sink.new)) }
-    ensures place { S.place sink.new ≡ S.place sink.old }
+        format text ending) (S.written sink.old) (S.written sink.new)) }
+    ensures identity { S.identity sink.new ≡ S.identity sink.old }
 {
     // Its clause says that this is a search.
     let _count = found.kept.len();
@@ -121,7 +121,7 @@ fn put_found<S: Sink>(
 /// Searches the states that an image reaches, by steps of its harts and these sweeps, and writes the
 /// greatest rights that each hart and memory ever hold, each with the order that leads to the first
 /// state in which just these are held. At most `limit` states are kept. Nothing is written before
-/// the search has ended. After a fault of the writing the sink took a beginning of the answer.
+/// the search has ended. After a fault of the writing the sink took a prefix of the answer.
 pub fn authority<P: Progress, S: Sink>(
     alloc: Global,
     image: &Image,
@@ -135,11 +135,11 @@ pub fn authority<P: Progress, S: Sink>(
     requires few { length sweeps.now ≤ MAX_SWEEPS }
     ensures written { IfOk result (λ ending. IsWritten
         (λ text. IsAuthorityAnswer image.now sweeps.now limit format text ending)
-        (S.taken sink.old) (S.taken sink.new)) }
+        (S.written sink.old) (S.written sink.new)) }
     ensures begun { IfErr result (IsUnwritten (λ text. (ending : Ending)
         × IsAuthorityAnswer image.now sweeps.now limit format text ending)
-        (S.taken sink.old) (S.taken sink.new)) }
-    ensures place { S.place sink.new ≡ S.place sink.old }
+        (S.written sink.old) (S.written sink.new)) }
+    ensures identity { S.identity sink.new ≡ S.identity sink.old }
 {
     let found = found_authorities(alloc, image, sweeps, limit, progress)?;
     put_found(alloc, format, &found, sink)

@@ -16,7 +16,7 @@ ghost use Rattle.report_lines.specs.Texts.{line};
 use crate::told::Told;
 use cheri_model::{Image, NoMemory};
 use order_texts::write_order;
-use report_lines::{Hex, HexWord, image_json, write_json_value};
+use report_lines::{Hex, Hex64, image_json, write_json_value};
 use serde_json::{Map, Value, json, put};
 use std::alloc::Global;
 
@@ -34,7 +34,7 @@ fn order_text(alloc: Global, told: &Told) -> Result<String, NoMemory>
 fn rights_json(alloc: Global, told: &Told) -> Result<Value, NoMemory>
     ensures { IfOk result (λ v. data_of v ≡ rights_data told.now) }
 {
-    let base = HexWord(told.rights.base).to_string(alloc)?;
+    let base = Hex64(told.rights.base).to_string(alloc)?;
     let first = order_text(alloc, told)?;
     let perms = Hex::of_perms(told.rights.perms).to_string(alloc)?;
     let top = Hex::of_top(told.rights.top).to_string(alloc)?;

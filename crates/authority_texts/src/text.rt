@@ -13,7 +13,7 @@ ghost use Rattle.report_lines.specs.Texts.{numbered};
 use crate::told::Told;
 use cheri_model::{Image, NoMemory};
 use order_texts::write_order;
-use report_lines::{Hex, HexWord, write_image_line};
+use report_lines::{Hex, Hex64, write_image_line};
 use shown_states::write_states_line;
 
 /// Appends the line of rights.
@@ -21,7 +21,7 @@ use shown_states::write_states_line;
 fn write_rights(out: &mut String, told: &Told) -> Result<(), NoMemory>
     ensures { OnOk result (string_bytes out.new ≡ string_bytes out.old ++ rights_line told.now) }
 {
-    let base = HexWord(told.rights.base);
+    let base = Hex64(told.rights.base);
     let top = Hex::of_top(told.rights.top);
     let perms = Hex::of_perms(told.rights.perms);
     write!(out, "{base} {top} {perms} first=")?;

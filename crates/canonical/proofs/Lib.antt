@@ -1,4 +1,4 @@
-pub mod Names
-pub mod Open
+pub mod Rulesets
+pub mod Unfold
 pub mod WriterLemmas
 pub mod round_trip

@@ -10,7 +10,7 @@ use Rattle.cap_model.specs.words.PermissionNames.{permission_table, all_permissi
 use Rattle.cap_model.specs.values.Capability.{Capability, unsealed_type, sentry_type}
 use Rattle.cap_model.specs.values.CapValue.{CapValue, bits_of, tag_of, parts_of}
 use Rattle.cheri_model.specs.runs.Image.{ImageParts}
-use Rattle.cheri_model.specs.runs.ImageForm.{is_listed}
+use Rattle.cheri_model.specs.runs.ImageRules.{is_listed}
 use Rattle.cheri_model.specs.instructions.Form.{form_of}
 use Rattle.notation.specs.Instructions.{◌+++◌, form_text}
 use Rattle.notation.specs.Permissions.{joined_text}

@@ -1,5 +1,5 @@
 //! Writing the canonical listing of an image.
-#![tactic(auto, unfolding(crate::proofs::Open::canon))]
+#![tactic(auto, unfolding(crate::proofs::Unfold::canon))]
 
 ghost use Rattle.std.specs.Prelude.{
   ◌≡◌,
@@ -20,7 +20,7 @@ ghost use Rattle.std.specs.Prelude.{
 };
 ghost use Rattle.hex.specs.Hex.{encode_lower};
 ghost use Rattle.cap_model.specs.values.CapValue.{parts_of};
-ghost use Rattle.cheri_model.specs.runs.ImageForm.{is_listed};
+ghost use Rattle.cheri_model.specs.runs.ImageRules.{is_listed};
 ghost use Rattle.canonical.specs.Listable.{ReadsBack};
 ghost use Rattle.canonical.specs.Canon.{
   perms_text,
@@ -221,7 +221,7 @@ fn write_image(alloc: Global, out: &mut String, image: &Image) -> Result<(), NoM
 /// the program, one line each. Fails only when out of memory. Where some listing means the image,
 /// and the canonical one is not too long for a listing, it means the image again. No listing makes
 /// a tagged capability with flag 1, or a PCC that is untagged or sealed.
-#[tactic(auto, using(crate::proofs::Names::back))]
+#[tactic(auto, using(crate::proofs::Rulesets::back))]
 pub fn write_listing(alloc: Global, image: &Image) -> Result<String, NoMemory>
     ensures canonical { IfOk result (λ text. string_bytes text ≡ canon image.now) }
     ensures reads_back { IfOk result (λ text. ReadsBack image.now (string_bytes text)) }

@@ -7,4 +7,4 @@ pub mod Digits
 pub mod RoundedParts
 pub mod AtZero
 pub mod Masks
-pub mod Open
+pub mod Unfold

@@ -1,6 +1,6 @@
 //! The length and the alignment that a program asks for to get exact bounds (CHERI ISA v9,
 //! CRoundRepresentableLength and CRepresentableAlignmentMask).
-#![tactic(auto, using(crate::proofs::AtZero::at_zero), unfolding(crate::proofs::Open::length))]
+#![tactic(auto, using(crate::proofs::AtZero::at_zero), unfolding(crate::proofs::Unfold::length))]
 
 ghost use Rattle.std.specs.Prelude.{◌≡◌};
 ghost use Rattle.cap_model.specs.bounds.Alignment.{representable_length, alignment_mask};

@@ -4,7 +4,7 @@
 //! All is counted in steps of 2^E: where the address's region begins, and how far into it each
 //! bound lies. The one shift by E comes last, so that no size of a region is computed and no shift
 //! is too far.
-#![tactic(auto, using(crate::proofs::Regions::places), unfolding(crate::proofs::Open::regions))]
+#![tactic(auto, using(crate::proofs::Regions::places), unfolding(crate::proofs::Unfold::regions))]
 
 ghost use Rattle.std.specs.Prelude.{◌≡◌, ◌+◌, ◌-◌, ◌*◌, ◌%◌, ◌^◌, ◌≤◌, ◌<◌};
 ghost use Rattle.cap_model.specs.words.Fields.{word_exponent, word_b};
@@ -117,6 +117,10 @@ fn with_top_bit(e: u8, base: u64, top: u128) -> u128
     if e >= FIRST_UNCORRECTED_EXPONENT {
         return top;
     }
-    let apart = ((top >> 63) + 4 - u128::from(base >> 63)) % 4;
-    if apart > 1 { top ^ (1 << 64) } else { top }
+    let halves_above = ((top >> 63) + 4 - u128::from(base >> 63)) % 4;
+    if halves_above > 1 {
+        top ^ (1 << 64)
+    } else {
+        top
+    }
 }

@@ -1,5 +1,5 @@
 //! The fields of a 128-bit word, taken out of its upper half (CHERI ISA v9, "capability encoding").
-#![tactic(auto, unfolding(crate::proofs::Open::fields))]
+#![tactic(auto, unfolding(crate::proofs::Unfold::fields))]
 
 ghost use Rattle.std.specs.Prelude.{◌≡◌, ◌≤◌, ◌<◌, ◌^◌};
 ghost use Rattle.cap_model.specs.words.Fields.{

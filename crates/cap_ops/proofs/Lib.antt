@@ -5,7 +5,7 @@ pub mod MadeAgain
 pub mod BoundsFields
 pub mod Unpacking
 pub mod Narrowed
-pub mod Open
+pub mod Unfold
 pub mod BuiltAgain
 pub mod RawLengths
 pub mod Encodings

@@ -184,7 +184,7 @@ impl Cap {
     }
 
     /// The address (CGetAddr), which is also what the register is as an integer.
-    #[tactic(auto, unfolding(crate::proofs::Open::address))]
+    #[tactic(auto, unfolding(crate::proofs::Unfold::address))]
     pub fn addr(self) -> u64
         ensures value { result ≡ (parts_of self).addr }
         ensures integer { result ≡ address_of self }

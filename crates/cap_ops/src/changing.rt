@@ -1,6 +1,6 @@
 //! Changes of one part of a value. A value that is not open, or a change that is not allowed, gives
 //! the same edited word without a tag (CHERI ISA v9, "capability instructions").
-#![tactic(auto, using(crate::proofs::Open::masks), unfolding(crate::proofs::Open::changes))]
+#![tactic(auto, using(crate::proofs::Unfold::masks), unfolding(crate::proofs::Unfold::changes))]
 
 ghost use Rattle.std.specs.Prelude.{◌≡◌, ◌+◌, ◌%◌, ◌^◌, ◌&&◌, true};
 ghost use Rattle.cap_model.specs.values.CapValue.{parts_of, IsLawfulValue};

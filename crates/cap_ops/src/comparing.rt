@@ -1,5 +1,5 @@
 //! Comparisons of two values, tagged or not (CHERI ISA v9, "capability instructions").
-#![tactic(auto, unfolding(crate::proofs::Open::comparisons))]
+#![tactic(auto, unfolding(crate::proofs::Unfold::comparisons))]
 
 ghost use Rattle.std.specs.Prelude.{◌≡◌};
 ghost use Rattle.cap_model.specs.values.CapValue.{parts_of};

@@ -1,5 +1,5 @@
 //! Fields of upper halves, and upper halves with one field replaced.
-#![tactic(auto, using(crate::proofs::Exactness::rounded), unfolding(crate::proofs::Open::fields))]
+#![tactic(auto, using(crate::proofs::Exactness::rounded), unfolding(crate::proofs::Unfold::fields))]
 
 ghost use Rattle.std.specs.Prelude.{◌≡◌, ◌/◌, ◌^◌, ◌<◌, ◌≤◌};
 ghost use Rattle.cap_model.specs.words.Fields.{with_null_fields, perms_of_field};

@@ -1,5 +1,5 @@
 //! What instructions read off a value, tagged or not. Nothing here decodes the bounds.
-#![tactic(auto, using(crate::proofs::Open::known), unfolding(crate::proofs::Open::readings))]
+#![tactic(auto, using(crate::proofs::Unfold::known), unfolding(crate::proofs::Unfold::readings))]
 
 ghost use Rattle.std.specs.Prelude.{◌≡◌, ◌+◌, ◌^◌, ◌<◌, ◌≤◌, ◌&&◌};
 ghost use Rattle.cap_model.specs.values.CapValue.{tag_of, parts_of, IsLawfulValue};

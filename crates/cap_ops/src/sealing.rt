@@ -1,5 +1,5 @@
 //! Sealing and unsealing by object type (CHERI ISA v9, "sealed capabilities").
-#![tactic(auto, using(crate::proofs::Open::unsealing), unfolding(crate::proofs::Open::integer))]
+#![tactic(auto, using(crate::proofs::Unfold::unsealing), unfolding(crate::proofs::Unfold::integer))]
 
 ghost use Rattle.std.specs.Prelude.{◌≡◌, ◌%◌, ◌^◌, ◌<◌, ◌==◌, ◌&&◌};
 ghost use Rattle.cap_model.specs.values.CapValue.{tag_of, parts_of, IsLawfulValue};

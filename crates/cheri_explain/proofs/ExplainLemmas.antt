@@ -3,7 +3,7 @@ use Rattle.std.proofs.Common.{◌≡◌, ◌∙◌, subst, sym, ap, ℕ, Bool, t
 use Rattle.std.specs.Prelude.{◌⊎◌, IfOk, IsOkAnd, if◌then◌else◌, Option, Some, None, Result, Ok, Err}
 use Rattle.std.specs.Io.KnownBytes.{Appends, Keeps}
 use Rattle.std.proofs.KnownBytes.{Appends-kept}
-use Rattle.sinks.specs.Sinks.{TakesBeginning}
+use Rattle.sinks.specs.Sinks.{TakesPrefix}
 use Rattle.sinks.specs.declared.fault.WriteFault.{WriteFault}
 use Rattle.sinks.specs.declared.fault.WriteFault.TheVariants as written
 use Rattle.listings.specs.declared.fault.ListingFault.{ListingFault}
@@ -20,8 +20,8 @@ use Rattle.inputs.specs.declared.fault.InputFault.{InputFault}
 use Rattle.inputs.specs.declared.fault.InputFault.TheVariants as inputs
 use Rattle.inputs.proofs.InputLemmas.{input_fails, memory_fails}
 use Rattle.command_line.specs.declared.explain.Filter.{Filter}
-use Rattle.command_line.specs.declared.explain.ExplainForm.{ExplainForm}
-use Rattle.command_line.specs.declared.explain.ExplainForm.TheVariants as forms
+use Rattle.command_line.specs.declared.explain.ExplainFormat.{ExplainFormat}
+use Rattle.command_line.specs.declared.explain.ExplainFormat.TheVariants as forms
 use Rattle.explanations.specs.declared.runs.Format.{Format}
 use Rattle.explanations.specs.declared.runs.Format.TheVariants as format
 use Rattle.explanations.specs.declared.selection.Selection.{Selection}
@@ -40,7 +40,7 @@ run_more : (meaning : Result Run SimFault) (P Q : Run → Type 0) → ((run : Ru
 run_more (Ok run) P Q more so = (so.0, more run so.1)
 run_more (Err fault) P Q more so = absurd so
 
-module _ (form : ExplainForm) (first last : ℕ) (listing order : List ℕ) where
+module _ (form : ExplainFormat) (first last : ℕ) (listing order : List ℕ) where
   abbrev Explains : Answer → Type 0
   Explains answer = IsExplained form first last listing order answer
 
@@ -88,9 +88,9 @@ module _ (form : ExplainForm) (first last : ℕ) (listing order : List ℕ) wher
         subst (λ (f : Fault). FailsBy (failure_of f) Explains f old new) (sym is)
         (text.0, stop, text.1, begins_whole old now new text.0 text.2 kept)
 
-    -- a beginning of it was written
+    -- a prefix of it was written
     begun : (old new : Option (List ℕ)) (meaning : Result Run SimFault) → longest_run listing order ≡ meaning
-        → IsRunAnd meaning (λ run. Answers text_of run × TakesBeginning old new (text_of run)) → HasPrefix Explains old new
+        → IsRunAnd meaning (λ run. Answers text_of run × TakesPrefix old new (text_of run)) → HasPrefix Explains old new
     begun old new (Ok run) is so = (text_of run, run.1, answer_is run (Ok (text_of run, run.1)) is so.0 (sym so.1.0), so.1.1)
     begun old new (Err fault) is so = absurd so
 
@@ -109,7 +109,7 @@ module _ (form : ExplainForm) (first last : ℕ) (listing order : List ℕ) wher
 
     -- a refusal, which printed nothing unless the writing was begun
     pub text_unprinted : (refused : SimFault) (old new : Option (List ℕ))
-        → IsRefusedRun (longest_run listing order) (λ run. Answers text_of run × TakesBeginning old new (text_of run)) refused
+        → IsRefusedRun (longest_run listing order) (λ run. Answers text_of run × TakesPrefix old new (text_of run)) refused
         → (is_reported refused ≡ false → new ≡ old) → FailsBy (failure_of (sim_fault refused)) Explains (sim_fault refused) old new
     text_unprinted (sim.Listing fault) old new is same = listing_unprinted fault old new is (same refl)
     text_unprinted (sim.Order fault) old new is same =
@@ -155,10 +155,10 @@ module _ (format : Format) (words : Filter) (first last : ℕ) (listing order : 
       (run_more (longest_run listing order) _ _ (λ run p. (listed_is format words first last listing run, p.0, p.1)) of) kept same
 
   pub listed_unprinted : (selection : Selection) (refused : SimFault) (old new : Option (List ℕ)) → selection ≡ selection_of first last words
-      → IsRefusedRun (longest_run listing order) (λ run. TakesBeginning old new (explained format listing selection run)) refused
+      → IsRefusedRun (longest_run listing order) (λ run. TakesPrefix old new (explained format listing selection run)) refused
       → (is_reported refused ≡ false → new ≡ old) → FailsBy (failure_of (sim_fault refused)) ListedSo (sim_fault refused) old new
   listed_unprinted selection refused old new is so same =
-      let of : IsRefusedRun (longest_run listing order) (λ run. TakesBeginning old new (text run)) refused = rw is at so in
+      let of : IsRefusedRun (longest_run listing order) (λ run. TakesPrefix old new (text run)) refused = rw is at so in
       text_unprinted (listed format words) first last listing order text refused old new
       (refused_more (longest_run listing order) _ _ (λ run p. (listed_is format words first last listing run, p)) refused of) same
 
@@ -213,7 +213,7 @@ module _ (first last : ℕ) (listing order : List ℕ) where
   page_too_long old new so = by_run old new (longest_run listing order) refl so
 
   pub page_unprinted : (refused : SimFault) (old new : Option (List ℕ))
-      → IsRefusedRun (longest_run listing order) (λ run. (is_unpaged first last run ≡ false) × TakesBeginning old new (page run)) refused
+      → IsRefusedRun (longest_run listing order) (λ run. (is_unpaged first last run ≡ false) × TakesPrefix old new (page run)) refused
       → (is_reported refused ≡ false → new ≡ old) → FailsBy (failure_of (sim_fault refused)) PagedSo (sim_fault refused) old new
   page_unprinted refused old new so same =
       text_unprinted forms.Page first last listing order page refused old new

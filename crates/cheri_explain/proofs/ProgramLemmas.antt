@@ -2,7 +2,7 @@
 use Rattle.std.proofs.Common.{◌≡◌, ◌≢◌, subst, sym, ℕ, List, refl, inl, inr, true}
 use Rattle.std.specs.Prelude.{◌⊎◌, IfErr, OnOk, Option, Some, None, Result, Ok, Err}
 use Rattle.report_lines.specs.Texts.{line}
-use Rattle.sinks.specs.Sinks.{TakesBeginning}
+use Rattle.sinks.specs.Sinks.{TakesPrefix}
 use Rattle.cores.specs.Runs.{Stop}
 use Rattle.cores.specs.declared.faults.StepFault.{StepFault}
 use Rattle.printing.specs.Endings.{FailsBy, HasWhole}
@@ -11,7 +11,7 @@ use Rattle.inputs.specs.Files.{KnownFiles, AreBytesOf}
 use Rattle.inputs.specs.Reading.{AreTextsUnread, OfTexts}
 use Rattle.inputs.specs.declared.fault.InputFault.{InputFault}
 use Rattle.inputs.proofs.InputLemmas.{texts_fail}
-use Rattle.command_line.specs.ExplainWords.{ExplainAsked}
+use Rattle.command_line.specs.ExplainRequests.{ExplainAsked}
 use Rattle.command_line.specs.declared.faults.CommandFault.{CommandFault}
 use Rattle.command_line.specs.declared.faults.CommandFault.TheVariants as commands
 use Rattle.cheri_explain.specs.declared.faults.Fault.{Fault}
@@ -60,7 +60,7 @@ module _ (files : KnownFiles) (asked : ExplainAsked) (old new : Option (List ℕ
 
 pub ruleset answers = (texts_unread, explained_whole, explained_stops, explained_fails)
 
--- words that ask for nothing
+-- arguments that ask for nothing
 pub command_fails : {X : Type 0} (files : KnownFiles) (request : Option ExplainAsked) (result : Result X CommandFault)
     (refused : CommandFault) (old new : Option (List ℕ)) → result ≡ Err refused → (result ≡ Err commands.Usage → request ≡ None)
     → new ≡ old → FailsBy (failure_of (command_fault refused)) (IsAnswer files request) (command_fault refused) old new
@@ -71,17 +71,17 @@ command_fails files request result commands.NoMemory old new is nothing same = i
 -- a fault, its status and its line, before which nothing was written
 pub fails_with : (files : KnownFiles) (request : Option ExplainAsked) (fault : Fault) (status : ℕ) (old new err_old err_now err_new : Option (List ℕ))
     → status ≡ status_of fault → FailsBy (failure_of fault) (IsAnswer files request) fault old new → err_now ≡ err_old
-    → TakesBeginning err_now err_new (line (fault_text fault)) → FailsWith files request status old new err_old err_new
+    → TakesPrefix err_now err_new (line (fault_text fault)) → FailsWith files request status old new err_old err_new
 fails_with files request fault status old new err_old err_now err_new is fails same told =
     record { fault = fault; status_is = is; is_so = fails; told = rw same at told }
 
--- words that ask for nothing are a bad command line, or there was no memory to know it
+-- arguments that ask for nothing are a bad command line, or there was no memory to know it
 pub refused_words : {X : Type 0} (refused : CommandFault) → (◌≡◌ {A = Result X Fault} (Err (command_fault refused)) (Err faults.Usage))
     ⊎ (◌≡◌ {A = Result X Fault} (Err (command_fault refused)) (Err no_memory))
 refused_words commands.Usage = inl refl
 refused_words commands.NoMemory = inr refl
 
--- words that ask for this
+-- arguments that ask for this
 pub asked_printed : {E : Type 0} (files : KnownFiles) (request : Option ExplainAsked) (asked : ExplainAsked) (result : Result (Unit {0}) E)
     (old new : Option (List ℕ)) → request ≡ Some asked
     → OnOk result (HasWhole (IsAnswer files (Some asked)) None old new)

@@ -7,9 +7,9 @@ use Rattle.simulation.specs.Simulation.{run_of_texts}
 use Rattle.printing.specs.Endings as endings
 use Rattle.command_line.specs.declared.explain.Filter.{Filter}
 use Rattle.command_line.specs.declared.explain.Filter.TheVariants as words
-use Rattle.command_line.specs.declared.explain.ExplainForm.{ExplainForm}
-use Rattle.command_line.specs.declared.explain.ExplainForm.TheVariants.{Text, Json, Page}
-use Rattle.command_line.specs.ExplainWords.{ExplainAsked}
+use Rattle.command_line.specs.declared.explain.ExplainFormat.{ExplainFormat}
+use Rattle.command_line.specs.declared.explain.ExplainFormat.TheVariants.{Text, Json, Page}
+use Rattle.command_line.specs.ExplainRequests.{ExplainAsked}
 use Rattle.explanations.specs.declared.runs.Format.{Format}
 use Rattle.explanations.specs.declared.runs.Format.TheVariants as format
 use Rattle.explanations.specs.declared.selection.Filter.{Filter as Shown}
@@ -36,12 +36,12 @@ selection_of first last filter =
     record { first = first; last = last; filter = shown_by filter }
 
 -- the forms but the page
-abbrev pub listed : Format → Filter → ExplainForm
+abbrev pub listed : Format → Filter → ExplainFormat
 listed format.Text filter = Text filter
 listed format.Json filter = Json filter
 
 -- the answer of a run in a form: its events from `first` to `last`
-abbrev pub answer_in : ExplainForm → ℕ → ℕ → List ℕ → Run → Answer
+abbrev pub answer_in : ExplainFormat → ℕ → ℕ → List ℕ → Run → Answer
 answer_in (Text filter) first last listing run =
     Ok (explained format.Text listing (selection_of first last filter) run, run.1)
 answer_in (Json filter) first last listing run =
@@ -50,7 +50,7 @@ answer_in Page first last listing run =
     if is_unpaged first last run then Err TooLong else Ok (paged listing first last run, run.1)
 
 -- the answer of a run, or of the fault that its texts have
-abbrev pub answer_of_run : ExplainForm → ℕ → ℕ → List ℕ → Result Run SimFault → Answer
+abbrev pub answer_of_run : ExplainFormat → ℕ → ℕ → List ℕ → Result Run SimFault → Answer
 answer_of_run form first last listing (Ok run) = answer_in form first last listing run
 answer_of_run form first last listing (Err fault) = Err (sim_fault fault)
 
@@ -60,7 +60,7 @@ longest_run listing order = run_of_texts listing order GREATEST_TRACE_LIMIT
 
 -- This is the answer for two texts: the explanation of their run, whose values are confined to what
 -- its image gave.
-abbrev pub IsExplained : ExplainForm → ℕ → ℕ → List ℕ → List ℕ → Answer → Type 0
+abbrev pub IsExplained : ExplainFormat → ℕ → ℕ → List ℕ → List ℕ → Answer → Type 0
 IsExplained form first last listing order answer =
     (answer ≡ answer_of_run form first last listing (longest_run listing order))
     × IfOk (longest_run listing order) IsConfinedRun

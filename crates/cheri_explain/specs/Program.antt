@@ -2,18 +2,18 @@
 use Rattle.std.specs.Prelude.{◌≡◌, ℕ, List, codes, Option, Some, None, Err, String}
 use Rattle.std.specs.Global.{Global}
 use Rattle.printing.specs.Endings.{EndsBy, FailsBy}
-use Rattle.inputs.specs.Arguments.{command_words}
+use Rattle.inputs.specs.Arguments.{command_args}
 use Rattle.inputs.specs.Files.{KnownFiles}
 use Rattle.inputs.specs.Reading.{OfTexts}
-use Rattle.command_line.specs.ExplainWords.{ExplainAsked}
+use Rattle.command_line.specs.ExplainRequests.{ExplainAsked}
 use Rattle.cheri_explain.specs.declared.faults.Fault.{Fault}
 use Rattle.cheri_explain.specs.declared.faults.Fault.TheVariants.{Usage, Input}
 use Rattle.cheri_explain.specs.Faults.{failure_of, fault_text, status_of}
 use Rattle.cheri_explain.specs.Explaining.{Answer, IsExplained}
 
--- the command line of the words that are given after the program's name
+-- the command line of the arguments that are given after the program's name
 abbrev pub command_line : List (String Global) → List (List ℕ)
-command_line words = command_words (codes "cheri_explain") words
+command_line args = command_args (codes "cheri_explain") args
 
 -- the answers to a request: both files are read before either is judged
 abbrev pub IsAnswer : KnownFiles → Option ExplainAsked → Answer → Type 0

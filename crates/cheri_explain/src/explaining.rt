@@ -3,10 +3,10 @@
 
 ghost use Rattle.std.specs.Prelude.{◌≡◌, IfOk, IfErr, false};
 ghost use Rattle.std.specs.Io.KnownBytes.{Appends};
-ghost use Rattle.sinks.specs.Sinks.{TakesBeginning};
+ghost use Rattle.sinks.specs.Sinks.{TakesPrefix};
 ghost use Rattle.simulation.specs.Simulation.{IsRefusedRun, IsRunAnd, is_reported};
 ghost use Rattle.printing.specs.Endings.{FailsBy, HasWhole};
-ghost use Rattle.command_line.specs.declared.explain.ExplainForm.TheVariants as forms;
+ghost use Rattle.command_line.specs.declared.explain.ExplainFormat.TheVariants as forms;
 ghost use Rattle.explanations.specs.ExplainedRuns.{explained};
 ghost use Rattle.explained_page.specs.PagedRuns.{IsPageEnd, is_unpaged, paged};
 ghost use Rattle.cheri_explain.specs.Explaining.{
@@ -18,7 +18,7 @@ ghost use Rattle.cheri_explain.specs.Explaining.{
 ghost use Rattle.cheri_explain.specs.Faults.{failure_of};
 
 use crate::faults::Fault;
-use command_line::{ExplainForm, ExplainRequest, Filter as Words};
+use command_line::{ExplainFormat, ExplainRequest, Filter as Words};
 use cores::StepFault;
 use explained_page::{PageEnd, write_page};
 use explanations::{Filter, Format, Selection, explain};
@@ -60,7 +60,7 @@ fn explain_to<O: Write>(
         (explained format listing.now selection run))) }
     ensures refused { IfErr result (λ fault.
         IsRefusedRun (longest_run listing.now order.now)
-        (λ run. TakesBeginning (O.contents out.old) (O.contents out.new)
+        (λ run. TakesPrefix (O.contents out.old) (O.contents out.new)
         (explained format listing.now selection run)) fault) }
     ensures untouched { IfErr result (λ fault. is_reported fault ≡ false
         → O.contents out.new ≡ O.contents out.old) }
@@ -89,7 +89,7 @@ fn page_to<O: Write>(
     ensures refused { IfErr result (λ fault.
         IsRefusedRun (longest_run listing.now order.now)
         (λ run. (is_unpaged first last run ≡ false)
-        × TakesBeginning (O.contents out.old) (O.contents out.new)
+        × TakesPrefix (O.contents out.old) (O.contents out.new)
         (paged listing.now first last run)) fault) }
     ensures untouched { IfErr result (λ fault. is_reported fault ≡ false
         → O.contents out.new ≡ O.contents out.old) }
@@ -171,12 +171,12 @@ pub fn print_asked<O: Write>(
 {
     let (first, last) = (request.first, request.last);
     match request.form {
-        ExplainForm::Text(words) => {
+        ExplainFormat::Text(words) => {
             print_listed(alloc, listing, order, first, last, words, Format::Text, out)
         }
-        ExplainForm::Json(words) => {
+        ExplainFormat::Json(words) => {
             print_listed(alloc, listing, order, first, last, words, Format::Json, out)
         }
-        ExplainForm::Page => print_page(alloc, listing, order, first, last, out),
+        ExplainFormat::Page => print_page(alloc, listing, order, first, last, out),
     }
 }

@@ -14,7 +14,7 @@ use std::fmt;
 /// Why the program does not end with status 0.
 #[derive(Clone, Copy, Debug, PartialEq, Eq)]
 pub enum Fault {
-    /// The words ask for nothing that this program does.
+    /// The arguments ask for nothing that this program does.
     Usage,
     /// A file cannot be read or was refused, or an allocation failed.
     Input(InputFault),

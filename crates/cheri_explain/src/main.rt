@@ -7,16 +7,16 @@ mod program;
 
 use crate::faults::Fault;
 use crate::program::{perform, report_fault};
-use inputs::{InputFault, SystemFiles, words_given};
+use inputs::{InputFault, SystemFiles, args_given};
 use std::io;
 use std::process::ExitCode;
 
 fn main(rt: HostRuntime) -> ExitCode {
     let mut err = rt.stderr();
-    let status = match words_given(&rt) {
-        Ok(words) => perform(
+    let status = match args_given(&rt) {
+        Ok(args) => perform(
             rt.alloc(),
-            words.as_slice(),
+            args.as_slice(),
             &mut SystemFiles(&rt),
             &mut rt.stdout(),
             &mut err,

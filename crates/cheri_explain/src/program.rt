@@ -2,9 +2,9 @@
 #![tactic(auto, using(crate::proofs::ProgramLemmas::endings))]
 
 ghost use Rattle.std.specs.Prelude.{◌≡◌, ◌≢◌, ◌≤◌, ◌⊎◌, IfErr, OnOk, Err, None, Some};
-ghost use Rattle.command_line.specs.ExplainWords.{explain_asked, explain_asked_by};
+ghost use Rattle.command_line.specs.ExplainRequests.{explain_asked, explain_asked_by};
 ghost use Rattle.report_lines.specs.Texts.{line};
-ghost use Rattle.sinks.specs.Sinks.{TakesBeginning};
+ghost use Rattle.sinks.specs.Sinks.{TakesPrefix};
 ghost use Rattle.printing.specs.Endings.{FailsBy, HasWhole};
 ghost use Rattle.cheri_explain.specs.Faults.{failure_of, fault_text, status_of, no_memory};
 ghost use Rattle.cheri_explain.specs.Program.{command_line, IsAnswer, FailsWith};
@@ -12,7 +12,7 @@ ghost use Rattle.cheri_explain.specs.Program.{command_line, IsAnswer, FailsWith}
 use crate::explaining::print_asked;
 use crate::faults::Fault;
 use command_line::{ExplainRequest, explain_request};
-use inputs::{Files, command_words, read_texts};
+use inputs::{Files, command_args, read_texts};
 use printing::write_line;
 use std::alloc::Global;
 use std::io::Write;
@@ -40,38 +40,38 @@ fn explain<F: Files, O: Write>(
     }
 }
 
-/// Does what the words ask for. The command line is judged first.
+/// Does what the arguments ask for. The command line is judged first.
 fn answer<F: Files, O: Write>(
     alloc: Global,
-    words: &[String],
+    args: &[String],
     files: &mut F,
     out: &mut O,
 ) -> Result<(), Fault>
     ensures printed { OnOk result (HasWhole
-        (IsAnswer (F.bytes_of files.old) (explain_asked (command_line words.now))) None
+        (IsAnswer (F.bytes_of files.old) (explain_asked (command_line args.now))) None
         (O.contents out.old) (O.contents out.new)) }
     ensures failed { IfErr result (λ fault. FailsBy (failure_of fault)
-        (IsAnswer (F.bytes_of files.old) (explain_asked (command_line words.now))) fault
+        (IsAnswer (F.bytes_of files.old) (explain_asked (command_line args.now))) fault
         (O.contents out.old) (O.contents out.new)) }
-    ensures nothing { explain_asked (command_line words.now) ≡ None
+    ensures nothing { explain_asked (command_line args.now) ≡ None
         → (result ≡ Err Fault.Usage) ⊎ (result ≡ Err no_memory) }
 {
-    let words = command_words(alloc, "cheri_explain", words)?;
-    let request = explain_request(alloc, words.as_slice())?;
+    let args = command_args(alloc, "cheri_explain", args)?;
+    let request = explain_request(alloc, args.as_slice())?;
     explain(alloc, request, files, out)
 }
 
 /// Reports a fault in one line, and gives its status, whether the line was taken or not.
 pub fn report_fault<E: Write>(err: &mut E, fault: Fault) -> u8
     ensures status { result ≡ status_of fault }
-    ensures told { TakesBeginning (E.contents err.old) (E.contents err.new)
+    ensures told { TakesPrefix (E.contents err.old) (E.contents err.new)
         (line (fault_text fault)) }
 {
     let _ = write_line(err, fault);
     fault.status()
 }
 
-/// Does what the words of a command line ask for, which are those after the program's name, and
+/// Does what the arguments of a command line ask for, which are those after the program's name, and
 /// gives the exit status: 0 where the whole explanation was printed, 1 where a text or a step was
 /// refused or a page has too many events, 2 where the command line was, and 3 for every other
 /// fault. With status 0 `out` got the whole answer and `err` nothing. With any other status `err`
@@ -79,26 +79,26 @@ pub fn report_fault<E: Write>(err: &mut E, fault: Fault) -> u8
 /// before it. A write to `err` that fails does not change the status.
 pub fn perform<F: Files, O: Write, E: Write>(
     alloc: Global,
-    words: &[String],
+    args: &[String],
     files: &mut F,
     out: &mut O,
     err: &mut E,
 ) -> u8
     ensures status { result ≤ 3 }
     ensures printed { result ≡ 0 → HasWhole
-        (IsAnswer (F.bytes_of files.old) (explain_asked (command_line words.now))) None
+        (IsAnswer (F.bytes_of files.old) (explain_asked (command_line args.now))) None
         (O.contents out.old) (O.contents out.new) }
-    ensures quiet { result ≡ 0 → E.contents err.new ≡ E.contents err.old }
+    ensures stderr { result ≡ 0 → E.contents err.new ≡ E.contents err.old }
 
     // With any other status there is a fault that has this status, what it says is so, and `err`
-    // got its line, or a beginning of it where a write failed.
+    // got its line, or a prefix of it where a write failed.
     ensures failed { result ≢ 0 → FailsWith (F.bytes_of files.old)
-        (explain_asked (command_line words.now)) result (O.contents out.old) (O.contents out.new)
+        (explain_asked (command_line args.now)) result (O.contents out.old) (O.contents out.new)
         (E.contents err.old) (E.contents err.new) }
-    ensures nothing { explain_asked (command_line words.now) ≡ None
+    ensures nothing { explain_asked (command_line args.now) ≡ None
         → (result ≡ 2) ⊎ (result ≡ 3) }
 {
-    match answer(alloc, words, files, out) {
+    match answer(alloc, args, files, out) {
         Ok(()) => 0,
         Err(fault) => report_fault(err, fault),
     }

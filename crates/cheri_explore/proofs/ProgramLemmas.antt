@@ -2,7 +2,7 @@
 use Rattle.std.proofs.Common.{◌≡◌, ℕ, List, map, true, Option, Some, None, Result, Ok, Err, refl, sym, subst, inl}
 use Rattle.std.specs.Prelude.{IfErr, IfOk}
 use Rattle.cheri_model.specs.runs.Image.{ImageParts}
-use Rattle.command_line.specs.ExploreWords.{ExploreAsked, AskedQuestion, Find, Outcomes, Authority}
+use Rattle.command_line.specs.ExploreRequests.{ExploreAsked, AskedQuestion, Find, Outcomes, Authority}
 use Rattle.schedules.specs.declared.ranges.SweepRange.{SweepRange}
 use Rattle.shown_states.specs.declared.form.Format.{Format}
 use Rattle.cheri_explore.specs.Questions.{IsAuthoritySaid, IsFindSaid, IsOutcomesSaid, range_of}
@@ -66,7 +66,7 @@ question_fails files asked image IsSaid (Err f) old new means so fails =
     fails_more IsSaid (IsAnswer files (Some asked))
     (λ answer said. of_question files asked image means answer (so answer said)) old new (failure_of f) f fails
 
--- words that ask for nothing
+-- arguments that ask for nothing
 pub command_fails : {X : Type 0} (files : KnownFiles) (request : Option ExploreAsked) (result : Result X CommandFault)
     (refused : CommandFault) (old new : Option (List ℕ)) → result ≡ Err refused → (result ≡ Err commands.Usage → request ≡ None)
     → new ≡ old → FailsBy (failure_of (command_fault refused)) (IsAnswer files request) (command_fault refused) old new
@@ -74,7 +74,7 @@ command_fails files request result commands.Usage old new is nothing same =
     subst (λ (r : Option ExploreAsked). FailsBy (failure_of fault.Usage) (IsAnswer files r) fault.Usage old new) (sym (nothing is)) (refl, same)
 command_fails files request result commands.NoMemory old new is nothing same = inl same
 
--- words that ask for this
+-- arguments that ask for this
 pub asked_printed : {E : Type 0} (files : KnownFiles) (request : Option ExploreAsked) (asked : ExploreAsked) (result : Result Ending E)
     (old new : Option (List ℕ)) → request ≡ Some asked
     → IfOk result (λ ending. HasWhole (IsAnswer files (Some asked)) ending old new)

@@ -3,10 +3,10 @@ use Rattle.std.specs.Prelude.{◌≡◌, ℕ, List, map, codes, Option, Some, No
 use Rattle.std.specs.Prelude.{String}
 use Rattle.std.specs.Global.{Global}
 use Rattle.cheri_model.specs.runs.Image.{ImageParts}
-use Rattle.command_line.specs.ExploreWords.{ExploreAsked, AskedQuestion, Find, Outcomes, Authority}
-use Rattle.command_line.specs.declared.found.ReportForm.{ReportForm}
-use Rattle.command_line.specs.declared.found.ReportForm.TheVariants as forms
-use Rattle.inputs.specs.Arguments.{command_words}
+use Rattle.command_line.specs.ExploreRequests.{ExploreAsked, AskedQuestion, Find, Outcomes, Authority}
+use Rattle.command_line.specs.declared.found.Format.{Format}
+use Rattle.command_line.specs.declared.found.Format.TheVariants as forms
+use Rattle.inputs.specs.Arguments.{command_args}
 use Rattle.inputs.specs.Files.{KnownFiles}
 use Rattle.inputs.specs.Reading.{OfImage}
 use Rattle.printing.specs.Endings.{Answer, FailsBy, HasWhole}
@@ -15,18 +15,18 @@ use Rattle.shown_states.specs.Endings as endings
 use Rattle.shown_states.specs.declared.form.Ending.{Ending}
 use Rattle.shown_states.specs.declared.form.Format.{Format}
 use Rattle.shown_states.specs.declared.form.Format.TheVariants.{Text, Json}
-use Rattle.sinks.specs.Sinks.{TakesBeginning}
+use Rattle.sinks.specs.Sinks.{TakesPrefix}
 use Rattle.cheri_explore.specs.declared.faults.Fault.{Fault}
 use Rattle.cheri_explore.specs.declared.faults.Fault.TheVariants as fault
 use Rattle.cheri_explore.specs.Faults.{failure_of, fault_text, status_of}
 use Rattle.cheri_explore.specs.Questions.{IsAuthoritySaid, IsFindSaid, IsOutcomesSaid}
 use Rattle.cheri_explore.specs.Questions.{range_of}
 
--- the command line of the words that are given after the program's name
+-- the command line of the arguments that are given after the program's name
 abbrev pub command_line : List (String Global) → List (List ℕ)
-command_line words = command_words (codes "cheri_explore") words
+command_line args = command_args (codes "cheri_explore") args
 
-abbrev pub format_of : ReportForm → Format
+abbrev pub format_of : Format → Format
 format_of forms.Text = Text
 format_of forms.Json = Json
 
@@ -41,7 +41,7 @@ IsQuestionAnswer image asked (Outcomes show) answer =
 IsQuestionAnswer image asked Authority answer =
     IsAuthoritySaid image (map range_of asked.sweeps) asked.states (format_of asked.form) answer
 
--- the answers to a request; `usage` where the words ask for nothing
+-- the answers to a request; `usage` where the arguments ask for nothing
 abbrev pub IsAnswer : KnownFiles → Option ExploreAsked → Answer Ending Fault → Type 0
 IsAnswer files None answer = answer ≡ Err fault.Usage
 IsAnswer files (Some asked) answer =
@@ -54,7 +54,7 @@ pub record Done (files : KnownFiles) (request : Option ExploreAsked) (status : �
   pub ending : Ending
   pub status_is : status ≡ endings.status_of ending
   pub printed : HasWhole (IsAnswer files request) ending old new
-  pub quiet : err_new ≡ err_old
+  pub stderr : err_new ≡ err_old
 
 -- it fails; standard error got the fault's line, or a prefix of it
 pub record Failed (files : KnownFiles) (request : Option ExploreAsked) (status : ℕ)
@@ -62,4 +62,4 @@ pub record Failed (files : KnownFiles) (request : Option ExploreAsked) (status :
   pub fault : Fault
   pub status_is : status ≡ status_of fault
   pub fails : FailsBy (failure_of fault) (IsAnswer files request) fault old new
-  pub told : TakesBeginning err_old err_new (line (fault_text fault))
+  pub told : TakesPrefix err_old err_new (line (fault_text fault))

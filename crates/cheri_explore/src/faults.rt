@@ -13,7 +13,7 @@ use std::fmt;
 /// Why the program answers nothing, or not all.
 #[derive(Clone, Copy, Debug, PartialEq, Eq)]
 pub enum Fault {
-    /// The words are no command of this program.
+    /// The arguments are no command of this program.
     Usage,
     /// An allocation failed.
     NoMemory,

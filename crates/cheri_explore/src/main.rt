@@ -11,17 +11,17 @@ mod questions;
 use crate::faults::Fault;
 use crate::program::{perform, report_fault};
 use crate::progress::TerminalProgress;
-use inputs::{SystemFiles, words_given};
+use inputs::{SystemFiles, args_given};
 use std::io::{self, IsTerminal};
 use std::process::ExitCode;
 
 fn main(rt: HostRuntime) -> ExitCode {
     let mut err = rt.stderr();
     let is_terminal = err.is_terminal();
-    let status = match words_given(&rt) {
-        Ok(words) => perform(
+    let status = match args_given(&rt) {
+        Ok(args) => perform(
             rt.alloc(),
-            words.as_slice(),
+            args.as_slice(),
             &mut SystemFiles(&rt),
             &mut TerminalProgress::new(&rt, rt.stderr(), is_terminal),
             &mut rt.stdout(),

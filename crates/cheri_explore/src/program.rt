@@ -1,19 +1,19 @@
 //! The program: answers one question, or reports why it cannot.
 
 ghost use Rattle.std.specs.Prelude.{◌≡◌, ◌⊎◌, ◌≤◌, length, Some, IfOk, IfErr};
-ghost use Rattle.command_line.specs.ExploreWords.{explore_asked, explore_asked_by};
+ghost use Rattle.command_line.specs.ExploreRequests.{explore_asked, explore_asked_by};
 ghost use Rattle.printing.specs.Endings.{HasWhole, FailsBy};
 ghost use Rattle.report_lines.specs.Texts.{line};
-ghost use Rattle.sinks.specs.Sinks.{TakesBeginning};
+ghost use Rattle.sinks.specs.Sinks.{TakesPrefix};
 ghost use Rattle.cheri_explore.specs.Faults.{failure_of, fault_text, status_of};
 ghost use Rattle.cheri_explore.specs.Program.{Done, Failed, IsAnswer, command_line, format_of};
 
 use crate::answers::{answer_authority, answer_find, answer_outcomes};
 use crate::faults::Fault;
 use crate::questions::{Search, ranges_of};
-use command_line::{ExploreRequest, Question, ReportForm, explore_request};
+use command_line::{ExploreRequest, Format, Question, explore_request};
 use graph_search::Progress;
-use inputs::{Files, command_words, read_image};
+use inputs::{Files, command_args, read_image};
 use printing::write_line;
 use shown_states::{Ending, Format};
 use states::MAX_SWEEPS;
@@ -21,12 +21,12 @@ use std::alloc::Global;
 use std::io::Write;
 
 /// How an answer of this form is written.
-fn format_of(form: ReportForm) -> Format
+fn format_of(form: Format) -> Format
     ensures { result ≡ format_of form }
 {
     match form {
-        ReportForm::Text => Format::Text,
-        ReportForm::Json => Format::Json,
+        Format::Text => Format::Text,
+        Format::Json => Format::Json,
     }
 }
 
@@ -62,55 +62,55 @@ fn answer_request<F: Files, O: Write, P: Progress>(
     }
 }
 
-/// Answers what the words ask for. The command line is judged first.
+/// Answers what the arguments ask for. The command line is judged first.
 fn answer<F: Files, O: Write, P: Progress>(
     alloc: Global,
-    words: &[String],
+    args: &[String],
     files: &mut F,
     progress: &mut P,
     out: &mut O,
 ) -> Result<Ending, Fault>
     ensures printed { IfOk result (λ ending. HasWhole
-        (IsAnswer (F.bytes_of files.old) (explore_asked (command_line words.now))) ending
+        (IsAnswer (F.bytes_of files.old) (explore_asked (command_line args.now))) ending
         (O.contents out.old) (O.contents out.new)) }
     ensures failed { IfErr result (λ fault. FailsBy (failure_of fault)
-        (IsAnswer (F.bytes_of files.old) (explore_asked (command_line words.now))) fault
+        (IsAnswer (F.bytes_of files.old) (explore_asked (command_line args.now))) fault
         (O.contents out.old) (O.contents out.new)) }
 {
-    let words = command_words(alloc, "cheri_explore", words)?;
-    let request = explore_request(alloc, words.as_slice())?;
+    let args = command_args(alloc, "cheri_explore", args)?;
+    let request = explore_request(alloc, args.as_slice())?;
     answer_request(alloc, &request, files, progress, out)
 }
 
 /// Reports a fault in one line, and gives its status, whether the line was taken or not.
 pub fn report_fault<E: Write>(err: &mut E, fault: Fault) -> u8
     ensures status { result ≡ status_of fault }
-    ensures told { TakesBeginning (E.contents err.old) (E.contents err.new)
+    ensures told { TakesPrefix (E.contents err.old) (E.contents err.new)
         (line (fault_text fault)) }
 {
     let _ = write_line(err, fault);
     fault.status()
 }
 
-/// Answers what the words of a command line ask for, which are those after the program's name, and
+/// Answers what the arguments of a command line ask for, which are those after the program's name, and
 /// gives the exit status: 0 where all was answered, 4 where not all states could be kept, 5 where
 /// no state is one that was looked for, and then `out` got the whole answer and `err` nothing. Else
 /// `err` got the line of a fault, whether it took it or not: 1 where a text was refused, 2 where the
 /// command line was, and 3 for every other fault.
 pub fn perform<F: Files, O: Write, E: Write, P: Progress>(
     alloc: Global,
-    words: &[String],
+    args: &[String],
     files: &mut F,
     progress: &mut P,
     out: &mut O,
     err: &mut E,
 ) -> u8
-    ensures { Done (F.bytes_of files.old) (explore_asked (command_line words.now)) result
+    ensures { Done (F.bytes_of files.old) (explore_asked (command_line args.now)) result
         (O.contents out.old) (O.contents out.new) (E.contents err.old) (E.contents err.new)
-        ⊎ Failed (F.bytes_of files.old) (explore_asked (command_line words.now)) result
+        ⊎ Failed (F.bytes_of files.old) (explore_asked (command_line args.now)) result
         (O.contents out.old) (O.contents out.new) (E.contents err.old) (E.contents err.new) }
 {
-    match answer(alloc, words, files, progress, out) {
+    match answer(alloc, args, files, progress, out) {
         Ok(ending) => ending.status(),
         Err(fault) => report_fault(err, fault),
     }

@@ -54,7 +54,7 @@ pub trait Question {
     ghost answers: { Self → List ℕ → Ending → Type 0 };
 
     /// Searches the states, and writes the answer. Nothing is written before the search has ended;
-    /// after a fault of the writing the sink took a beginning of the answer.
+    /// after a fault of the writing the sink took a prefix of the answer.
     fn write<P: Progress, S: Sink>(
         &self,
         alloc: Global,
@@ -63,11 +63,11 @@ pub trait Question {
     ) -> Result<Ending, WriteFault>
         requires { is_askable self.now }
         ensures written { IfOk result (λ ending. IsWritten (λ text. answers self.now text ending)
-            (S.taken sink.old) (S.taken sink.new)) }
+            (S.written sink.old) (S.written sink.new)) }
         ensures begun { IfErr result
             (IsUnwritten (λ text. (ending : Ending) × answers self.now text ending)
-            (S.taken sink.old) (S.taken sink.new)) }
-        ensures place { S.place sink.new ≡ S.place sink.old };
+            (S.written sink.old) (S.written sink.new)) }
+        ensures identity { S.identity sink.new ≡ S.identity sink.old };
 }
 
 /// Which state is the first in which a condition holds?

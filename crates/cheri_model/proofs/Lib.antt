@@ -1,5 +1,5 @@
 -- The lemmas behind the laws, by topic.
 pub mod Granules
 pub mod NameLemmas
-pub mod Open
+pub mod Unfold
 pub mod Runs

@@ -1,6 +1,6 @@
 -- Runs: images, machines, replays, sweeps and authority.
 pub mod Image
-pub mod ImageForm
+pub mod ImageRules
 pub mod SameImages
 pub mod Sweeps
 pub mod Machine

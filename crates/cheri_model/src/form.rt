@@ -1,5 +1,5 @@
 //! The forms of operands: instructions sorted by the operands that they take.
-#![tactic(auto, unfolding(crate::proofs::Open::instr))]
+#![tactic(auto, unfolding(crate::proofs::Unfold::instr))]
 
 ghost use Rattle.std.specs.Prelude.{◌≡◌};
 ghost use Rattle.cheri_model.specs.instructions.Form.{

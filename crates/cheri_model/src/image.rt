@@ -1,5 +1,5 @@
 //! Images: a program, and what the machine holds before its first step.
-#![tactic(auto, unfolding(crate::proofs::Open::images))]
+#![tactic(auto, unfolding(crate::proofs::Unfold::images))]
 
 ghost use Rattle.std.specs.Prelude.{◌≡◌, IfOk, true};
 ghost use Rattle.std.specs.Cmp.Rules.{comparing};
@@ -10,7 +10,7 @@ ghost use Rattle.cheri_model.specs.contracts.image.HartImagePartialEq.TheImpl.La
 ghost use Rattle.cheri_model.specs.contracts.instr.InstrEq.TheImpl.Laws as instr_equal;
 ghost use Rattle.cap_model.specs.contracts.value.ValueEq.TheImpl.Laws as value_equal;
 ghost use Rattle.cheri_model.specs.contracts.image.HartImageEq.TheImpl.Laws as hart_equal;
-ghost use Rattle.cheri_model.specs.runs.ImageForm.{
+ghost use Rattle.cheri_model.specs.runs.ImageRules.{
   image_of,
   is_image,
   are_sizes,
@@ -58,7 +58,7 @@ impl Model for Image {
 
     ghost Value = { ImageParts };
 
-    ghost use Rattle.cheri_model.specs.runs.ImageForm.{is_image};
+    ghost use Rattle.cheri_model.specs.runs.ImageRules.{is_image};
 
     ghost view = { λ i. record {
       program = i.program.items;

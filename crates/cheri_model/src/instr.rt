@@ -191,8 +191,7 @@ pub enum Instr {
 
 impl Instr {
     /// The same instruction by its form: its name among those with the same operands, and the
-    /// operands. Inlined, so that a step goes from its instruction to what that does by one jump
-    /// through a table.
+    /// operands. Inlined, so that its form is not written to memory.
     #[inline(always)]
     #[tactic(auto, unfolding(crate::specs::instructions::Form::form_of))]
     pub fn form(self) -> Form

@@ -1,5 +1,5 @@
 //! The names of instructions, as listings spell them.
-#![tactic(auto, unfolding(crate::proofs::Open::names))]
+#![tactic(auto, unfolding(crate::proofs::Unfold::names))]
 
 ghost use Rattle.std.specs.Prelude.{◌≡◌, option_map, map};
 ghost use Rattle.cheri_model.specs.instructions.Tables.{found_at, rows_of};

@@ -8,7 +8,7 @@ use Rattle.inputs.specs.declared.fault.InputFault.{InputFault}
 use Rattle.inputs.specs.declared.fault.InputFault.TheVariants as inputs
 use Rattle.inputs.proofs.InputLemmas.{IsReported, input_fails}
 use Rattle.printing.proofs.EndingLemmas.{IsEarly}
-use Rattle.sinks.specs.Sinks.{TakesBeginning}
+use Rattle.sinks.specs.Sinks.{TakesPrefix}
 use Rattle.cores.specs.Runs.{Stop}
 use Rattle.cheri_sim.specs.declared.faults.Fault.TheVariants as faults
 use Rattle.cheri_sim.specs.Endings.{Answer, Fails}
@@ -39,6 +39,6 @@ module _ (IsAnswer : Answer → Type 0) (in_pieces : Bool) (old new : Option (Li
   listing_fails fault (inr answer) same = file_fails (listing_fault fault) answer same
 
   -- a text that was not written whole
-  pub unwritten_fails : (text : List ℕ) (stop : Option Stop) → IsAnswer (Ok (text, stop)) → TakesBeginning old new text →
+  pub unwritten_fails : (text : List ℕ) (stop : Option Stop) → IsAnswer (Ok (text, stop)) → TakesPrefix old new text →
       Fails IsAnswer in_pieces faults.CannotWrite old new
   unwritten_fails text stop answer begun = (text, stop, answer, begun)

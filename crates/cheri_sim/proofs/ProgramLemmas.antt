@@ -4,11 +4,11 @@ use Rattle.std.specs.Prelude.{◌⊎◌, OnOk, IfErr}
 use Rattle.std.specs.Io.KnownBytes.{Appends}
 use Rattle.cheri_model.specs.runs.Image.{ImageParts}
 use Rattle.report_lines.specs.Texts.{line}
-use Rattle.sinks.specs.Sinks.{TakesBeginning}
+use Rattle.sinks.specs.Sinks.{TakesPrefix}
 use Rattle.cores.specs.Runs.{Stop}
 use Rattle.cores.specs.declared.faults.StepFault.{StepFault}
 use Rattle.command_line.specs.Requests.{Asked, Check, Run, Race, Bounds, Decode}
-use Rattle.command_line.specs.declared.found.ReportForm.{ReportForm}
+use Rattle.command_line.specs.declared.found.Format.{Format}
 use Rattle.command_line.specs.declared.faults.CommandFault.{CommandFault}
 use Rattle.command_line.specs.declared.faults.CommandFault.TheVariants as commands
 use Rattle.inputs.specs.Files.{KnownFiles, AreBytesOf}
@@ -25,7 +25,7 @@ use Rattle.cheri_sim.specs.declared.faults.Fault.TheVariants as faults
 use Rattle.cheri_sim.specs.Answers.{check_line}
 use Rattle.cheri_sim.specs.Endings.{Answer, Fails}
 use Rattle.cheri_sim.specs.Faults.{command_fault, failure_of, fault_text, number_fault, status_of}
-use Rattle.cheri_sim.specs.Program.{FailsWith, IsAnswer, IsNumbersAnswer, IsQuiet}
+use Rattle.cheri_sim.specs.Program.{FailsWith, IsAnswer, IsNumbersAnswer, StderrGets}
 use Rattle.cheri_sim.specs.Program.{answer_of_numbers, is_in_pieces, unread}
 use Rattle.cheri_sim.specs.Races.{IsRaceAnswer, TellsLooks}
 use Rattle.cheri_sim.specs.Runs.{IsRunAnswer}
@@ -56,7 +56,7 @@ check_printed files listing image text result old new means same grown =
     whole_printed (IsAnswer files (Some (Check listing))) text None old new result (check_answer files listing image text means same) grown
 
 pub check_unwritten : (files : KnownFiles) (listing : List ℕ) (image : ImageParts) (text : List ℕ) (old new : Option (List ℕ)) →
-    MeansImage (files listing) image → text ≡ check_line image → TakesBeginning old new text →
+    MeansImage (files listing) image → text ≡ check_line image → TakesPrefix old new text →
     Fails (IsAnswer files (Some (Check listing))) false faults.CannotWrite old new
 check_unwritten files listing image text old new means same begun =
     unwritten_fails (IsAnswer files (Some (Check listing))) false old new text None (check_answer files listing image text means same) begun
@@ -64,7 +64,7 @@ check_unwritten files listing image text old new means same begun =
 pub ruleset check_answers = (check_unread, check_printed, check_unwritten)
 
 -- what is so of the files' texts, and of the image that a file's text means
-runs_files : (files : KnownFiles) (listing order : List ℕ) (form : ReportForm) (first second : List ℕ) →
+runs_files : (files : KnownFiles) (listing order : List ℕ) (form : Format) (first second : List ℕ) →
     AreBytesOf (files listing) first → AreBytesOf (files order) second → (answer : Answer) → IsRunAnswer form first second answer →
     IsAnswer files (Some (Run listing order form)) answer
 runs_files files listing order form first second first_are second_are answer is = inr (first, first_are, inr (second, second_are, is))
@@ -75,7 +75,7 @@ races_image files listing turns watch image means answer is =
     of_image (files listing) unread (λ image. IsRaceAnswer image turns answer) answer image means is
 
 -- texts that were not read
-pub run_unread : (files : KnownFiles) (listing order : List ℕ) (form : ReportForm) (fault : InputFault) (old new : Option (List ℕ)) →
+pub run_unread : (files : KnownFiles) (listing order : List ℕ) (form : Format) (fault : InputFault) (old new : Option (List ℕ)) →
     AreTextsUnread (files listing) (files order) fault → new ≡ old →
     Fails (IsAnswer files (Some (Run listing order form))) true (faults.Input fault) old new
 run_unread files listing order form fault old new is same =
@@ -83,21 +83,21 @@ run_unread files listing order form fault old new is same =
     (files listing) (files order) fault is same
 
 -- a run that was printed, up to a refused step or to the end, or was not printed whole
-pub run_printed : (files : KnownFiles) (listing order : List ℕ) (form : ReportForm) (stop : Option Stop) (first second : List ℕ)
+pub run_printed : (files : KnownFiles) (listing order : List ℕ) (form : Format) (stop : Option Stop) (first second : List ℕ)
     (old new : Option (List ℕ)) → AreBytesOf (files listing) first → AreBytesOf (files order) second →
     HasWhole (IsRunAnswer form first second) stop old new → HasWhole (IsAnswer files (Some (Run listing order form))) stop old new
 run_printed files listing order form stop first second old new first_are second_are printed =
     whole_more (IsRunAnswer form first second) (IsAnswer files (Some (Run listing order form)))
     (runs_files files listing order form first second first_are second_are) old new stop printed
 
-pub run_stops : (files : KnownFiles) (listing order : List ℕ) (form : ReportForm) (place : ℕ) (fault : StepFault) (first second : List ℕ)
+pub run_stops : (files : KnownFiles) (listing order : List ℕ) (form : Format) (place : ℕ) (fault : StepFault) (first second : List ℕ)
     (old new : Option (List ℕ)) → AreBytesOf (files listing) first → AreBytesOf (files order) second →
     HasWhole (IsRunAnswer form first second) (Some (place, fault)) old new →
     Fails (IsAnswer files (Some (Run listing order form))) true (faults.Step place fault) old new
 run_stops files listing order form place fault first second old new first_are second_are printed =
     run_printed files listing order form (Some (place, fault)) first second old new first_are second_are printed
 
-pub run_fails : (files : KnownFiles) (listing order : List ℕ) (form : ReportForm) (first second : List ℕ) (fault : Fault)
+pub run_fails : (files : KnownFiles) (listing order : List ℕ) (form : Format) (first second : List ℕ) (fault : Fault)
     (old new : Option (List ℕ)) → AreBytesOf (files listing) first → AreBytesOf (files order) second →
     Fails (IsRunAnswer form first second) true fault old new → Fails (IsAnswer files (Some (Run listing order form))) true fault old new
 run_fails files listing order form first second fault old new first_are second_are fails =
@@ -133,16 +133,16 @@ race_fails files listing turns watch image (Err fault) old new means is =
     (races_image files listing turns watch image means) old new (failure_of true fault) fault is
 
 -- what standard error got of a race that was printed
-pub race_is_quiet : {T : Type 0} (listing : List ℕ) (turns : ℕ) (watch : Bool) (result : Result T Fault) (old new : Option (List ℕ)) →
+pub race_stderr : {T : Type 0} (listing : List ℕ) (turns : ℕ) (watch : Bool) (result : Result T Fault) (old new : Option (List ℕ)) →
     (watch ≡ false → new ≡ old) → (watch ≡ true → OnOk result (TellsLooks old new)) →
-    OnOk result (IsQuiet (Some (Race listing turns watch)) old new)
-race_is_quiet listing turns true result old new same told = told refl
-race_is_quiet listing turns false (Ok done) old new same told = same refl
-race_is_quiet listing turns false (Err fault) old new same told = tt
+    OnOk result (StderrGets (Some (Race listing turns watch)) old new)
+race_stderr listing turns true result old new same told = told refl
+race_stderr listing turns false (Ok done) old new same told = same refl
+race_stderr listing turns false (Err fault) old new same told = tt
 
-pub ruleset race_answers = (race_unread, race_printed, race_fails, race_is_quiet)
+pub ruleset race_answers = (race_unread, race_printed, race_fails, race_stderr)
 
--- words that ask for nothing
+-- arguments that ask for nothing
 pub command_fails : {X : Type 0} (files : KnownFiles) (request : Option Asked) (result : Result X CommandFault)
     (refused : CommandFault) (old new : Option (List ℕ)) → result ≡ Err refused →
     (result ≡ Err commands.Usage → request ≡ None) → new ≡ old →
@@ -166,7 +166,7 @@ module _ (found : Option (List ℕ)) (old new : Option (List ℕ)) where
   numbers_printed text result is grown =
       whole_printed (IsNumbersAnswer found) text None old new result (numbers_answer text is) grown
 
-  pub numbers_unwritten : (text : List ℕ) → found ≡ Some text → TakesBeginning old new text →
+  pub numbers_unwritten : (text : List ℕ) → found ≡ Some text → TakesPrefix old new text →
       Fails (IsNumbersAnswer found) false faults.CannotWrite old new
   numbers_unwritten text is begun =
       unwritten_fails (IsNumbersAnswer found) false old new text None (numbers_answer text is) begun
@@ -176,7 +176,7 @@ pub ruleset number_answers = (numbers_refused, numbers_printed, numbers_unwritte
 -- a fault, its status and its line, before which nothing was written
 pub fails_with : (files : KnownFiles) (request : Option Asked) (fault : Fault) (status : ℕ) (old new err_old err_now err_new : Option (List ℕ)) →
     status ≡ status_of fault → Fails (IsAnswer files request) (is_in_pieces request) fault old new → err_now ≡ err_old →
-    TakesBeginning err_now err_new (line (fault_text fault)) → FailsWith files request status old new err_old err_new
+    TakesPrefix err_now err_new (line (fault_text fault)) → FailsWith files request status old new err_old err_new
 fails_with files request fault status old new err_old err_now err_new is fails same told =
     record { fault = fault; status_is = is; is_so = fails; told = rw same at told }
 

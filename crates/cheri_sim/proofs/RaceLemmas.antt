@@ -6,7 +6,7 @@ use Rattle.cheri_model.specs.runs.Image.{ImageParts}
 use Rattle.cheri_model.specs.runs.Replay.{IsReplay}
 use Rattle.report_lines.specs.Texts.{line}
 use Rattle.reports.specs.Report.{report}
-use Rattle.sinks.specs.Sinks.{TakesBeginning}
+use Rattle.sinks.specs.Sinks.{TakesPrefix}
 use Rattle.cores.specs.Cores.{CoreParts}
 use Rattle.harts.specs.declared.faults.RunFault.{RunFault}
 use Rattle.harts.specs.declared.faults.RunFault.TheVariants as race
@@ -78,7 +78,7 @@ race_unprinted image turns core reports text (Err fault) old new same replay are
     race_fault_printed image turns text fault old new (race_of image turns core reports text same replay are is) begun
 
 -- its looks were told
-pub tells_looks : (looks : ℕ) (old new : Option (List ℕ)) → looks ≤ LOOKS → TakesBeginning old new (line (looks_text looks)) →
+pub tells_looks : (looks : ℕ) (old new : Option (List ℕ)) → looks ≤ LOOKS → TakesPrefix old new (line (looks_text looks)) →
     TellsLooks old new
 tells_looks looks old new most told = record { looks = looks; most = most; told = told }
 

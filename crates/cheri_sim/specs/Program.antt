@@ -3,7 +3,7 @@ use Rattle.std.specs.Prelude.{◌≡◌, ℕ, List, codes, Option, Some, None, O
 use Rattle.std.specs.Prelude.{String}
 use Rattle.std.specs.Global.{Global}
 use Rattle.command_line.specs.Requests.{Asked, Check, Run, Race, Bounds, Decode}
-use Rattle.inputs.specs.Arguments.{command_words}
+use Rattle.inputs.specs.Arguments.{command_args}
 use Rattle.inputs.specs.Files.{KnownFiles}
 use Rattle.inputs.specs.Reading.{OfImage, OfTexts}
 use Rattle.inputs.specs.declared.fault.InputFault.{InputFault}
@@ -17,9 +17,9 @@ use Rattle.cheri_sim.specs.Faults.{fault_text, status_of}
 use Rattle.cheri_sim.specs.Races.{IsRaceAnswer, TellsLooks}
 use Rattle.cheri_sim.specs.Runs.{IsRunAnswer}
 
--- the command line of the words that are given after the program's name
+-- the command line of the arguments that are given after the program's name
 abbrev pub command_line : List (String Global) → List (List ℕ)
-command_line words = command_words (codes "cheri_sim") words
+command_line args = command_args (codes "cheri_sim") args
 
 -- the answer where a file was not read, or refused
 abbrev pub unread : InputFault → Answer
@@ -54,9 +54,9 @@ is_in_pieces _ = false
 
 -- What standard error got where a request was done: nothing, or for a watched race the line of its
 -- looks, or a prefix of it.
-abbrev pub IsQuiet : Option Asked → Option (List ℕ) → Option (List ℕ) → Type 0
-IsQuiet (Some (Race listing turns true)) old new = TellsLooks old new
-IsQuiet _ old new = new ≡ old
+abbrev pub StderrGets : Option Asked → Option (List ℕ) → Option (List ℕ) → Type 0
+StderrGets (Some (Race listing turns true)) old new = TellsLooks old new
+StderrGets _ old new = new ≡ old
 
 -- a request fails with this exit status; standard error got the fault's line, or a prefix of it
 abbrev pub FailsWith : KnownFiles → Option Asked → ℕ → Option (List ℕ) → Option (List ℕ)

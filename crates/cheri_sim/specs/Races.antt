@@ -5,7 +5,7 @@ use Rattle.cheri_model.specs.runs.Image.{ImageParts}
 use Rattle.cheri_model.specs.runs.Replay.{IsReplay}
 use Rattle.report_lines.specs.Texts.{line}
 use Rattle.reports.specs.Report.{report}
-use Rattle.sinks.specs.Sinks.{TakesBeginning}
+use Rattle.sinks.specs.Sinks.{TakesPrefix}
 use Rattle.cores.specs.Cores.{CoreParts}
 use Rattle.harts.specs.declared.workers.HartReport.{HartReport}
 use Rattle.harts.specs.Reports.{AreReports}
@@ -33,7 +33,7 @@ looks_text looks = codes "watch looks=" ++ decimal looks
 pub record TellsLooks (old new : Option (List ℕ)) : Type 0 where
   pub looks : ℕ
   pub most : looks ≤ LOOKS
-  pub told : TakesBeginning old new (line (looks_text looks))
+  pub told : TakesPrefix old new (line (looks_text looks))
 
 -- The answers to a race of an image: its report. A worker may not start; and only tests show that a
 -- race leaves the image that it was given.

@@ -16,7 +16,7 @@ use std::fmt;
 /// Why the program does not end with status 0.
 #[derive(Clone, Copy, Debug, PartialEq, Eq)]
 pub enum Fault {
-    /// The words are no command of this program.
+    /// The arguments are no command of this program.
     Usage,
     /// A file was refused, or an allocation failed.
     Input(InputFault),

@@ -8,7 +8,7 @@ ghost use Rattle.cores.specs.Cores.{is_limit};
 ghost use Rattle.harts.specs.Reports.{AreReports};
 ghost use Rattle.report_lines.specs.Texts.{line};
 ghost use Rattle.printing.specs.Endings.{HasWhole};
-ghost use Rattle.sinks.specs.Sinks.{TakesBeginning};
+ghost use Rattle.sinks.specs.Sinks.{TakesPrefix};
 ghost use Rattle.cheri_sim.specs.Endings.{Fails};
 ghost use Rattle.cheri_sim.specs.Races.{IsRaceAnswer, TellsLooks, looks_text};
 
@@ -118,7 +118,7 @@ impl fmt::Display for Looks {
 
 /// Writes how many looks a viewer got, whether the line is taken or not.
 fn write_looks<E: Write>(err: &mut E, looks: u32)
-    ensures { TakesBeginning
+    ensures { TakesPrefix
         (E.contents err.old) (E.contents err.new) (line (looks_text looks)) }
 {
     let _ = write_line(err, Looks(looks));
@@ -127,7 +127,7 @@ fn write_looks<E: Write>(err: &mut E, looks: u32)
 /// Tells how many looks the viewer of a watched race got, whether the line is taken or not.
 fn tell_looks<E: Write>(err: &mut E, watch: bool, looker: &Looker)
     ensures told { watch ≡ true → TellsLooks (E.contents err.old) (E.contents err.new) }
-    ensures quiet { watch ≡ false → E.contents err.new ≡ E.contents err.old }
+    ensures stderr { watch ≡ false → E.contents err.new ≡ E.contents err.old }
 {
     if watch {
         write_looks(err, looker.looks());
@@ -182,10 +182,10 @@ pub fn print_race<O: Write, E: Write, R: Threads + Wait + Sync>(
         (O.contents out.old) (O.contents out.new)) }
     ensures failed { IfErr result (λ fault. Fails (IsRaceAnswer image turns) true fault
         (O.contents out.old) (O.contents out.new)) }
-    ensures quiet { watch ≡ false → E.contents err.new ≡ E.contents err.old }
+    ensures stderr { watch ≡ false → E.contents err.new ≡ E.contents err.old }
     ensures told { watch ≡ true
         → OnOk result (TellsLooks (E.contents err.old) (E.contents err.new)) }
-    ensures spared { OnErr result (E.contents err.new ≡ E.contents err.old) }
+    ensures stderr_unchanged { OnErr result (E.contents err.new ≡ E.contents err.old) }
 {
     let mut looker = Looker::new();
     let (core, _reports) = raced(rt, alloc, image, turns, watch, &mut looker)?;

@@ -5,7 +5,7 @@ ghost use Rattle.std.specs.Prelude.{OnOk, IfErr};
 ghost use Rattle.std.specs.Io.KnownBytes.{Appends};
 ghost use Rattle.hart.specs.View.{state_of};
 ghost use Rattle.reports.specs.Report.{report};
-ghost use Rattle.sinks.specs.Sinks.{TakesBeginning};
+ghost use Rattle.sinks.specs.Sinks.{TakesPrefix};
 ghost use Rattle.cheri_sim.specs.Reporting.{IsUnwritten};
 
 use crate::faults::Fault;
@@ -19,7 +19,7 @@ use std::io::Write;
 fn write_shown<O: Write>(alloc: Global, view: View<'_>, out: &mut O) -> Result<(), ReportFault>
     ensures whole { OnOk result (Appends (O.contents out.old) (O.contents out.new)
         (report view.entry.image.now view.entry.entries.now (state_of view.entry))) }
-    ensures beginning { TakesBeginning (O.contents out.old) (O.contents out.new)
+    ensures prefix { TakesPrefix (O.contents out.old) (O.contents out.new)
         (report view.entry.image.now view.entry.entries.now (state_of view.entry)) }
 {
     let mut sink = ToWrite::new(out);

@@ -3,14 +3,14 @@
 
 ghost use Rattle.std.specs.Prelude.{◌≡◌, IfOk, IfErr, false, true};
 ghost use Rattle.std.specs.Io.KnownBytes.{Appends};
-ghost use Rattle.sinks.specs.Sinks.{TakesBeginning};
+ghost use Rattle.sinks.specs.Sinks.{TakesPrefix};
 ghost use Rattle.simulation.specs.Simulation.{IsRefusedRun, IsRunAnd, is_reported};
 ghost use Rattle.printing.specs.Endings.{HasWhole};
 ghost use Rattle.cheri_sim.specs.Endings.{Fails};
 ghost use Rattle.cheri_sim.specs.Runs.{IsRunAnswer, longest_run, report_in};
 
 use crate::faults::Fault;
-use command_line::ReportForm;
+use command_line::Format;
 use cores::{GREATEST_TRACE_LIMIT, StepFault};
 use printing::flush;
 use reports::{Sink, ToWrite};
@@ -22,30 +22,30 @@ use std::io::Write;
 #[tactic(auto, unfolding(crate::specs::Runs::report_in))]
 fn simulate_in<S: Sink>(
     alloc: Global,
-    form: ReportForm,
+    form: Format,
     listing: &[u8],
     order: &[u8],
     out: &mut S,
 ) -> Result<Option<(usize, StepFault)>, SimFault>
     ensures shown { IfOk result (λ end.
         IsRunAnd (longest_run listing.now order.now) (λ run. (run.1 ≡ end)
-        × Appends (S.taken out.old) (S.taken out.new) (report_in form run))) }
+        × Appends (S.written out.old) (S.written out.new) (report_in form run))) }
     ensures refused { IfErr result (λ fault.
         IsRefusedRun (longest_run listing.now order.now)
-        (λ run. TakesBeginning (S.taken out.old) (S.taken out.new) (report_in form run)) fault) }
+        (λ run. TakesPrefix (S.written out.old) (S.written out.new) (report_in form run)) fault) }
     ensures untouched { IfErr result (λ fault. is_reported fault ≡ false → out.new ≡ out.old) }
-    ensures place { S.place out.new ≡ S.place out.old }
+    ensures identity { S.identity out.new ≡ S.identity out.old }
 {
     match form {
-        ReportForm::Text => simulate(alloc, listing, order, GREATEST_TRACE_LIMIT, out),
-        ReportForm::Json => simulate_json(alloc, listing, order, GREATEST_TRACE_LIMIT, out),
+        Format::Text => simulate(alloc, listing, order, GREATEST_TRACE_LIMIT, out),
+        Format::Json => simulate_json(alloc, listing, order, GREATEST_TRACE_LIMIT, out),
     }
 }
 
 /// The same to a writer.
 fn simulate_to<O: Write>(
     alloc: Global,
-    form: ReportForm,
+    form: Format,
     listing: &[u8],
     order: &[u8],
     out: &mut O,
@@ -55,7 +55,7 @@ fn simulate_to<O: Write>(
         × Appends (O.contents out.old) (O.contents out.new) (report_in form run))) }
     ensures refused { IfErr result (λ fault.
         IsRefusedRun (longest_run listing.now order.now)
-        (λ run. TakesBeginning (O.contents out.old) (O.contents out.new) (report_in form run))
+        (λ run. TakesPrefix (O.contents out.old) (O.contents out.new) (report_in form run))
         fault) }
     ensures untouched { IfErr result (λ fault. is_reported fault ≡ false
         → O.contents out.new ≡ O.contents out.old) }
@@ -72,7 +72,7 @@ fn simulate_to<O: Write>(
 /// made. Answers the step that was refused, if one was.
 pub fn print_run<O: Write>(
     alloc: Global,
-    form: ReportForm,
+    form: Format,
     listing: &[u8],
     order: &[u8],
     out: &mut O,

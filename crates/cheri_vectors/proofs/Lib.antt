@@ -1,4 +1,4 @@
 pub mod HexDigits
 pub mod Limits
-pub mod Open
+pub mod Unfold
 pub mod RowLemmas

@@ -1,5 +1,5 @@
 //! The text of the vectors, and its printing.
-#![tactic(auto, unfolding(crate::proofs::Open::printing))]
+#![tactic(auto, unfolding(crate::proofs::Unfold::printing))]
 
 ghost use Rattle.std.specs.Prelude.{◌≡◌, ◌++◌, IfOk, OnOk, codes, string_bytes};
 ghost use Rattle.std.specs.Io.KnownBytes.{Appends};

@@ -1,5 +1,5 @@
 //! The rows of words.
-#![tactic(auto, using(cap_model::proofs::Words::RawWords::raw_top_lt), unfolding(crate::proofs::Open::words))]
+#![tactic(auto, using(cap_model::proofs::Words::RawWords::raw_top_lt), unfolding(crate::proofs::Unfold::words))]
 
 ghost use Rattle.std.specs.Prelude.{◌≡◌, ◌+◌, ◌*◌, ◌/◌, ◌%◌, ◌^◌, ◌<◌, ◌++◌, OnOk, string_bytes};
 ghost use Rattle.cap_model.specs.results.EditedWords.{word_of_halves};

@@ -1,4 +1,4 @@
--- How `clap` reads the words of the programs, and which words write numbers and sweeps.
-pub mod ReadWords
+-- How `clap` reads the arguments of the programs, and which arguments write numbers and sweeps.
+pub mod ReadArgs
 pub mod NumberLemmas
 pub mod SweepLemmas

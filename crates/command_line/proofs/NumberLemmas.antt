@@ -61,21 +61,21 @@ within_kept least greatest number small = by (cases_lt number (2 ^ 128 - 1))
         let whole_above : nat_le number greatest ≡ false = grind (arith, nat_tests) in
         rw (is, kept_above, whole_above) (none_within least (2 ^ 128 - 1) number)
 
-pub decimal_is : (least greatest : ℕ) (word : Text) (number : ℕ) → greatest < 2 ^ 128 - 1 →
-    Some number ≡ option_map kept_of (number_in 10 word) → within least greatest number ≡ decimal_within least greatest word
+pub decimal_is : (least greatest : ℕ) (arg : Text) (number : ℕ) → greatest < 2 ^ 128 - 1 →
+    Some number ≡ option_map kept_of (number_in 10 arg) → within least greatest number ≡ decimal_within least greatest arg
 unfolding decimal_within
-decimal_is least greatest word number small is = by (number_in 10 word) refl is
+decimal_is least greatest arg number small is = by (number_in 10 arg) refl is
   where
-    by : (found : Option ℕ) → number_in 10 word ≡ found → Some number ≡ option_map kept_of found →
-        within least greatest number ≡ option_and_then (within least greatest) (number_in 10 word)
+    by : (found : Option ℕ) → number_in 10 arg ≡ found → Some number ≡ option_map kept_of found →
+        within least greatest number ≡ option_and_then (within least greatest) (number_in 10 arg)
     by None e is = (let bad : Some number ≡ option_map kept_of None = is in cc)
     by (Some whole) e is = (let same : number ≡ kept_of whole = cc in rw (same, e) (within_kept least greatest whole small))
 
-pub no_decimal : (least greatest : ℕ) (word : Text) → None ≡ option_map kept_of (number_in 10 word) → None ≡ decimal_within least greatest word
+pub no_decimal : (least greatest : ℕ) (arg : Text) → None ≡ option_map kept_of (number_in 10 arg) → None ≡ decimal_within least greatest arg
 unfolding decimal_within
-no_decimal least greatest word is = by (number_in 10 word) refl is
+no_decimal least greatest arg is = by (number_in 10 arg) refl is
   where
-    by : (found : Option ℕ) → number_in 10 word ≡ found → None ≡ option_map kept_of found →
-        None ≡ option_and_then (within least greatest) (number_in 10 word)
+    by : (found : Option ℕ) → number_in 10 arg ≡ found → None ≡ option_map kept_of found →
+        None ≡ option_and_then (within least greatest) (number_in 10 arg)
     by None e is = rw e refl
     by (Some whole) e is = (let bad : None ≡ Some (kept_of whole) = is in cc)

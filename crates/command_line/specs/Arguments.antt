@@ -5,11 +5,11 @@ use Rattle.clap.specs.declared.builder.action.ArgAction.TheVariants.{Append, Set
 use Rattle.clap.specs.declared.builder.command.Command.{Command}
 use Rattle.clap.specs.declared.builder.command.Command.TheViews.{out-Command}
 
--- whether one of a command's words is also its subcommands'
+-- whether one of a command's arguments is also its subcommands'
 abbrev pub has_globals : Command → Bool
 has_globals command = (out-Command command).has_globals
 
--- a word that a command must have
+-- an argument that a command must have
 abbrev pub required_word : Text → Rule
 required_word name = record (new_rule name) { action = Some Set; required = true }
 

@@ -1,23 +1,25 @@
 -- The commands of `cheri_sim`.
 use Rattle.std.specs.Prelude.{codes}
-use Rattle.clap.specs.Words.{App, new_app, with_rule, with_subcommand}
+use Rattle.clap.specs.Words.{App, Text, new_app, with_rule, with_subcommand}
 use Rattle.command_line.specs.Arguments.{flag, required_option, required_word, wanting_subcommand}
 
 -- `check LISTING`
 abbrev pub check_command : App
 check_command = with_rule (new_app (codes "check")) (required_word (codes "listing"))
 
+-- a command that wants a listing and the option of this name, and may have the flag of that name
+abbrev pub listing_command : Text → Text → Text → App
+listing_command name option switch =
+    with_rule (with_rule (with_rule (new_app name) (required_word (codes "listing")))
+    (required_option option)) (flag switch)
+
 -- `run LISTING --order FILE [--json]`
 abbrev pub run_command : App
-run_command =
-    with_rule (with_rule (with_rule (new_app (codes "run")) (required_word (codes "listing")))
-    (required_option (codes "order"))) (flag (codes "json"))
+run_command = listing_command (codes "run") (codes "order") (codes "json")
 
 -- `race LISTING --turns N [--watch]`
 abbrev pub race_command : App
-race_command =
-    with_rule (with_rule (with_rule (new_app (codes "race")) (required_word (codes "listing")))
-    (required_option (codes "turns"))) (flag (codes "watch"))
+race_command = listing_command (codes "race") (codes "turns") (codes "watch")
 
 -- `bounds BASE LEN`
 abbrev pub bounds_command : App

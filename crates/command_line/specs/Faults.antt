@@ -1,4 +1,4 @@
--- Why words ask for nothing.
+-- Why arguments ask for nothing.
 use Rattle.clap.specs.declared.error.kind.ErrorKind.{ErrorKind}
 use Rattle.clap.specs.declared.error.kind.ErrorKind.TheVariants as kinds
 use Rattle.command_line.specs.declared.faults.CommandFault.{CommandFault}

@@ -1,9 +1,9 @@
--- What was found among the words of a command line.
+-- What was found among the arguments of a command line.
 use Rattle.std.specs.Prelude.{Bool, false, Option, Some, None, option_and_then, codes, if◌then◌else◌, [], ◌∷◌}
 use Rattle.std.specs.Str.{bytes_eq}
 use Rattle.clap.specs.Words.{Kinds, Text}
-use Rattle.command_line.specs.declared.found.ReportForm.{ReportForm}
-use Rattle.command_line.specs.declared.found.ReportForm.TheVariants as forms
+use Rattle.command_line.specs.declared.found.Format.{Format}
+use Rattle.command_line.specs.declared.found.Format.TheVariants as forms
 
 infixl 10 ◌>>=◌
 abbrev pub ◌>>=◌ : {A B : Type 0} → Option A → (A → Option B) → Option B
@@ -15,7 +15,7 @@ is_given (Some value) = bytes_eq value (codes "true")
 is_given None = false
 
 -- the form of an answer: JSON where its flag is there
-abbrev pub form_of : Option Text → ReportForm
+abbrev pub form_of : Option Text → Format
 form_of flag = if is_given flag then forms.Json else forms.Text
 
 -- nothing is asked for where there is a fault

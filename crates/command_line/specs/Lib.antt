@@ -1,9 +1,9 @@
--- What words ask for.
+-- What arguments ask for.
 pub mod Faults
 pub mod Arguments
 pub mod Found
 pub mod Numbers
 pub mod Commands
 pub mod Requests
-pub mod ExplainWords
-pub mod ExploreWords
+pub mod ExplainRequests
+pub mod ExploreRequests

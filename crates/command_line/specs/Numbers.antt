@@ -1,4 +1,4 @@
--- The numbers that words write.
+-- The numbers that arguments write.
 use Rattle.std.specs.Prelude.{ℕ, ◌==◌, nat_lt, nat_le, Bool, ◌&&◌, if◌then◌else◌, length, drop, slice_index, Option, Some, None, option_and_then}
 use Rattle.std.specs.List.{list_all}
 use Rattle.std.specs.Char.{is_digit}
@@ -28,9 +28,9 @@ within least greatest number =
 
 -- the number in such bounds that decimal digits write
 unfoldable pub decimal_within : ℕ → ℕ → Text → Option ℕ
-decimal_within least greatest word = option_and_then (within least greatest) (number_in 10 word)
+decimal_within least greatest arg = option_and_then (within least greatest) (number_in 10 arg)
 
 -- the number in such bounds that an option gives, or what holds where it isn't there
 abbrev pub number_or : ℕ → ℕ → ℕ → Option Text → Option ℕ
 number_or otherwise least greatest None = Some otherwise
-number_or otherwise least greatest (Some word) = decimal_within least greatest word
+number_or otherwise least greatest (Some arg) = decimal_within least greatest arg

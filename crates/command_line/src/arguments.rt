@@ -13,7 +13,7 @@ ghost use Rattle.command_line.specs.Arguments.{
 use clap::{Arg, ArgAction};
 use std::alloc::Global;
 
-/// A word that a command must have.
+/// An argument that a command must have.
 pub(crate) fn required<'a>(alloc: Global, name: &'a str) -> Arg<'a>
     ensures rule { rule_of result ≡ required_word name.now }
     ensures local { result.global ≡ false }

@@ -7,6 +7,7 @@ ghost use Rattle.command_line.specs.Commands.{
   bounds_command,
   check_command,
   decode_command,
+  listing_command,
   program,
   race_command,
   run_command,
@@ -24,15 +25,28 @@ fn check_command<'a>(alloc: Global) -> Result<Command<'a>, AllocError>
     Command::new(alloc, "check").arg(required(alloc, "listing"))
 }
 
+/// A command that wants a listing and the option of this name, and may have the flag of that name.
+fn listing_command<'a>(
+    alloc: Global,
+    name: &'a str,
+    option: &'a str,
+    switch: &'a str,
+) -> Result<Command<'a>, AllocError>
+    ensures app { IfOk result (λ command.
+        app_of command ≡ listing_command name.now option.now switch.now) }
+    ensures local { IfOk result (λ command. has_globals command ≡ false) }
+{
+    let with_listing = Command::new(alloc, name).arg(required(alloc, "listing"))?;
+    let with_option = with_listing.arg(required_option(alloc, option))?;
+    with_option.arg(flag(alloc, switch))
+}
+
 /// `run LISTING --order FILE [--json]`.
 fn run_command<'a>(alloc: Global) -> Result<Command<'a>, AllocError>
     ensures app { IfOk result (λ command. app_of command ≡ run_command) }
     ensures local { IfOk result (λ command. has_globals command ≡ false) }
 {
-    Command::new(alloc, "run")
-        .arg(required(alloc, "listing"))?
-        .arg(required_option(alloc, "order"))?
-        .arg(flag(alloc, "json"))
+    listing_command(alloc, "run", "order", "json")
 }
 
 /// `race LISTING --turns N [--watch]`.
@@ -40,10 +54,7 @@ fn race_command<'a>(alloc: Global) -> Result<Command<'a>, AllocError>
     ensures app { IfOk result (λ command. app_of command ≡ race_command) }
     ensures local { IfOk result (λ command. has_globals command ≡ false) }
 {
-    Command::new(alloc, "race")
-        .arg(required(alloc, "listing"))?
-        .arg(required_option(alloc, "turns"))?
-        .arg(flag(alloc, "watch"))
+    listing_command(alloc, "race", "turns", "watch")
 }
 
 /// `bounds BASE LEN`.

@@ -1,9 +1,9 @@
 //! The command line of `cheri_explain`.
-#![tactic(auto, unfolding(crate::specs::ExplainWords::filter_named, crate::specs::ExplainWords::explain_asked_of))]
+#![tactic(auto, unfolding(crate::specs::ExplainRequests::filter_named, crate::specs::ExplainRequests::explain_asked_of))]
 
 ghost use Rattle.std.specs.Prelude.{◌≡◌, IfOk, codes, option_map};
 ghost use Rattle.clap.specs.Words.{app_of, first_of, found_of, rows_of};
-ghost use Rattle.command_line.specs.ExplainWords.{
+ghost use Rattle.command_line.specs.ExplainRequests.{
   event_or,
   explain_asked_by,
   explain_asked_of,
@@ -14,7 +14,7 @@ ghost use Rattle.command_line.specs.ExplainWords.{
 };
 
 use crate::arguments::{flag, required, required_option, single_option};
-use crate::found::{flag_found, word_found};
+use crate::found::{flag_found, value_found};
 use crate::numbers::number_or;
 use clap::{ArgMatches, Command};
 use std::alloc::{AllocError, Global};
@@ -37,7 +37,7 @@ pub enum Filter {
 
 /// The form of an explanation.
 #[derive(Clone, Copy, Debug, PartialEq, Eq)]
-pub enum ExplainForm {
+pub enum ExplainFormat {
     /// Text, of these events.
     Text(Filter),
     /// JSON, of these events.
@@ -54,7 +54,7 @@ pub struct ExplainRequest<'a> {
     pub order: &'a str,
     pub first: u32,
     pub last: u32,
-    pub form: ExplainForm,
+    pub form: ExplainFormat,
 }
 
 /// `cheri_explain LISTING --order FILE [--from I] [--to J] [--only WORDS] [--json] [--html]`.
@@ -93,21 +93,21 @@ fn filter_of(only: Option<&str>) -> Option<Filter>
 }
 
 /// The form of an explanation. A page has no other form, and shows all events.
-fn form_of(html: bool, json: bool, only: Option<&str>) -> Option<ExplainForm>
+fn form_of(html: bool, json: bool, only: Option<&str>) -> Option<ExplainFormat>
     ensures { result ≡ explain_form html json (option_map (λ words. words.now) only.entry) }
 {
     if html {
         return if json || only.is_some() {
             None
         } else {
-            Some(ExplainForm::Page)
+            Some(ExplainFormat::Page)
         };
     }
     let filter = filter_of(only)?;
     if json {
-        Some(ExplainForm::Json(filter))
+        Some(ExplainFormat::Json(filter))
     } else {
-        Some(ExplainForm::Text(filter))
+        Some(ExplainFormat::Text(filter))
     }
 }
 
@@ -115,21 +115,21 @@ fn form_of(html: bool, json: bool, only: Option<&str>) -> Option<ExplainForm>
 fn event_or(otherwise: u32, found: &ArgMatches<'_>, name: &str) -> Option<u32>
     ensures { result ≡ event_or otherwise (first_of name.now (rows_of (found_of found.now))) }
 {
-    number_or(otherwise, 0, LAST_EVENT, word_found(found, name))
+    number_or(otherwise, 0, LAST_EVENT, value_found(found, name))
 }
 
-/// What the words that were found ask for.
+/// What the arguments that were found ask for.
 pub(crate) fn explain_of<'a>(found: &ArgMatches<'a>) -> Option<ExplainRequest<'a>>
     ensures { option_map explain_asked_by result
         ≡ explain_asked_of (rows_of (found_of found.now)) }
 {
-    let listing = word_found(found, "listing")?;
-    let order = word_found(found, "order")?;
+    let listing = value_found(found, "listing")?;
+    let order = value_found(found, "order")?;
     let first = event_or(0, found, "from")?;
     let last = event_or(LAST_EVENT, found, "to")?;
     let html = flag_found(found, "html");
     let json = flag_found(found, "json");
-    let form = form_of(html, json, word_found(found, "only"))?;
+    let form = form_of(html, json, value_found(found, "only"))?;
     if first <= last {
         Some(ExplainRequest {
             listing,

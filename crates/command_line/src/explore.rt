@@ -1,10 +1,10 @@
 //! The command line of `cheri_explore`.
-#![tactic(auto, unfolding(crate::specs::ExploreWords::question_of, crate::specs::ExploreWords::explore_asked_of))]
+#![tactic(auto, unfolding(crate::specs::ExploreRequests::question_of, crate::specs::ExploreRequests::explore_asked_of))]
 
 ghost use Rattle.std.specs.Prelude.{◌≡◌, ◌≤◌, Err, IfOk, IfSome, None, Some, codes, false, length, option_and_then, option_map};
 ghost use Rattle.clap.specs.Words.{all_of, app_of, first_of, found_of, rows_of, subcommand_rows_of};
 ghost use Rattle.command_line.specs.Arguments.{has_globals};
-ghost use Rattle.command_line.specs.ExploreWords.{
+ghost use Rattle.command_line.specs.ExploreRequests.{
   authority_command,
   explore_asked_by,
   explore_asked_of,
@@ -21,7 +21,7 @@ ghost use Rattle.command_line.specs.declared.sweeps.TheConstants.{MAX_SWEEPS};
 
 use crate::arguments::{flag, repeated_option, required, single_option};
 use crate::faults::CommandFault;
-use crate::found::{ReportForm, form_found, word_found, words_found};
+use crate::found::{Format, form_found, value_found, values_found};
 use crate::numbers::number_or;
 use crate::sweeps::{Sweep, sweeps_written};
 use clap::{ArgMatches, Command};
@@ -51,7 +51,7 @@ pub struct ExploreRequest<'a> {
     pub listing: &'a str,
     pub sweeps: Vec<Sweep>,
     pub states: u32,
-    pub form: ReportForm,
+    pub form: Format,
     pub question: Question<'a>,
 }
 
@@ -114,10 +114,10 @@ fn question_of<'a>(name: &str, found: &ArgMatches<'a>) -> Option<Question<'a>>
 {
     match name {
         "outcomes" => Some(Question::Outcomes {
-            show: word_found(found, "show"),
+            show: value_found(found, "show"),
         }),
         "find" => {
-            let condition = word_found(found, "condition")?;
+            let condition = value_found(found, "condition")?;
             Some(Question::Find { condition })
         },
         "authority" => Some(Question::Authority),
@@ -135,7 +135,7 @@ fn states_found(found: &ArgMatches<'_>) -> Option<u32>
         USUAL_STATES,
         1,
         GREATEST_STATES,
-        word_found(found, "states"),
+        value_found(found, "states"),
     )
 }
 
@@ -147,13 +147,13 @@ fn sweeps_found(alloc: Global, found: &ArgMatches<'_>) -> Result<Vec<Sweep>, Com
         → sweeps_in (all_of (codes "sweep") (rows_of (found_of found.now))) ≡ None }
     ensures few { IfOk result (λ sweeps. length sweeps.items ≤ MAX_SWEEPS) }
 {
-    match words_found(found, "sweep") {
-        Some(words) => sweeps_written(alloc, words),
+    match values_found(found, "sweep") {
+        Some(args) => sweeps_written(alloc, args),
         None => Ok(Vec::new(alloc)),
     }
 }
 
-/// What the command of this name asks for with the words that were found.
+/// What the command of this name asks for with the arguments that were found.
 fn explore_of<'a>(
     alloc: Global,
     name: &str,
@@ -168,7 +168,7 @@ fn explore_of<'a>(
     ensures some { IfOk result (λ request. 1 ≤ request.states) }
 {
     let question = question_of(name, found).ok_or(CommandFault::Usage)?;
-    let listing = word_found(found, "listing").ok_or(CommandFault::Usage)?;
+    let listing = value_found(found, "listing").ok_or(CommandFault::Usage)?;
     let states = states_found(found).ok_or(CommandFault::Usage)?;
     let sweeps = sweeps_found(alloc, found)?;
     Ok(ExploreRequest {

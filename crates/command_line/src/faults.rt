@@ -6,7 +6,7 @@ use std::alloc::AllocError;
 /// Why a command line asks for nothing.
 #[derive(Clone, Copy, Debug, PartialEq, Eq)]
 pub enum CommandFault {
-    /// The words are no command of this program; a request for help is none either.
+    /// The arguments are no command of this program; a request for help is none either.
     Usage,
     /// An allocation failed.
     NoMemory,

@@ -1,4 +1,4 @@
-//! What `clap` found among the words of a command line.
+//! What `clap` found among the arguments of a command line.
 
 ghost use Rattle.std.specs.Prelude.{◌≡◌, codes, map, option_map};
 ghost use Rattle.clap.specs.Words.{all_of, first_of, found_of, rows_of};
@@ -8,22 +8,22 @@ use clap::ArgMatches;
 
 /// The form of an answer.
 #[derive(Clone, Copy, Debug, PartialEq, Eq)]
-pub enum ReportForm {
+pub enum Format {
     Text,
     Json,
 }
 
-/// The word that was found under this name.
-pub(crate) fn word_found<'a>(found: &ArgMatches<'a>, name: &str) -> Option<&'a str>
-    ensures { option_map (λ word. word.now) result
+/// The argument that was found under this name.
+pub(crate) fn value_found<'a>(found: &ArgMatches<'a>, name: &str) -> Option<&'a str>
+    ensures { option_map (λ arg. arg.now) result
         ≡ first_of name.now (rows_of (found_of found.now)) }
 {
     found.get_str(name)
 }
 
-/// The words that were found under this name.
-pub(crate) fn words_found<'m, 'a>(found: &'m ArgMatches<'a>, name: &str) -> Option<&'m [&'a str]>
-    ensures { option_map (λ words. map (λ word. word.now) words.now) result
+/// The arguments that were found under this name.
+pub(crate) fn values_found<'m, 'a>(found: &'m ArgMatches<'a>, name: &str) -> Option<&'m [&'a str]>
+    ensures { option_map (λ args. map (λ arg. arg.now) args.now) result
         ≡ all_of name.now (rows_of (found_of found.now)) }
 {
     found.get_strs(name)
@@ -33,19 +33,19 @@ pub(crate) fn words_found<'m, 'a>(found: &'m ArgMatches<'a>, name: &str) -> Opti
 pub(crate) fn flag_found(found: &ArgMatches<'_>, name: &str) -> bool
     ensures { result ≡ is_given (first_of name.now (rows_of (found_of found.now))) }
 {
-    match word_found(found, name) {
+    match value_found(found, name) {
         Some("true") => true,
         _ => false,
     }
 }
 
 /// The form that an answer is asked for in: JSON where its flag was found.
-pub(crate) fn form_found(found: &ArgMatches<'_>) -> ReportForm
+pub(crate) fn form_found(found: &ArgMatches<'_>) -> Format
     ensures { result ≡ form_of (first_of (codes "json") (rows_of (found_of found.now))) }
 {
     if flag_found(found, "json") {
-        ReportForm::Json
+        Format::Json
     } else {
-        ReportForm::Text
+        Format::Text
     }
 }

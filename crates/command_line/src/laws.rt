@@ -3,15 +3,15 @@
 
 ghost use Rattle.std.specs.Prelude.{◌≡◌, Some, None, [], ◌∷◌, codes, true, false};
 ghost use Rattle.command_line.specs.Requests.{asked, Check, Run, Race, Bounds, Decode};
-ghost use Rattle.command_line.specs.ExplainWords.{explain_asked};
-ghost use Rattle.command_line.specs.ExploreWords.{Authority, Find, Outcomes, explore_asked};
+ghost use Rattle.command_line.specs.ExplainRequests.{explain_asked};
+ghost use Rattle.command_line.specs.ExploreRequests.{Authority, Find, Outcomes, explore_asked};
 ghost use Rattle.command_line.specs.declared.explain.TheConstants.{LAST_EVENT};
 ghost use Rattle.command_line.specs.declared.explore.TheConstants.{GREATEST_STATES, USUAL_STATES};
 ghost use Rattle.command_line.specs.declared.requests.TheConstants.{GREATEST_TURNS};
 ghost use Rattle.command_line.specs.declared.sweeps.TheConstants.{MAX_SWEEPS};
 
-use crate::explain::{ExplainForm, Filter};
-use crate::found::ReportForm;
+use crate::explain::{ExplainFormat, Filter};
+use crate::found::Format;
 
 /// The numbers that the definitions take from the code, each by its numeral.
 pub fn limits()
@@ -28,13 +28,13 @@ pub fn known_command_lines()
         ≡ Some (Check (codes "first.lst")) }
     ensures run { asked (codes "cheri_sim" ∷ codes "run" ∷ codes "first.lst"
         ∷ codes "--order" ∷ codes "zeros.txt" ∷ [])
-        ≡ Some (Run (codes "first.lst") (codes "zeros.txt") ReportForm.Text) }
+        ≡ Some (Run (codes "first.lst") (codes "zeros.txt") Format.Text) }
     ensures order_first { asked (codes "cheri_sim" ∷ codes "run"
         ∷ codes "--order=zeros.txt" ∷ codes "first.lst" ∷ [])
-        ≡ Some (Run (codes "first.lst") (codes "zeros.txt") ReportForm.Text) }
+        ≡ Some (Run (codes "first.lst") (codes "zeros.txt") Format.Text) }
     ensures json { asked (codes "cheri_sim" ∷ codes "run" ∷ codes "--json"
         ∷ codes "--order=zeros.txt" ∷ codes "first.lst" ∷ [])
-        ≡ Some (Run (codes "first.lst") (codes "zeros.txt") ReportForm.Json) }
+        ≡ Some (Run (codes "first.lst") (codes "zeros.txt") Format.Json) }
     ensures json_twice { asked (codes "cheri_sim" ∷ codes "run" ∷ codes "--json"
         ∷ codes "--json" ∷ codes "--order=zeros.txt" ∷ codes "first.lst" ∷ [])
         ≡ None }
@@ -82,7 +82,7 @@ pub fn known_explain_lines()
           order = codes "zeros.txt";
           first = 0;
           last = 99999;
-          form = ExplainForm.Text Filter.All;
+          form = ExplainFormat.Text Filter.All;
         }) }
     ensures order_first { explain_asked (codes "cheri_explain" ∷ codes "--order=zeros.txt"
         ∷ codes "first.lst" ∷ [])
@@ -91,7 +91,7 @@ pub fn known_explain_lines()
           order = codes "zeros.txt";
           first = 0;
           last = 99999;
-          form = ExplainForm.Text Filter.All;
+          form = ExplainFormat.Text Filter.All;
         }) }
     ensures range { explain_asked (codes "cheri_explain" ∷ codes "first.lst" ∷ codes "--order"
         ∷ codes "zeros.txt" ∷ codes "--from" ∷ codes "007" ∷ codes "--to=99999" ∷ [])
@@ -100,7 +100,7 @@ pub fn known_explain_lines()
           order = codes "zeros.txt";
           first = 7;
           last = 99999;
-          form = ExplainForm.Text Filter.All;
+          form = ExplainFormat.Text Filter.All;
         }) }
     ensures one_event { explain_asked (codes "cheri_explain" ∷ codes "first.lst"
         ∷ codes "--order" ∷ codes "zeros.txt" ∷ codes "--to" ∷ codes "3" ∷ codes "--from"
@@ -110,7 +110,7 @@ pub fn known_explain_lines()
           order = codes "zeros.txt";
           first = 3;
           last = 3;
-          form = ExplainForm.Text Filter.All;
+          form = ExplainFormat.Text Filter.All;
         }) }
     ensures json { explain_asked (codes "cheri_explain" ∷ codes "first.lst" ∷ codes "--json"
         ∷ codes "--order" ∷ codes "zeros.txt" ∷ [])
@@ -119,7 +119,7 @@ pub fn known_explain_lines()
           order = codes "zeros.txt";
           first = 0;
           last = 99999;
-          form = ExplainForm.Json Filter.All;
+          form = ExplainFormat.Json Filter.All;
         }) }
     ensures traps { explain_asked (codes "cheri_explain" ∷ codes "first.lst" ∷ codes "--order"
         ∷ codes "zeros.txt" ∷ codes "--only" ∷ codes "traps" ∷ [])
@@ -128,7 +128,7 @@ pub fn known_explain_lines()
           order = codes "zeros.txt";
           first = 0;
           last = 99999;
-          form = ExplainForm.Text Filter.Traps;
+          form = ExplainFormat.Text Filter.Traps;
         }) }
     ensures clears { explain_asked (codes "cheri_explain" ∷ codes "first.lst" ∷ codes "--order"
         ∷ codes "zeros.txt" ∷ codes "--json" ∷ codes "--only=clears" ∷ [])
@@ -137,7 +137,7 @@ pub fn known_explain_lines()
           order = codes "zeros.txt";
           first = 0;
           last = 99999;
-          form = ExplainForm.Json Filter.Clears;
+          form = ExplainFormat.Json Filter.Clears;
         }) }
     ensures both { explain_asked (codes "cheri_explain" ∷ codes "first.lst" ∷ codes "--order"
         ∷ codes "zeros.txt" ∷ codes "--only" ∷ codes "clears,traps" ∷ [])
@@ -146,7 +146,7 @@ pub fn known_explain_lines()
           order = codes "zeros.txt";
           first = 0;
           last = 99999;
-          form = ExplainForm.Text Filter.TrapsOrClears;
+          form = ExplainFormat.Text Filter.TrapsOrClears;
         }) }
     ensures page { explain_asked (codes "cheri_explain" ∷ codes "first.lst" ∷ codes "--order"
         ∷ codes "zeros.txt" ∷ codes "--html" ∷ codes "--from" ∷ codes "1" ∷ [])
@@ -155,7 +155,7 @@ pub fn known_explain_lines()
           order = codes "zeros.txt";
           first = 1;
           last = 99999;
-          form = ExplainForm.Page;
+          form = ExplainFormat.Page;
         }) }
     ensures page_of_json { explain_asked (codes "cheri_explain" ∷ codes "first.lst"
         ∷ codes "--order" ∷ codes "zeros.txt" ∷ codes "--html" ∷ codes "--json" ∷ [])
@@ -212,7 +212,7 @@ pub fn known_explore_lines()
           listing = codes "first.lst";
           sweeps = [];
           states = 1000000;
-          form = ReportForm.Text;
+          form = Format.Text;
           question = Outcomes None;
         }) }
     ensures shown { explore_asked (codes "cheri_explore" ∷ codes "outcomes" ∷ codes "first.lst"
@@ -221,7 +221,7 @@ pub fn known_explore_lines()
           listing = codes "first.lst";
           sweeps = [];
           states = 1000000;
-          form = ReportForm.Text;
+          form = Format.Text;
           question = Outcomes (Some (codes "0.c7,mem8[0x10]"));
         }) }
     ensures shown_nothing { explore_asked (codes "cheri_explore" ∷ codes "outcomes"
@@ -230,7 +230,7 @@ pub fn known_explore_lines()
           listing = codes "first.lst";
           sweeps = [];
           states = 1000000;
-          form = ReportForm.Text;
+          form = Format.Text;
           question = Outcomes (Some []);
         }) }
     ensures find { explore_asked (codes "cheri_explore" ∷ codes "find" ∷ codes "first.lst"
@@ -239,7 +239,7 @@ pub fn known_explore_lines()
           listing = codes "first.lst";
           sweeps = [];
           states = 1000000;
-          form = ReportForm.Json;
+          form = Format.Json;
           question = Find (codes "0 is halted");
         }) }
     ensures authority { explore_asked (codes "cheri_explore" ∷ codes "authority"
@@ -248,7 +248,7 @@ pub fn known_explore_lines()
           listing = codes "first.lst";
           sweeps = [];
           states = 10;
-          form = ReportForm.Text;
+          form = Format.Text;
           question = Authority;
         }) }
     ensures swept { explore_asked (codes "cheri_explore" ∷ codes "authority" ∷ codes "first.lst"
@@ -258,7 +258,7 @@ pub fn known_explore_lines()
           sweeps = record { lo = 16; hi = 32 }
               ∷ record { lo = 0; hi = 18446744073709551616 } ∷ [];
           states = 1000000;
-          form = ReportForm.Text;
+          form = Format.Text;
           question = Authority;
         }) }
     ensures empty_sweep { explore_asked (codes "cheri_explore" ∷ codes "outcomes"
@@ -267,7 +267,7 @@ pub fn known_explore_lines()
           listing = codes "first.lst";
           sweeps = record { lo = 7; hi = 7 } ∷ [];
           states = 1000000;
-          form = ReportForm.Text;
+          form = Format.Text;
           question = Outcomes None;
         }) }
     ensures most_states { explore_asked (codes "cheri_explore" ∷ codes "outcomes"
@@ -276,7 +276,7 @@ pub fn known_explore_lines()
           listing = codes "first.lst";
           sweeps = [];
           states = 100000000;
-          form = ReportForm.Text;
+          form = Format.Text;
           question = Outcomes None;
         }) }
     ensures too_many_states { explore_asked (codes "cheri_explore" ∷ codes "outcomes"

@@ -1,4 +1,4 @@
-//! Numbers in the words of a command line.
+//! Numbers in the arguments of a command line.
 #![tactic(auto, unfolding(crate::specs::Numbers::number_in, crate::specs::Numbers::number_of))]
 
 ghost use Rattle.std.specs.Prelude.{
@@ -108,30 +108,25 @@ fn within(least: u32, greatest: u32, number: u128) -> Option<u32>
     }
 }
 
-/// The number in these bounds that a word writes, by decimal digits alone.
+/// The number in these bounds that an argument writes, by decimal digits alone.
 #[tactic(auto, using(crate::proofs::NumberLemmas::decimal_is, crate::proofs::NumberLemmas::no_decimal))]
-pub(crate) fn decimal_within(least: u32, greatest: u32, word: &str) -> Option<u32>
-    ensures value { result ≡ decimal_within least greatest word.now }
+pub(crate) fn decimal_within(least: u32, greatest: u32, arg: &str) -> Option<u32>
+    ensures value { result ≡ decimal_within least greatest arg.now }
     ensures least { IfSome result (λ number. least ≤ number) }
 {
-    let number = number_in(10, word.as_bytes())?;
+    let number = number_in(10, arg.as_bytes())?;
     within(least, greatest, number)
 }
 
 /// The number in these bounds that an option gives, or what holds where it isn't there.
-pub(crate) fn number_or(
-    otherwise: u32,
-    least: u32,
-    greatest: u32,
-    word: Option<&str>,
-) -> Option<u32>
+pub(crate) fn number_or(otherwise: u32, least: u32, greatest: u32, arg: Option<&str>) -> Option<u32>
     requires { least ≤ otherwise }
     ensures value { result
-        ≡ number_or otherwise least greatest (option_map (λ word. word.now) word.entry) }
+        ≡ number_or otherwise least greatest (option_map (λ arg. arg.now) arg.entry) }
     ensures least { IfSome result (λ number. least ≤ number) }
 {
-    match word {
-        Some(word) => decimal_within(least, greatest, word),
+    match arg {
+        Some(arg) => decimal_within(least, greatest, arg),
         None => Some(otherwise),
     }
 }

@@ -1,4 +1,4 @@
-//! What a command asks for, with the words that `clap` found.
+//! What a command asks for, with the arguments that `clap` found.
 #![tactic(auto, unfolding(crate::specs::Requests::asked_of))]
 
 ghost use Rattle.std.specs.Prelude.{◌≡◌, option_map, option_and_then, codes};
@@ -7,14 +7,14 @@ ghost use Rattle.command_line.specs.Found.{form_of, is_given};
 ghost use Rattle.command_line.specs.Requests.{asked_by, asked_of, with_one, with_two};
 ghost use Rattle.command_line.specs.Requests.{Check, Run, Bounds, Decode, race_asked};
 
-use crate::found::{ReportForm, flag_found, form_found, word_found};
+use crate::found::{Format, flag_found, form_found, value_found};
 use crate::numbers::decimal_within;
 use clap::ArgMatches;
 
 /// The greatest number of turns of a race.
 pub const GREATEST_TURNS: u32 = 100_000;
 
-/// What a command line asks for. The numbers of `bounds` and `decode` are still the words of the
+/// What a command line asks for. The numbers of `bounds` and `decode` are still the arguments of the
 /// command line.
 #[derive(Clone, Copy, Debug, PartialEq, Eq)]
 pub enum Request<'a> {
@@ -27,7 +27,7 @@ pub enum Request<'a> {
     Run {
         listing: &'a str,
         order: &'a str,
-        form: ReportForm,
+        form: Format,
     },
     /// To race the harts of the listing in the file of this name, each in up to this many turns,
     /// and to report it; and, where `watch` says so, to look on meanwhile.
@@ -47,24 +47,24 @@ pub enum Request<'a> {
     },
 }
 
-/// `check` with the word that was found.
+/// `check` with the argument that was found.
 fn check_request<'a>(found: &ArgMatches<'a>) -> Option<Request<'a>>
     ensures { let rows = rows_of (found_of found.now) in
         option_map asked_by result ≡ with_one Check (first_of (codes "listing") rows) }
 {
-    let listing = word_found(found, "listing")?;
+    let listing = value_found(found, "listing")?;
     Some(Request::Check { listing })
 }
 
-/// `run` with the words that were found.
+/// `run` with the arguments that were found.
 fn run_request<'a>(found: &ArgMatches<'a>) -> Option<Request<'a>>
     ensures { let rows = rows_of (found_of found.now) in
         option_map asked_by result
         ≡ with_two (λ listing order. Run listing order (form_of (first_of (codes "json") rows)))
         (first_of (codes "listing") rows) (first_of (codes "order") rows) }
 {
-    let listing = word_found(found, "listing")?;
-    let order = word_found(found, "order")?;
+    let listing = value_found(found, "listing")?;
+    let order = value_found(found, "order")?;
     let form = form_found(found);
     Some(Request::Run {
         listing,
@@ -73,16 +73,16 @@ fn run_request<'a>(found: &ArgMatches<'a>) -> Option<Request<'a>>
     })
 }
 
-/// `race` with the words that were found.
+/// `race` with the arguments that were found.
 fn race_request<'a>(found: &ArgMatches<'a>) -> Option<Request<'a>>
     ensures { let rows = rows_of (found_of found.now) in
         option_map asked_by result
         ≡ race_asked (first_of (codes "listing") rows) (first_of (codes "turns") rows)
         (is_given (first_of (codes "watch") rows)) }
 {
-    let listing = word_found(found, "listing")?;
-    let word = word_found(found, "turns")?;
-    let turns = decimal_within(1, GREATEST_TURNS, word)?;
+    let listing = value_found(found, "listing")?;
+    let arg = value_found(found, "turns")?;
+    let turns = decimal_within(1, GREATEST_TURNS, arg)?;
     let watch = flag_found(found, "watch");
     Some(Request::Race {
         listing,
@@ -91,27 +91,27 @@ fn race_request<'a>(found: &ArgMatches<'a>) -> Option<Request<'a>>
     })
 }
 
-/// `bounds` with the words that were found.
+/// `bounds` with the arguments that were found.
 fn bounds_request<'a>(found: &ArgMatches<'a>) -> Option<Request<'a>>
     ensures { let rows = rows_of (found_of found.now) in
         option_map asked_by result
         ≡ with_two Bounds (first_of (codes "base") rows) (first_of (codes "len") rows) }
 {
-    let base = word_found(found, "base")?;
-    let len = word_found(found, "len")?;
+    let base = value_found(found, "base")?;
+    let len = value_found(found, "len")?;
     Some(Request::Bounds { base, len })
 }
 
-/// `decode` with the word that was found.
+/// `decode` with the argument that was found.
 fn decode_request<'a>(found: &ArgMatches<'a>) -> Option<Request<'a>>
     ensures { let rows = rows_of (found_of found.now) in
         option_map asked_by result ≡ with_one Decode (first_of (codes "word") rows) }
 {
-    let word = word_found(found, "word")?;
+    let word = value_found(found, "word")?;
     Some(Request::Decode { word })
 }
 
-/// What a command asks for with the words that were found.
+/// What a command asks for with the arguments that were found.
 fn request_of<'a>(name: &str, found: &ArgMatches<'a>) -> Option<Request<'a>>
     ensures { option_map asked_by result ≡ asked_of name.now (rows_of (found_of found.now)) }
 {

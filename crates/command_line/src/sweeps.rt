@@ -3,7 +3,7 @@
 
 ghost use Rattle.std.specs.Prelude.{◌≡◌, ◌<◌, ◌≤◌, ◌==◌, ◌+◌, Err, IfOk, IfSome, None, Some, drop, length, map};
 ghost use Rattle.std.specs.List.{position};
-ghost use Rattle.command_line.specs.ExploreWords.{few_sweeps_of, sweep_of, sweep_within};
+ghost use Rattle.command_line.specs.ExploreRequests.{few_sweeps_of, sweep_of, sweep_within};
 
 use crate::faults::CommandFault;
 use crate::numbers::number_written;
@@ -31,7 +31,7 @@ fn sweep_within(lo: u128, hi: u128) -> Option<Sweep>
     }
 }
 
-/// Where the first comma of a word is.
+/// Where the first comma of an argument is.
 fn comma_at(bytes: &[u8]) -> Option<usize>
     ensures place { result ≡ position (λ b. b == 0x2C) bytes.now }
     ensures inside { IfSome result (λ place. place < length bytes.now) }
@@ -47,31 +47,31 @@ fn after(bytes: &[u8], place: usize) -> &[u8]
     &bytes[place + 1..]
 }
 
-/// The sweep that a word writes, `LO,HI`.
-fn sweep_written(word: &str) -> Option<Sweep>
-    ensures { result ≡ sweep_of word.now }
+/// The sweep that an argument writes, `LO,HI`.
+fn sweep_written(arg: &str) -> Option<Sweep>
+    ensures { result ≡ sweep_of arg.now }
 {
-    let bytes = word.as_bytes();
+    let bytes = arg.as_bytes();
     let comma = comma_at(bytes)?;
     let lo = number_written(&bytes[..comma])?;
     let hi = number_written(after(bytes, comma))?;
     sweep_within(lo, hi)
 }
 
-/// The sweeps that words write, at most eight.
-pub(crate) fn sweeps_written(alloc: Global, words: &[&str]) -> Result<Vec<Sweep>, CommandFault>
+/// The sweeps that arguments write, at most eight.
+pub(crate) fn sweeps_written(alloc: Global, args: &[&str]) -> Result<Vec<Sweep>, CommandFault>
     ensures sweeps { IfOk result (λ sweeps.
-        few_sweeps_of (map (λ word. word.now) words.now) ≡ Some sweeps.items) }
+        few_sweeps_of (map (λ arg. arg.now) args.now) ≡ Some sweeps.items) }
     ensures usage { result ≡ Err CommandFault.Usage
-        → few_sweeps_of (map (λ word. word.now) words.now) ≡ None }
+        → few_sweeps_of (map (λ arg. arg.now) args.now) ≡ None }
     ensures few { IfOk result (λ sweeps. length sweeps.items ≤ MAX_SWEEPS) }
 {
-    if words.len() > MAX_SWEEPS {
+    if args.len() > MAX_SWEEPS {
         return Err(CommandFault::Usage);
     }
     let mut sweeps = Vec::new(alloc);
-    for word in words {
-        let sweep = sweep_written(word).ok_or(CommandFault::Usage)?;
+    for arg in args {
+        let sweep = sweep_written(arg).ok_or(CommandFault::Usage)?;
         let Ok(()) = sweeps.push(sweep) else {
             return Err(CommandFault::NoMemory);
         };

@@ -1,5 +1,5 @@
-pub mod Open
-pub mod Names
+pub mod Unfold
+pub mod Rulesets
 pub mod HoldingLemmas
 pub mod PlaceLemmas
 pub mod ReadingLemmas

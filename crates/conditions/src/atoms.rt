@@ -1,5 +1,5 @@
 //! Atoms: what a condition says of a state, and the words that write them.
-#![tactic(auto, unfolding(crate::proofs::Open::atoms))]
+#![tactic(auto, unfolding(crate::proofs::Unfold::atoms))]
 
 ghost use Rattle.std.specs.Prelude.{◌≡◌};
 ghost use Rattle.conditions.specs.Atoms.{comparison_of, status_of, address_in_word, permissions_in};

@@ -1,5 +1,5 @@
 //! Conditions: one argument's grammar, and whether a condition holds in a state.
-#![tactic(auto, unfolding(crate::proofs::Open::conditions))]
+#![tactic(auto, unfolding(crate::proofs::Unfold::conditions))]
 
 ghost use Rattle.std.specs.Prelude.{◌≡◌, map};
 ghost use Rattle.conditions.specs.Conditions.{

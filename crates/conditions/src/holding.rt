@@ -1,5 +1,5 @@
 //! Whether atoms hold in a state.
-#![tactic(auto, unfolding(crate::proofs::Open::holding))]
+#![tactic(auto, unfolding(crate::proofs::Unfold::holding))]
 
 ghost use Rattle.std.specs.Prelude.{◌≡◌};
 ghost use Rattle.cheri_model.specs.runs.Machine.{hart_at};

@@ -1,5 +1,5 @@
 //! Items: what a list of outcomes shows of each.
-#![tactic(auto, unfolding(crate::proofs::Open::items))]
+#![tactic(auto, unfolding(crate::proofs::Unfold::items))]
 
 ghost use Rattle.std.specs.Prelude.{◌≡◌};
 ghost use Rattle.conditions.specs.Shown.{shown_of};

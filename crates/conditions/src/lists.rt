@@ -1,5 +1,5 @@
 //! Lists of items, as one option gives them.
-#![tactic(auto, unfolding(crate::proofs::Open::lists))]
+#![tactic(auto, unfolding(crate::proofs::Unfold::lists))]
 
 ghost use Rattle.std.specs.Prelude.{◌≡◌, map};
 ghost use Rattle.conditions.specs.Conditions.{GivesWords};

@@ -1,5 +1,5 @@
 //! Reading a condition word by word: what can stand next, and what a word there says.
-#![tactic(auto, unfolding(crate::proofs::Open::reading))]
+#![tactic(auto, unfolding(crate::proofs::Unfold::reading))]
 
 ghost use Rattle.std.specs.Prelude.{◌≡◌};
 ghost use Rattle.conditions.specs.Reading.{subject, verb, joint, step_of};

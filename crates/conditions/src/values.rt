@@ -1,5 +1,5 @@
 //! What places are in a state.
-#![tactic(auto, unfolding(crate::proofs::Open::values))]
+#![tactic(auto, unfolding(crate::proofs::Unfold::values))]
 
 ghost use Rattle.std.specs.Prelude.{◌≡◌, ◌<◌};
 ghost use Rattle.cheri_model.specs.steps.Memory.{

@@ -20,7 +20,7 @@ use Rattle.cheri_model.specs.runs.Image.{ImageParts, opening_hart, opening_memor
 use Rattle.cheri_model.specs.runs.Sweeps.{is_range, swept_hart, swept_memory, cleared_in_hart, cleared_in_memory}
 use Rattle.cheri_model.specs.runs.Machine.{MachineState, opening_state, is_running, hart_at, no_hart, may_take, entry_of, event_of, state_after_step, state_after_one, swept_state, cleared}
 use Rattle.cheri_model.specs.runs.Replay.{IsReplay, operations_of, state_after, replayed_state}
-use Rattle.cheri_model.specs.runs.ImageForm.{is_between, are_sizes, is_image}
+use Rattle.cheri_model.specs.runs.ImageRules.{is_between, are_sizes, is_image}
 use Rattle.cheri_model.specs.runs.Authority.{EachOfHart, IsLawfulState, IsConfined, IsMonotone}
 use Rattle.cheri_model.proofs.Runs.Replays.{IsReplay-opening, IsReplay_push, operations_of_push, operation-event_of}
 use Rattle.cheri_model.proofs.Runs.RunsConfined.{memory_lawful, run_lawful, replay_monotone}
@@ -135,7 +135,7 @@ pub core_confined : (core : CoreParts) → IsCore core → IsConfined core.image
 core_confined core is =
     subst (IsConfined core.image) (sym is.replay.state) (run_lawful core.image (operations_of core.trace) is.lawful).1
 
--- and is granted by what any beginning of its trace left
+-- and is granted by what any prefix of its trace left
 pub core_monotone : (core : CoreParts) → IsCore core → IsMonotone core.image core.trace core.state
 core_monotone core is = replay_monotone core.image core.trace core.state is.replay is.lawful
 

@@ -8,7 +8,7 @@ use Rattle.cheri_model.specs.declared.operation.Op.TheVariants as operation
 use Rattle.cheri_model.specs.declared.operation.Event.TheVariants as event
 use Rattle.cap_model.specs.values.CapValue.{CapValue}
 use Rattle.cheri_model.specs.steps.Hart.{HartState}
-use Rattle.cheri_model.specs.runs.ImageForm.{is_image}
+use Rattle.cheri_model.specs.runs.ImageRules.{is_image}
 use Rattle.cap_model.specs.results.Swept.{is_in_sweep}
 use Rattle.cheri_model.specs.runs.Sweeps.{cleared_in_memory}
 use Rattle.cheri_model.specs.runs.Machine.{event_of, state_after_one, swept_state, cleared}

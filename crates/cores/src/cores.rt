@@ -178,7 +178,7 @@ impl Core {
     /// What is shown of the machine now. This is the headline, for whoever looks: the registers,
     /// memory and tags shown are those of the replay of the shown trace from the stored image, the
     /// trace is the replay's events, and every tagged capability is granted by the initial ones,
-    /// and by those that any beginning of the trace left. Takes no memory.
+    /// and by those that any prefix of the trace left. Takes no memory.
     pub fn view(&self) -> View<'_>
         ensures image { result.image.now ≡ self.now.image }
         ensures entries { result.entries.now ≡ self.now.trace }

@@ -12,7 +12,7 @@ use orders::JudgedOrder;
 use std::alloc::Global;
 
 /// Boots the image and takes the operations of this order, until one is refused: then it answers
-/// the place of that operation, counted from 0, and the refusal. So it takes the longest beginning
+/// the place of that operation, counted from 0, and the refusal. So it takes the longest prefix
 /// of the order that is legal and no longer than the limit of the trace. Fails with `Limit` exactly
 /// where the limit is not from 1 to 100,000, and otherwise only when out of memory.
 pub fn run_order(

@@ -1,4 +1,4 @@
-pub mod Open
+pub mod Unfold
 pub mod StateLemmas
 pub mod PageLemmas
 pub mod LookLemmas

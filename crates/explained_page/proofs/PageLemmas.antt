@@ -4,7 +4,7 @@ use Rattle.std.specs.Io.KnownBytes.{Appends}
 use Rattle.std.proofs.KnownBytes.{Appends-trans}
 use Rattle.std.proofs.lemmas.List.{take_min}
 use Rattle.std.proofs.lemmas.List.{length-map}
-use Rattle.sinks.specs.Sinks.{TakesBeginning}
+use Rattle.sinks.specs.Sinks.{TakesPrefix}
 use Rattle.sinks.proofs.SinkLemmas.{begins_on, stops_on, puts_all}
 use Rattle.cheri_model.specs.declared.operation.Op.{Op}
 use Rattle.cheri_model.specs.declared.operation.Event.{Event}
@@ -23,12 +23,12 @@ pub then_whole : (old now new : Option (List ℕ)) (first second : List ℕ) →
     → Appends old new (first ++ second)
 then_whole old now new first second before after = Appends-trans old now new first second before after
 
-pub then_stops : (old now new : Option (List ℕ)) (first second : List ℕ) → Appends old now first → TakesBeginning now new second
-    → TakesBeginning old new (first ++ second)
+pub then_stops : (old now new : Option (List ℕ)) (first second : List ℕ) → Appends old now first → TakesPrefix now new second
+    → TakesPrefix old new (first ++ second)
 then_stops old now new first second before stop =
     stops_on old now new [] first second (puts_all old now [] first first refl refl before) stop
 
-pub stops_before : (old new : Option (List ℕ)) (first second : List ℕ) → TakesBeginning old new first → TakesBeginning old new (first ++ second)
+pub stops_before : (old new : Option (List ℕ)) (first second : List ℕ) → TakesPrefix old new first → TakesPrefix old new (first ++ second)
 stops_before old new first second stop = begins_on old new first second stop
 
 pub ruleset texts_follow = (then_whole, then_stops, stops_before)

@@ -9,7 +9,7 @@ use Rattle.cap_model.specs.values.CapValue.{CapValue}
 use Rattle.cheri_model.specs.declared.trace.Status.{Status}
 use Rattle.cheri_model.specs.declared.trace.Status.TheVariants as status
 use Rattle.cheri_model.specs.steps.Hart.{HartState, register}
-use Rattle.cheri_model.specs.runs.ImageForm.{is_listed}
+use Rattle.cheri_model.specs.runs.ImageRules.{is_listed}
 use Rattle.cheri_model.specs.runs.Machine.{MachineState}
 use Rattle.report_lines.specs.Names.{address_of_granule, register_name}
 use Rattle.report_lines.specs.ValueText.{hex_text}

@@ -66,7 +66,7 @@ core_look listing at first last core =
     compact_text (look_data core.image (instruction_lines_of listing) at (range first last)
     (operations_of core.trace))
 
--- of a run: its core took the longest good beginning of the order
+-- of a run: its core took the longest good prefix of the order
 abbrev pub look_of : List ℕ → ℕ → ℕ → ℕ → Run → List ℕ
 look_of listing at first last run = core_look listing at first last run.0
 

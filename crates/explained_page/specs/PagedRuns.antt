@@ -21,7 +21,7 @@ core_page listing first last core =
     page_of core.image listing (instruction_lines_of listing) (range first last)
     (operations_of core.trace)
 
--- of a run: its core took the longest good beginning of the order
+-- of a run: its core took the longest good prefix of the order
 abbrev pub paged : List ℕ → ℕ → ℕ → Run → List ℕ
 paged listing first last run = core_page listing first last run.0
 

@@ -4,7 +4,7 @@ use Rattle.serde_json.specs.Data.{Data, array, object, Members, no_members, memb
 use Rattle.serde_json.specs.View.{items_of}
 use Rattle.cap_model.specs.values.CapValue.{CapValue}
 use Rattle.cheri_model.specs.steps.Hart.{HartState, register}
-use Rattle.cheri_model.specs.runs.ImageForm.{is_listed}
+use Rattle.cheri_model.specs.runs.ImageRules.{is_listed}
 use Rattle.cheri_model.specs.runs.Machine.{MachineState}
 use Rattle.report_lines.specs.Names.{address_of_granule, register_name}
 use Rattle.report_lines.specs.ValueText.{hex_text}

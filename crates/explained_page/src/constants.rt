@@ -1,5 +1,5 @@
 //! The fixed parts of a page, by functions whose clauses hide their texts from what calls them.
-#![tactic(auto, unfolding(crate::proofs::Open::constants))]
+#![tactic(auto, unfolding(crate::proofs::Unfold::constants))]
 
 ghost use Rattle.std.specs.Prelude.{◌≡◌};
 ghost use Rattle.explained_page.specs.Page.{page_head, page_state, page_listing, page_end};

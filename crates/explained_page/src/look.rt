@@ -1,5 +1,5 @@
 //! One position of a run, as one JSON object.
-#![tactic(auto, using(crate::proofs::LookLemmas::next_no_float), unfolding(crate::proofs::Open::look))]
+#![tactic(auto, using(crate::proofs::LookLemmas::next_no_float), unfolding(crate::proofs::Unfold::look))]
 
 ghost use Rattle.std.specs.Prelude.{◌≡◌, ◌+◌, ◌≤◌, ◌++◌, OnOk, IfOk, IfErr, length, string_bytes};
 ghost use Rattle.std.specs.Prelude.{false};
@@ -9,7 +9,7 @@ ghost use Rattle.serde_json.specs.Written.{compact_text};
 ghost use Rattle.cheri_model.specs.runs.Replay.{operations_of};
 ghost use Rattle.cheri_model.specs.steps.Checks.{is_in_code};
 ghost use Rattle.listings.specs.Meaning.{listing_limit};
-ghost use Rattle.sinks.specs.Sinks.{TakesAllBut, TakesBeginning};
+ghost use Rattle.sinks.specs.Sinks.{TakesAllBut, TakesPrefix};
 ghost use Rattle.sinks.specs.WriteFaults.{failures_of};
 ghost use Rattle.simulation.specs.Simulation.{IsRefusedRun, IsRunAnd, run_of_texts};
 ghost use Rattle.simulation.specs.Simulation.{is_reported, failures_of_run};
@@ -126,14 +126,14 @@ fn put_selected<S: Sink>(
     lines: &[u32],
     selection: Selection,
 ) -> Result<(), WriteFault>
-    ensures whole { OnOk result (TakesAllBut (S.taken sink.old) (S.taken sink.new)
+    ensures whole { OnOk result (TakesAllBut (S.written sink.old) (S.written sink.new)
         (string_bytes out.new) (string_bytes out.old ++ events_from lines.now selection false 0
         (explained_events core.now.image (operations_of core.now.trace)))) }
-    ensures beginning { TakesBeginning (S.taken sink.old) (S.taken sink.new) (string_bytes out.old
+    ensures prefix { TakesPrefix (S.written sink.old) (S.written sink.new) (string_bytes out.old
         ++ events_from lines.now selection false 0
         (explained_events core.now.image (operations_of core.now.trace))) }
     ensures failures { S.failures sink.new ≡ S.failures sink.old + failures_of result }
-    ensures place { S.place sink.new ≡ S.place sink.old }
+    ensures identity { S.identity sink.new ≡ S.identity sink.old }
 {
     if selection.first > selection.last {
         out.push_str("]")?;
@@ -161,7 +161,7 @@ fn write_end(
 }
 
 /// Writes a position of what a core took; `lines` has the number of each instruction's line. After
-/// a fault the sink took a beginning of it.
+/// a fault the sink took a prefix of it.
 fn put_look<S: Sink>(
     alloc: Global,
     core: &Core,
@@ -170,14 +170,14 @@ fn put_look<S: Sink>(
     selection: Selection,
     sink: &mut S,
 ) -> Result<(), WriteFault>
-    ensures whole { OnOk result (Appends (S.taken sink.old) (S.taken sink.new)
+    ensures whole { OnOk result (Appends (S.written sink.old) (S.written sink.new)
         (compact_text (look_data core.now.image lines.now at selection
         (operations_of core.now.trace)))) }
-    ensures beginning { TakesBeginning (S.taken sink.old) (S.taken sink.new)
+    ensures prefix { TakesPrefix (S.written sink.old) (S.written sink.new)
         (compact_text (look_data core.now.image lines.now at selection
         (operations_of core.now.trace))) }
     ensures failures { S.failures sink.new ≡ S.failures sink.old + failures_of result }
-    ensures place { S.place sink.new ≡ S.place sink.old }
+    ensures identity { S.identity sink.new ≡ S.identity sink.old }
 {
     let view = core.view();
     let mut out = String::with_capacity(alloc, PIECE)?;
@@ -201,12 +201,12 @@ fn put_core_look<S: Sink>(
     sink: &mut S,
 ) -> Result<(), WriteFault>
     requires { length listing.now ≤ listing_limit }
-    ensures whole { OnOk result (Appends (S.taken sink.old) (S.taken sink.new)
+    ensures whole { OnOk result (Appends (S.written sink.old) (S.written sink.new)
         (core_look listing.now at first last core.now)) }
-    ensures beginning { TakesBeginning (S.taken sink.old) (S.taken sink.new)
+    ensures prefix { TakesPrefix (S.written sink.old) (S.written sink.new)
         (core_look listing.now at first last core.now) }
     ensures failures { S.failures sink.new ≡ S.failures sink.old + failures_of result }
-    ensures place { S.place sink.new ≡ S.place sink.old }
+    ensures identity { S.identity sink.new ≡ S.identity sink.old }
 {
     let lines = instruction_lines(alloc, listing)?;
     let selection = Selection {
@@ -224,7 +224,7 @@ fn put_core_look<S: Sink>(
 /// and `state`, the state there, with origins. Answers the operation that was refused, if one was,
 /// with its place in the order counted from 0; the run is of the operations before it. Nothing is
 /// written before both texts are good; the listing is judged first. After a fault of the writing
-/// the sink took a beginning of the object.
+/// the sink took a prefix of the object.
 pub fn write_look<S: Sink>(
     alloc: Global,
     listing: &[u8],
@@ -236,15 +236,15 @@ pub fn write_look<S: Sink>(
 ) -> Result<Option<(usize, StepFault)>, SimFault>
     ensures shown { IfOk result (λ end.
         IsRunAnd (run_of_texts listing.now order.now GREATEST_TRACE_LIMIT)
-        (λ run. (run.1 ≡ end) × Appends (S.taken out.old) (S.taken out.new)
+        (λ run. (run.1 ≡ end) × Appends (S.written out.old) (S.written out.new)
         (look_of listing.now at first last run))) }
     ensures refused { IfErr result (λ fault.
         IsRefusedRun (run_of_texts listing.now order.now GREATEST_TRACE_LIMIT)
-        (λ run. TakesBeginning (S.taken out.old) (S.taken out.new)
+        (λ run. TakesPrefix (S.written out.old) (S.written out.new)
         (look_of listing.now at first last run)) fault) }
     ensures untouched { IfErr result (λ fault. is_reported fault ≡ false → out.new ≡ out.old) }
     ensures failures { S.failures out.new ≡ S.failures out.old + failures_of_run result }
-    ensures place { S.place out.new ≡ S.place out.old }
+    ensures identity { S.identity out.new ≡ S.identity out.old }
 {
     let (core, refused) = run_texts(alloc, listing, order, GREATEST_TRACE_LIMIT)?;
     put_core_look(alloc, &core, listing, at, first, last, out)?;

@@ -1,10 +1,10 @@
 //! The page of what a core took.
-#![tactic(auto, using(crate::proofs::PageLemmas::texts_follow), unfolding(crate::proofs::Open::page))]
+#![tactic(auto, using(crate::proofs::PageLemmas::texts_follow), unfolding(crate::proofs::Unfold::page))]
 
 ghost use Rattle.std.specs.Prelude.{◌≡◌, ◌+◌, OnOk};
 ghost use Rattle.std.specs.Io.KnownBytes.{Appends};
 ghost use Rattle.cheri_model.specs.runs.Replay.{operations_of};
-ghost use Rattle.sinks.specs.Sinks.{TakesBeginning};
+ghost use Rattle.sinks.specs.Sinks.{TakesPrefix};
 ghost use Rattle.sinks.specs.WriteFaults.{failures_of};
 ghost use Rattle.explained_page.specs.Page.{
   explanation_part,
@@ -43,12 +43,12 @@ fn put_explanation<S: Sink>(
     selection: Selection,
     sink: &mut S,
 ) -> Result<(), WriteFault>
-    ensures whole { OnOk result (Appends (S.taken sink.old) (S.taken sink.new)
+    ensures whole { OnOk result (Appends (S.written sink.old) (S.written sink.new)
         (explanation_part core.now.image lines.now selection (operations_of core.now.trace))) }
-    ensures beginning { TakesBeginning (S.taken sink.old) (S.taken sink.new)
+    ensures prefix { TakesPrefix (S.written sink.old) (S.written sink.new)
         (explanation_part core.now.image lines.now selection (operations_of core.now.trace)) }
     ensures failures { S.failures sink.new ≡ S.failures sink.old + failures_of result }
-    ensures place { S.place sink.new ≡ S.place sink.old }
+    ensures identity { S.identity sink.new ≡ S.identity sink.old }
 {
     put_whole(sink, page_head().as_bytes())?;
     write_json(alloc, core, lines, selection, sink)?;
@@ -62,12 +62,12 @@ fn put_state<S: Sink>(
     first: u32,
     sink: &mut S,
 ) -> Result<(), WriteFault>
-    ensures whole { OnOk result (Appends (S.taken sink.old) (S.taken sink.new)
+    ensures whole { OnOk result (Appends (S.written sink.old) (S.written sink.new)
         (state_part core.now.image first (operations_of core.now.trace))) }
-    ensures beginning { TakesBeginning (S.taken sink.old) (S.taken sink.new)
+    ensures prefix { TakesPrefix (S.written sink.old) (S.written sink.new)
         (state_part core.now.image first (operations_of core.now.trace)) }
     ensures failures { S.failures sink.new ≡ S.failures sink.old + failures_of result }
-    ensures place { S.place sink.new ≡ S.place sink.old }
+    ensures identity { S.identity sink.new ≡ S.identity sink.old }
 {
     let follower = follow_to(alloc, core, first as usize)?;
     let mut out = String::new(alloc);
@@ -79,12 +79,12 @@ fn put_state<S: Sink>(
 
 /// Writes the page from there on.
 fn put_listing<S: Sink>(alloc: Global, listing: &[u8], sink: &mut S) -> Result<(), WriteFault>
-    ensures whole { OnOk result (Appends (S.taken sink.old) (S.taken sink.new)
+    ensures whole { OnOk result (Appends (S.written sink.old) (S.written sink.new)
         (listing_part listing.now)) }
-    ensures beginning { TakesBeginning (S.taken sink.old) (S.taken sink.new)
+    ensures prefix { TakesPrefix (S.written sink.old) (S.written sink.new)
         (listing_part listing.now) }
     ensures failures { S.failures sink.new ≡ S.failures sink.old + failures_of result }
-    ensures place { S.place sink.new ≡ S.place sink.old }
+    ensures identity { S.identity sink.new ≡ S.identity sink.old }
 {
     let mut out = Vec::new(alloc);
     out.extend_from_slice(page_listing().as_bytes())?;
@@ -95,7 +95,7 @@ fn put_listing<S: Sink>(alloc: Global, listing: &[u8], sink: &mut S) -> Result<(
 }
 
 /// Writes the page of what a core took; `lines` has the number of each instruction's line. After a
-/// fault the sink took a beginning of it.
+/// fault the sink took a prefix of it.
 pub(crate) fn put_page<S: Sink>(
     alloc: Global,
     core: &Core,
@@ -104,12 +104,12 @@ pub(crate) fn put_page<S: Sink>(
     selection: Selection,
     sink: &mut S,
 ) -> Result<(), WriteFault>
-    ensures whole { OnOk result (Appends (S.taken sink.old) (S.taken sink.new)
+    ensures whole { OnOk result (Appends (S.written sink.old) (S.written sink.new)
         (page_of core.now.image listing.now lines.now selection (operations_of core.now.trace))) }
-    ensures beginning { TakesBeginning (S.taken sink.old) (S.taken sink.new)
+    ensures prefix { TakesPrefix (S.written sink.old) (S.written sink.new)
         (page_of core.now.image listing.now lines.now selection (operations_of core.now.trace)) }
     ensures failures { S.failures sink.new ≡ S.failures sink.old + failures_of result }
-    ensures place { S.place sink.new ≡ S.place sink.old }
+    ensures identity { S.identity sink.new ≡ S.identity sink.old }
 {
     put_explanation(alloc, core, lines, selection, sink)?;
     put_state(alloc, core, selection.first, sink)?;

@@ -3,7 +3,7 @@
 ghost use Rattle.std.specs.Prelude.{◌≡◌, ◌+◌, ◌≤◌, IfOk, IfErr, OnOk, length, false};
 ghost use Rattle.std.specs.Io.KnownBytes.{Appends};
 ghost use Rattle.listings.specs.Meaning.{listing_limit};
-ghost use Rattle.sinks.specs.Sinks.{TakesBeginning};
+ghost use Rattle.sinks.specs.Sinks.{TakesPrefix};
 ghost use Rattle.sinks.specs.WriteFaults.{failures_of};
 ghost use Rattle.simulation.specs.Simulation.{IsRefusedRun, IsRunAnd, run_of_texts};
 ghost use Rattle.simulation.specs.Simulation.{is_reported, failures_of_run};
@@ -39,12 +39,12 @@ fn put_core_page<S: Sink>(
     sink: &mut S,
 ) -> Result<(), WriteFault>
     requires { length listing.now ≤ listing_limit }
-    ensures whole { OnOk result (Appends (S.taken sink.old) (S.taken sink.new)
+    ensures whole { OnOk result (Appends (S.written sink.old) (S.written sink.new)
         (core_page listing.now first last core.now)) }
-    ensures beginning { TakesBeginning (S.taken sink.old) (S.taken sink.new)
+    ensures prefix { TakesPrefix (S.written sink.old) (S.written sink.new)
         (core_page listing.now first last core.now) }
     ensures failures { S.failures sink.new ≡ S.failures sink.old + failures_of result }
-    ensures place { S.place sink.new ≡ S.place sink.old }
+    ensures identity { S.identity sink.new ≡ S.identity sink.old }
 {
     let lines = instruction_lines(alloc, listing)?;
     let selection = Selection {
@@ -59,7 +59,7 @@ fn put_core_page<S: Sink>(
 /// `first` to `last`: one file that needs no other. What is shown is of the operations before the
 /// one that was refused, if one was. Nothing is written before both texts are good, and nothing
 /// where the page would show more than 5,000 events. The listing is judged first. After a fault of
-/// the writing the sink took a beginning of the page.
+/// the writing the sink took a prefix of the page.
 pub fn write_page<S: Sink>(
     alloc: Global,
     listing: &[u8],
@@ -70,15 +70,15 @@ pub fn write_page<S: Sink>(
 ) -> Result<PageEnd, SimFault>
     ensures shown { IfOk result (λ end.
         IsRunAnd (run_of_texts listing.now order.now GREATEST_TRACE_LIMIT) (λ run.
-        IsPageEnd listing.now first last run (S.taken out.old) (S.taken out.new) end)) }
+        IsPageEnd listing.now first last run (S.written out.old) (S.written out.new) end)) }
     ensures refused { IfErr result (λ fault.
         IsRefusedRun (run_of_texts listing.now order.now GREATEST_TRACE_LIMIT)
         (λ run. (is_unpaged first last run ≡ false)
-        × TakesBeginning (S.taken out.old) (S.taken out.new)
+        × TakesPrefix (S.written out.old) (S.written out.new)
         (paged listing.now first last run)) fault) }
     ensures untouched { IfErr result (λ fault. is_reported fault ≡ false → out.new ≡ out.old) }
     ensures failures { S.failures out.new ≡ S.failures out.old + failures_of_run result }
-    ensures place { S.place out.new ≡ S.place out.old }
+    ensures identity { S.identity out.new ≡ S.identity out.old }
 {
     let (core, refused) = run_texts(alloc, listing, order, GREATEST_TRACE_LIMIT)?;
     if is_too_long(first, last, core.view().entries.len()) {

@@ -1,5 +1,5 @@
 //! A text as a JSON text that can stand in an element of a page.
-#![tactic(auto, unfolding(crate::proofs::Open::script))]
+#![tactic(auto, unfolding(crate::proofs::Unfold::script))]
 
 ghost use Rattle.std.specs.Prelude.{◌≡◌, ◌<◌, ◌/◌, ◌%◌, ◌++◌, ◌∷◌, [], OnOk};
 ghost use Rattle.std.specs.Char.{digit_char};

@@ -1,5 +1,5 @@
 //! The state of a machine that is followed, in JSON.
-#![tactic(auto, using(crate::proofs::StateLemmas::state_no_float), unfolding(crate::proofs::Open::state))]
+#![tactic(auto, using(crate::proofs::StateLemmas::state_no_float), unfolding(crate::proofs::Unfold::state))]
 
 ghost use Rattle.std.specs.Prelude.{◌≡◌, ◌<◌, ◌++◌, IfOk, OnOk, length, string_bytes};
 ghost use Rattle.serde_json.specs.Data.{no_members, object, array};

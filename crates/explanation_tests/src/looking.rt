@@ -73,7 +73,7 @@ fn no_position_is_written_of_refused_texts(rt: HostRuntime) -> Result<(), Fail> 
 }
 
 #[test]
-fn a_failed_put_leaves_a_beginning_of_a_position(rt: HostRuntime) -> Result<(), Fail> {
+fn a_failed_put_leaves_a_prefix_of_a_position(rt: HostRuntime) -> Result<(), Fail> {
     for fail_at in 1..6 {
         let mut sink = MemSink::new(rt.alloc(), fail_at, 97);
         let listing = MIXED.as_bytes();

@@ -11,7 +11,7 @@ use std::process::Abort;
 use std::test::Fail;
 
 /// Lets each put fail in turn on a sink that takes so many bytes at a time: what it took is a
-/// beginning of the text.
+/// prefix of the text.
 fn fail_at_each_put(rt: &impl Abort, alloc: Global, most: usize) -> Result<(), Fail> {
     let text = FIRST_TEXT.as_bytes();
     for fail_at in 1..5_000 {

@@ -6,7 +6,7 @@ use Rattle.serde_json.specs.Written.{comma_if, compact_text, items_text}
 use Rattle.cheri_model.specs.declared.operation.Op.{Op}
 use Rattle.cheri_model.specs.runs.Image.{ImageParts}
 use Rattle.report_lines.specs.EventData.{image_data}
-use Rattle.sinks.specs.Sinks.{TakesAllBut, TakesBeginning}
+use Rattle.sinks.specs.Sinks.{TakesAllBut, TakesPrefix}
 use Rattle.sinks.proofs.SinkLemmas.{takes_then, stops_then}
 use Rattle.explanations.specs.declared.selection.Selection.{Selection}
 use Rattle.explanations.specs.Explanation.{Explained, explained_events, is_shown, shown_from, event_data, events_data, explanation_data, explanation_json}
@@ -52,7 +52,7 @@ module _ (lines : List ℕ) (selection : Selection) (all : List Explained) (numb
   event_takes still put = takes_then before now after written _ _ still whole joined so_far put
 
   -- the same where the put failed
-  pub event_stops : TakesBeginning now after written → TakesBeginning before after whole
+  pub event_stops : TakesPrefix now after written → TakesPrefix before after whole
   event_stops stop = stops_then before now after written _ _ whole joined so_far stop
 
 -- no event is left but the bracket after them

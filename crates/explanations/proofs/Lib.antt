@@ -1,6 +1,6 @@
 pub mod FactLemmas
 pub mod JsonParts
-pub mod Open
+pub mod Unfold
 pub mod Parts
 pub mod PieceLemmas
 pub mod PlainTexts

@@ -16,6 +16,6 @@ explained_core Text listing selection core =
 explained_core Json listing selection core =
     explanation_json core.image (instruction_lines_of listing) selection (operations_of core.trace)
 
--- of a run: its core took the longest good beginning of the order
+-- of a run: its core took the longest good prefix of the order
 abbrev pub explained : Format → List ℕ → Selection → Run → List ℕ
 explained format listing selection run = explained_core format listing selection run.0

@@ -1,5 +1,5 @@
 //! Facts in JSON: the members of an event, with its facts.
-#![tactic(auto, unfolding(crate::proofs::Open::in_json))]
+#![tactic(auto, unfolding(crate::proofs::Unfold::in_json))]
 
 ghost use Rattle.std.specs.Prelude.{◌≡◌, ◌++◌, [], ◌∷◌, codes, map, drop, IfOk, OnOk, string_bytes};
 ghost use Rattle.serde_json.specs.Data.{Members, object, no_members, put as with_member};
@@ -29,7 +29,7 @@ use cheri_model::{Event, NoMemory};
 use facts::{Cleared, Extent, Fetched, NamedValue, StepFacts, Trapped, UpToTwo};
 use notation::InstructionText;
 use origins::{Place, Spot};
-use report_lines::{HexWord, event_json, granule_address, value_json};
+use report_lines::{Hex64, event_json, granule_address, value_json};
 use serde_json::{Map, Value, put};
 use std::alloc::Global;
 
@@ -160,7 +160,7 @@ fn put_extent(
 {
     if let Some(Extent { address, bytes }) = at {
         let mut extent = Map::new(alloc);
-        let address = HexWord(address).to_string(alloc)?;
+        let address = Hex64(address).to_string(alloc)?;
         put(&mut extent, alloc, "address", Value::String(address))?;
         put(&mut extent, alloc, "bytes", Value::from(bytes))?;
         put(members, alloc, "at", Value::Object(extent))?;

@@ -29,7 +29,7 @@ use cheri_model::{Event, NoMemory};
 use facts::{Cleared, Extent, Fetched, NamedValue, StepFacts, Trapped, UpToTwo};
 use itoa::Buffer;
 use origins::{Place, Spot};
-use report_lines::{CauseName, HexWord, write_event, write_value};
+use report_lines::{CauseName, Hex64, write_event, write_value};
 
 /// Appends the origin of a value, if it has one.
 fn write_from(out: &mut String, origin: &Option<Place>) -> Result<(), NoMemory>
@@ -124,7 +124,7 @@ fn write_at(out: &mut String, at: &Option<Extent>) -> Result<(), NoMemory>
     match at {
         Some(extent) => {
             out.push_str("  at ")?;
-            out.push_str(Buffer::new().format(HexWord(extent.address)))?;
+            out.push_str(Buffer::new().format(Hex64(extent.address)))?;
             out.push_str(" ")?;
             out.push_str(Buffer::new().format(extent.bytes))?;
             out.push_str("\n")

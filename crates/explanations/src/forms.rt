@@ -1,6 +1,6 @@
 //! The canonical text of an instruction, piece by piece: an explanation has one an event, and a
 //! formatter takes three times the time.
-#![tactic(auto, unfolding(crate::proofs::Open::forms))]
+#![tactic(auto, unfolding(crate::proofs::Unfold::forms))]
 
 ghost use Rattle.std.specs.Prelude.{◌≡◌, ◌++◌, OnOk, codes, decimal, string_bytes};
 ghost use Rattle.std.specs.Fmt.{signed_decimal};

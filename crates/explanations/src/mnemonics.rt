@@ -1,6 +1,6 @@
 //! The names of instructions by their forms. A table that is searched takes longer than the rest of
 //! an instruction's text.
-#![tactic(auto, unfolding(crate::proofs::Open::names))]
+#![tactic(auto, unfolding(crate::proofs::Unfold::names))]
 
 ghost use Rattle.std.specs.Prelude.{◌≡◌};
 ghost use Rattle.cheri_model.specs.instructions.Names.{name_of};

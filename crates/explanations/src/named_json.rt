@@ -1,6 +1,6 @@
 //! Values of facts as JSON text, piece by piece: an explanation has several an event, and a value of
 //! `serde_json` takes memory for each of its texts.
-#![tactic(auto, unfolding(crate::proofs::Open::values))]
+#![tactic(auto, unfolding(crate::proofs::Unfold::values))]
 
 ghost use Rattle.std.specs.Prelude.{◌≡◌, ◌++◌, IfOk, OnOk, Some, codes, string_bytes};
 ghost use Rattle.std.specs.Option.{option_map};
@@ -27,7 +27,7 @@ use cheri_model::NoMemory;
 use facts::NamedValue;
 use itoa::Buffer;
 use origins::{Place, Spot};
-use report_lines::{Hex, HexWord, granule_address, write_type, write_word};
+use report_lines::{Hex, Hex64, granule_address, write_type, write_word};
 use std::alloc::Global;
 use std::cmp::Ordering;
 
@@ -85,7 +85,7 @@ fn write_base(out: &mut String, value: Cap) -> Result<(), NoMemory>
 {
     let (base, _) = value.bounds();
     out.push_str("{\"base\":\"")?;
-    out.push_str(Buffer::new().format(HexWord(base)))?;
+    out.push_str(Buffer::new().format(Hex64(base)))?;
     out.push_str("\"")?;
     Ok(())
 }

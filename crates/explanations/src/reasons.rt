@@ -1,5 +1,5 @@
 //! Reasons in words: why a tag was lost, and why a step trapped.
-#![tactic(auto, unfolding(crate::proofs::Open::reasons))]
+#![tactic(auto, unfolding(crate::proofs::Unfold::reasons))]
 
 ghost use Rattle.std.specs.Prelude.{◌≡◌, ◌++◌, OnOk, Some, string_bytes};
 ghost use Rattle.explanations.specs.Reasons.{permission_set, lacks, untagged, sealed, outside_region};
@@ -11,7 +11,7 @@ use cheri_model::{NoMemory, OType, Perms};
 use facts::{TrapWhy, Why};
 use notation::write_permission_names;
 use origins::Spot;
-use report_lines::{Hex, HexWord, TypeText};
+use report_lines::{Hex, Hex64, TypeText};
 use std::fmt;
 
 /// That a register is untagged.
@@ -55,7 +55,7 @@ impl fmt::Display for OutsideRegion {
             power,
             start,
         } = *self;
-        let (address, start) = (HexWord(address), HexWord(start));
+        let (address, start) = (Hex64(address), Hex64(start));
         write!(
             f,
             "address {address} is outside the representable region of 2^{power} bytes at {start}"
@@ -76,7 +76,7 @@ impl fmt::Display for TypeOutside {
     ghost output = { λ asked. Some (type_outside asked.otype asked.base asked.top asked.authority) };
 
     fn fmt<W: fmt::Write>(&self, f: &mut fmt::Formatter<W>) -> fmt::Result {
-        let (otype, base) = (HexWord(self.otype), HexWord(self.base));
+        let (otype, base) = (Hex64(self.otype), Hex64(self.base));
         let (top, authority) = (Hex::of_top(self.top), SpotName(self.authority));
         write!(f, "type {otype} is not in {base} {top} of {authority}")
     }
@@ -96,7 +96,7 @@ impl fmt::Display for Outside {
     ghost output = { λ asked. Some (outside asked.bytes asked.address asked.base asked.top asked.name) };
 
     fn fmt<W: fmt::Write>(&self, f: &mut fmt::Formatter<W>) -> fmt::Result {
-        let (address, base) = (HexWord(self.address), HexWord(self.base));
+        let (address, base) = (Hex64(self.address), Hex64(self.base));
         let (top, name) = (Hex::of_top(self.top), SpotName(self.name));
         let bytes = self.bytes;
         write!(
@@ -146,7 +146,7 @@ fn write_base_above_top(out: &mut String, base: u64, top: u128) -> Result<(), No
     write!(
         out,
         "base {} is above top {}",
-        HexWord(base),
+        Hex64(base),
         Hex::of_top(top)
     )
 }
@@ -175,7 +175,7 @@ pub(crate) fn write_why(out: &mut String, why: Why) -> Result<(), NoMemory>
             )
         }
         Why::BaseBelow { base, limit } => {
-            write!(out, "base {} is below {}", HexWord(base), HexWord(limit))
+            write!(out, "base {} is below {}", Hex64(base), Hex64(limit))
         }
         Why::EndAbove { end, limit } => {
             write!(
@@ -186,7 +186,7 @@ pub(crate) fn write_why(out: &mut String, why: Why) -> Result<(), NoMemory>
             )
         }
         Why::Rounds { base, top } => {
-            write!(out, "rounds to {} {}", HexWord(base), Hex::of_top(top))
+            write!(out, "rounds to {} {}", Hex64(base), Hex::of_top(top))
         }
         Why::Lacks { name, permission } => write_lacks(out, name, permission),
         Why::Untagged { name } => write!(out, "{}", Untagged(name)),
@@ -207,7 +207,7 @@ pub(crate) fn write_why(out: &mut String, why: Why) -> Result<(), NoMemory>
                 }
             )
         }
-        Why::TypeAbove { otype } => write!(out, "type {} is above 262139", HexWord(otype)),
+        Why::TypeAbove { otype } => write!(out, "type {} is above 262139", Hex64(otype)),
         Why::NotSealed { name } => write!(out, "{} is not sealed", SpotName(name)),
         Why::Sentry { name } => write!(out, "{} is sealed as sentry", SpotName(name)),
         Why::TypeDiffers {
@@ -215,7 +215,7 @@ pub(crate) fn write_why(out: &mut String, why: Why) -> Result<(), NoMemory>
             authority,
             sealed,
         } => {
-            let (otype, authority) = (HexWord(otype), SpotName(authority));
+            let (otype, authority) = (Hex64(otype), SpotName(authority));
             write!(
                 out,
                 "type {otype} of {authority} is not {}",
@@ -238,7 +238,7 @@ pub(crate) fn write_why(out: &mut String, why: Why) -> Result<(), NoMemory>
             source,
         } => { write_more(out, name, permissions, source) }
         Why::NotAligned { alignment } => {
-            write!(out, "bounds are no multiples of {}", HexWord(alignment))
+            write!(out, "bounds are no multiples of {}", Hex64(alignment))
         }
         Why::DataStored => out.push_str("data over a capability"),
     }
@@ -284,13 +284,13 @@ pub(crate) fn write_trap_why(out: &mut String, why: TrapWhy) -> Result<(), NoMem
             )
         }
         TrapWhy::Misaligned { address, bytes } => {
-            write!(out, "{} is no multiple of {bytes}", HexWord(address))
+            write!(out, "{} is no multiple of {bytes}", Hex64(address))
         }
         TrapWhy::NotInRam { bytes, address } => {
-            write!(out, "{bytes} bytes at {} are not in RAM", HexWord(address))
+            write!(out, "{bytes} bytes at {} are not in RAM", Hex64(address))
         }
         TrapWhy::NoInstruction { address } => {
-            write!(out, "no instruction at {}", HexWord(address))
+            write!(out, "no instruction at {}", Hex64(address))
         }
         TrapWhy::TypesDiffer { code, data } => {
             write!(out, "types {} and {} differ", code.number(), data.number())

@@ -3,7 +3,7 @@
 ghost use Rattle.std.specs.Prelude.{◌≡◌, ◌+◌, ◌≤◌, IfOk, IfErr, OnOk, length, false};
 ghost use Rattle.std.specs.Io.KnownBytes.{Appends};
 ghost use Rattle.listings.specs.Meaning.{listing_limit};
-ghost use Rattle.sinks.specs.Sinks.{TakesBeginning};
+ghost use Rattle.sinks.specs.Sinks.{TakesPrefix};
 ghost use Rattle.sinks.specs.WriteFaults.{failures_of};
 ghost use Rattle.simulation.specs.Simulation.{IsRefusedRun, IsRunAnd, run_of_texts};
 ghost use Rattle.simulation.specs.Simulation.{is_reported, failures_of_run};
@@ -39,12 +39,12 @@ fn write_explained<S: Sink>(
     sink: &mut S,
 ) -> Result<(), WriteFault>
     requires { length listing.now ≤ listing_limit }
-    ensures whole { OnOk result (Appends (S.taken sink.old) (S.taken sink.new)
+    ensures whole { OnOk result (Appends (S.written sink.old) (S.written sink.new)
         (explained_core format listing.now selection core.now)) }
-    ensures beginning { TakesBeginning (S.taken sink.old) (S.taken sink.new)
+    ensures prefix { TakesPrefix (S.written sink.old) (S.written sink.new)
         (explained_core format listing.now selection core.now) }
     ensures failures { S.failures sink.new ≡ S.failures sink.old + failures_of result }
-    ensures place { S.place sink.new ≡ S.place sink.old }
+    ensures identity { S.identity sink.new ≡ S.identity sink.old }
 {
     let lines = instruction_lines(alloc, listing)?;
     match format {
@@ -57,7 +57,7 @@ fn write_explained<S: Sink>(
 /// read, found, left and set, why it trapped, and why a tag was lost. Answers the operation that
 /// was refused, if one was, with its place in the order counted from 0; what is said is of the
 /// operations before it. Nothing is written before both texts are good; the listing is judged
-/// first. After a fault of the writing the sink took a beginning of it.
+/// first. After a fault of the writing the sink took a prefix of it.
 pub fn explain<S: Sink>(
     alloc: Global,
     listing: &[u8],
@@ -68,15 +68,15 @@ pub fn explain<S: Sink>(
 ) -> Result<Option<(usize, StepFault)>, SimFault>
     ensures shown { IfOk result (λ end.
         IsRunAnd (run_of_texts listing.now order.now GREATEST_TRACE_LIMIT)
-        (λ run. (run.1 ≡ end) × Appends (S.taken out.old) (S.taken out.new)
+        (λ run. (run.1 ≡ end) × Appends (S.written out.old) (S.written out.new)
         (explained format listing.now selection run))) }
     ensures refused { IfErr result (λ fault.
         IsRefusedRun (run_of_texts listing.now order.now GREATEST_TRACE_LIMIT)
-        (λ run. TakesBeginning (S.taken out.old) (S.taken out.new)
+        (λ run. TakesPrefix (S.written out.old) (S.written out.new)
         (explained format listing.now selection run)) fault) }
     ensures untouched { IfErr result (λ fault. is_reported fault ≡ false → out.new ≡ out.old) }
     ensures failures { S.failures out.new ≡ S.failures out.old + failures_of_run result }
-    ensures place { S.place out.new ≡ S.place out.old }
+    ensures identity { S.identity out.new ≡ S.identity out.old }
 {
     let (core, refused) = run_texts(alloc, listing, order, GREATEST_TRACE_LIMIT)?;
     write_explained(alloc, &core, listing, selection, format, out)?;

@@ -25,7 +25,7 @@ use crate::reasons::write_why;
 use cheri_model::{NoMemory, Outcome};
 use facts::{Cleared, Extent, Fetched, NamedValue, StepFacts, UpToTwo};
 use itoa::Buffer;
-use report_lines::{HexWord, write_json_value};
+use report_lines::{Hex64, write_json_value};
 use std::alloc::Global;
 
 /// Appends where an access of memory was.
@@ -34,7 +34,7 @@ fn write_extent(out: &mut String, extent: &Extent) -> Result<(), NoMemory>
         ++ if_there (codes "\"at\":") (codes ",") (Some (extent_data extent.now))) }
 {
     out.push_str("\"at\":{\"address\":\"")?;
-    out.push_str(Buffer::new().format(HexWord(extent.address)))?;
+    out.push_str(Buffer::new().format(Hex64(extent.address)))?;
     out.push_str("\",\"bytes\":")?;
     out.push_str(Buffer::new().format(extent.bytes))?;
     out.push_str("},")?;
@@ -195,7 +195,7 @@ fn write_number(out: &mut String, number: usize, pc: u64) -> Result<(), NoMemory
     out.push_str(",\"number\":")?;
     out.push_str(Buffer::new().format(number))?;
     out.push_str(",\"outcome\":\"done\",\"pc\":\"")?;
-    out.push_str(Buffer::new().format(HexWord(pc)))?;
+    out.push_str(Buffer::new().format(Hex64(pc)))?;
     out.push_str("\"")?;
     Ok(())
 }

@@ -1,12 +1,12 @@
 //! The text of an explanation.
-#![tactic(auto, unfolding(crate::proofs::Open::shown))]
+#![tactic(auto, unfolding(crate::proofs::Unfold::shown))]
 
 ghost use Rattle.std.specs.Prelude.{◌≡◌, ◌+◌, ◌++◌, OnOk, None, string_bytes};
 ghost use Rattle.std.specs.Io.KnownBytes.{Appends};
 ghost use Rattle.cheri_model.specs.declared.operation.Op.TheVariants as operation;
 ghost use Rattle.cheri_model.specs.runs.Replay.{operation_of, operations_of};
 ghost use Rattle.cores.specs.Cores.{refused, core_after};
-ghost use Rattle.sinks.specs.Sinks.{TakesAllBut, TakesBeginning};
+ghost use Rattle.sinks.specs.Sinks.{TakesAllBut, TakesPrefix};
 ghost use Rattle.sinks.specs.WriteFaults.{failures_of};
 ghost use Rattle.report_lines.specs.Lines.{event_line};
 ghost use Rattle.facts.specs.EventFacts.{step, sweep};
@@ -181,13 +181,13 @@ fn put_events<S: Sink>(
     lines: &[u32],
     selection: Selection,
 ) -> Result<(), WriteFault>
-    ensures whole { OnOk result (TakesAllBut (S.taken sink.old) (S.taken sink.new)
+    ensures whole { OnOk result (TakesAllBut (S.written sink.old) (S.written sink.new)
         (string_bytes out.new) (string_bytes out.old
         ++ events_lines core.now.image lines.now selection (operations_of core.now.trace))) }
-    ensures beginning { TakesBeginning (S.taken sink.old) (S.taken sink.new) (string_bytes out.old
+    ensures prefix { TakesPrefix (S.written sink.old) (S.written sink.new) (string_bytes out.old
         ++ events_lines core.now.image lines.now selection (operations_of core.now.trace)) }
     ensures failures { S.failures sink.new ≡ S.failures sink.old + failures_of result }
-    ensures place { S.place sink.new ≡ S.place sink.old }
+    ensures identity { S.identity sink.new ≡ S.identity sink.old }
 {
     let view = core.view();
     let mut follower = follow(alloc, core)?;
@@ -218,7 +218,7 @@ fn write_head(out: &mut String, image: &Image, count: usize) -> Result<(), NoMem
     write_count_line(out, count)
 }
 
-/// Writes the explanation of what a core took. After a fault the sink took a beginning of it.
+/// Writes the explanation of what a core took. After a fault the sink took a prefix of it.
 pub(crate) fn write_text<S: Sink>(
     alloc: Global,
     core: &Core,
@@ -226,12 +226,12 @@ pub(crate) fn write_text<S: Sink>(
     selection: Selection,
     sink: &mut S,
 ) -> Result<(), WriteFault>
-    ensures whole { OnOk result (Appends (S.taken sink.old) (S.taken sink.new)
+    ensures whole { OnOk result (Appends (S.written sink.old) (S.written sink.new)
         (explanation core.now.image lines.now selection (operations_of core.now.trace))) }
-    ensures beginning { TakesBeginning (S.taken sink.old) (S.taken sink.new)
+    ensures prefix { TakesPrefix (S.written sink.old) (S.written sink.new)
         (explanation core.now.image lines.now selection (operations_of core.now.trace)) }
     ensures failures { S.failures sink.new ≡ S.failures sink.old + failures_of result }
-    ensures place { S.place sink.new ≡ S.place sink.old }
+    ensures identity { S.identity sink.new ≡ S.identity sink.old }
 {
     let view = core.view();
     let mut out = String::with_capacity(alloc, PIECE)?;

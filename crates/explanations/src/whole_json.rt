@@ -1,12 +1,12 @@
 //! An explanation in JSON, event by event.
-#![tactic(auto, using(crate::proofs::FactLemmas::floatless), unfolding(crate::proofs::Open::item))]
+#![tactic(auto, using(crate::proofs::FactLemmas::floatless), unfolding(crate::proofs::Unfold::item))]
 
 ghost use Rattle.std.specs.Prelude.{◌≡◌, ◌+◌, ◌||◌, ◌++◌, IfOk, OnOk, None, string_bytes, false};
 ghost use Rattle.std.specs.Io.KnownBytes.{Appends};
 ghost use Rattle.cheri_model.specs.declared.operation.Op.TheVariants as operation;
 ghost use Rattle.cheri_model.specs.runs.Replay.{operation_of, operations_of};
 ghost use Rattle.cores.specs.Cores.{refused, core_after};
-ghost use Rattle.sinks.specs.Sinks.{TakesAllBut, TakesBeginning};
+ghost use Rattle.sinks.specs.Sinks.{TakesAllBut, TakesPrefix};
 ghost use Rattle.sinks.specs.WriteFaults.{failures_of};
 ghost use Rattle.facts.specs.EventFacts.{step, sweep};
 ghost use Rattle.explanations.specs.Explanation.{
@@ -181,14 +181,14 @@ pub fn put_events<S: Sink>(
     lines: &[u32],
     selection: Selection,
 ) -> Result<(), WriteFault>
-    ensures whole { OnOk result (TakesAllBut (S.taken sink.old) (S.taken sink.new)
+    ensures whole { OnOk result (TakesAllBut (S.written sink.old) (S.written sink.new)
         (string_bytes out.new) (string_bytes out.old ++ events_from lines.now selection false 0
         (explained_events core.now.image (operations_of core.now.trace)))) }
-    ensures beginning { TakesBeginning (S.taken sink.old) (S.taken sink.new) (string_bytes out.old
+    ensures prefix { TakesPrefix (S.written sink.old) (S.written sink.new) (string_bytes out.old
         ++ events_from lines.now selection false 0
         (explained_events core.now.image (operations_of core.now.trace))) }
     ensures failures { S.failures sink.new ≡ S.failures sink.old + failures_of result }
-    ensures place { S.place sink.new ≡ S.place sink.old }
+    ensures identity { S.identity sink.new ≡ S.identity sink.old }
 {
     let view = core.view();
     let mut follower = follow(alloc, core)?;
@@ -231,7 +231,7 @@ fn write_end(alloc: Global, out: &mut String, image: &Image) -> Result<(), NoMem
 }
 
 /// Writes the explanation of what a core took, in JSON; `lines` has the number of each
-/// instruction's line. After a fault the sink took a beginning of it.
+/// instruction's line. After a fault the sink took a prefix of it.
 pub fn write_json<S: Sink>(
     alloc: Global,
     core: &Core,
@@ -239,12 +239,12 @@ pub fn write_json<S: Sink>(
     selection: Selection,
     sink: &mut S,
 ) -> Result<(), WriteFault>
-    ensures whole { OnOk result (Appends (S.taken sink.old) (S.taken sink.new)
+    ensures whole { OnOk result (Appends (S.written sink.old) (S.written sink.new)
         (explanation_json core.now.image lines.now selection (operations_of core.now.trace))) }
-    ensures beginning { TakesBeginning (S.taken sink.old) (S.taken sink.new)
+    ensures prefix { TakesPrefix (S.written sink.old) (S.written sink.new)
         (explanation_json core.now.image lines.now selection (operations_of core.now.trace)) }
     ensures failures { S.failures sink.new ≡ S.failures sink.old + failures_of result }
-    ensures place { S.place sink.new ≡ S.place sink.old }
+    ensures identity { S.identity sink.new ≡ S.identity sink.old }
 {
     let view = core.view();
     let mut out = String::with_capacity(alloc, PIECE)?;

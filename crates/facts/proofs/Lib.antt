@@ -1,5 +1,5 @@
 -- Lemmas of facts.
-pub mod Open
+pub mod Unfold
 pub mod Numbers
 pub mod Tables
 pub mod Placed

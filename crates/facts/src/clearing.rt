@@ -1,5 +1,5 @@
 //! Which instruction cleared which tag.
-#![tactic(auto, unfolding(crate::proofs::Open::clearing))]
+#![tactic(auto, unfolding(crate::proofs::Unfold::clearing))]
 
 ghost use Rattle.std.specs.Prelude.{◌≡◌, ◌==◌, ◌&&◌, ◌||◌, not};
 ghost use Rattle.std.specs.Option.{option_map};

@@ -1,5 +1,5 @@
 //! The second half of a step's facts: what is there after it.
-#![tactic(auto, using(crate::proofs::Tables::tables), unfolding(crate::proofs::Open::stepping))]
+#![tactic(auto, using(crate::proofs::Tables::tables), unfolding(crate::proofs::Unfold::stepping))]
 
 ghost use Rattle.std.specs.Prelude.{◌≡◌, ℕ, ◌+◌, ◌^◌, ◌<◌, List, length};
 ghost use Rattle.cap_model.specs.values.CapValue.{CapValue};

@@ -1,6 +1,6 @@
 //! Why a result has no tag: for each capability instruction the first line of its table of reasons
 //! that holds, with the numbers that it speaks of (CHERI ISA v9, the instructions' own pages).
-#![tactic(auto, using(crate::proofs::Numbers::numbers), unfolding(crate::proofs::Open::losses))]
+#![tactic(auto, using(crate::proofs::Numbers::numbers), unfolding(crate::proofs::Unfold::losses))]
 
 ghost use Rattle.std.specs.Prelude.{◌≡◌, ◌+◌, ◌%◌, ◌^◌, ◌<◌, ◌≤◌, None};
 ghost use Rattle.cap_model.specs.results.Addresses.{address_of};

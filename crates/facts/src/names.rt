@@ -1,5 +1,5 @@
 //! Which places an instruction reads and sets, and which bytes it accesses.
-#![tactic(auto, unfolding(crate::proofs::Open::names))]
+#![tactic(auto, unfolding(crate::proofs::Unfold::names))]
 
 ghost use Rattle.std.specs.Prelude.{◌≡◌, ℕ, ◌+◌, ◌^◌, ◌<◌};
 ghost use Rattle.cheri_model.specs.steps.Memory.{ram_base};

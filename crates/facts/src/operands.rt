@@ -1,5 +1,5 @@
 //! Instructions that make a capability from one that they read, with their operands.
-#![tactic(auto, unfolding(crate::proofs::Open::derivations))]
+#![tactic(auto, unfolding(crate::proofs::Unfold::derivations))]
 
 ghost use Rattle.std.specs.Prelude.{◌≡◌, ℕ, Some};
 ghost use Rattle.std.specs.Option.{option_map};
@@ -163,7 +163,7 @@ fn set_bounds_derived(cd: Reg, c1: Reg, len: u16, hart: &Hart) -> Option<Derived
 }
 
 /// What an instruction of this form makes a capability by, if it does.
-#[tactic(auto, unfolding(crate::proofs::Open::forms))]
+#[tactic(auto, unfolding(crate::proofs::Unfold::forms))]
 pub fn form_derived(form: Form, hart: &Hart) -> Option<Derived>
     ensures { option_map model_of result ≡ derivation_of (instr_of form) hart.now }
 {

@@ -1,5 +1,5 @@
 //! The facts of one step of a hart: what is read before it, and what is there after it.
-#![tactic(auto, using(crate::proofs::Tables::tables), unfolding(crate::proofs::Open::stepping))]
+#![tactic(auto, using(crate::proofs::Tables::tables), unfolding(crate::proofs::Unfold::stepping))]
 
 ghost use Rattle.std.specs.Prelude.{◌≡◌, length};
 ghost use Rattle.std.specs.Option.{option_map, ForSome};

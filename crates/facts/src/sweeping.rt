@@ -1,5 +1,5 @@
 //! The places whose tag a sweep clears.
-#![tactic(auto, unfolding(crate::proofs::Open::sweeping))]
+#![tactic(auto, unfolding(crate::proofs::Unfold::sweeping))]
 
 ghost use Rattle.std.specs.Prelude.{
   ◌≡◌,

@@ -1,5 +1,5 @@
 //! Why a step trapped, by the trap's cause.
-#![tactic(auto, unfolding(crate::proofs::Open::traps))]
+#![tactic(auto, unfolding(crate::proofs::Unfold::traps))]
 
 ghost use Rattle.std.specs.Prelude.{◌≡◌};
 ghost use Rattle.instructions.specs.Actions.{action_of};

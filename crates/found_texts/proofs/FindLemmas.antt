@@ -13,7 +13,7 @@ use Rattle.shown_states.specs.Endings.{IsWritten, IsUnwritten}
 use Rattle.shown_states.specs.declared.form.Ending.{Ending}
 use Rattle.shown_states.specs.declared.form.Ending.TheVariants.{Done}
 use Rattle.shown_states.specs.declared.form.Format.{Format}
-use Rattle.sinks.specs.Sinks.{TakesBeginning}
+use Rattle.sinks.specs.Sinks.{TakesPrefix}
 use Rattle.sinks.specs.declared.fault.WriteFault.{WriteFault}
 use Rattle.sinks.specs.declared.fault.WriteFault.TheVariants.{NoMemory}
 use Rattle.states.specs.Kept.{KeptParts, count, at, IsSearch, IsWitnessOrder, IsFirstPassing, IsWhole, AreAllKept}
@@ -26,7 +26,7 @@ ok_written IsSo (Ok done) old new text so taken = (text, so, taken)
 ok_written IsSo (Err fault) old new text so taken = tt
 
 pub err_begun : {T : Type 0} (IsSo : List ℕ → Type 0) (result : Result T WriteFault) (old new : Option (List ℕ)) (text : List ℕ)
-    → IsSo text → TakesBeginning old new text → IfErr result (IsUnwritten IsSo old new)
+    → IsSo text → TakesPrefix old new text → IfErr result (IsUnwritten IsSo old new)
 err_begun IsSo (Ok done) old new text so taken = tt
 err_begun IsSo (Err fault) old new text so taken = inr (text, so, taken)
 
@@ -113,7 +113,7 @@ none_said format kept complete image states ending old new complete_is image_is 
 
 pub none_begun : (format : Format) (kept : KeptParts) (complete : Bool) (image : ImageParts) (states : ℕ) (fault : WriteFault)
     (old new : Option (List ℕ)) → complete ≡ kept.complete → image ≡ kept.image → states ≡ count kept
-    → TakesBeginning old new (absent format complete image states)
+    → TakesPrefix old new (absent format complete image states)
     → IsUnwritten (λ text. (ending : Ending) × Says format kept None text ending) old new fault
 none_begun format kept complete image states fault old new complete_is image_is states_are begun = inr (
   absent format complete image states,

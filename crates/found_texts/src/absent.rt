@@ -6,7 +6,7 @@ ghost use Rattle.serde_json.specs.View.{view as data_of};
 ghost use Rattle.serde_json.specs.Written.{compact_text};
 ghost use Rattle.found_texts.specs.FoundTexts.{absent, absent_answer, absent_data, absent_joint, absent_line};
 ghost use Rattle.report_lines.specs.Texts.{line};
-ghost use Rattle.sinks.specs.Sinks.{TakesBeginning};
+ghost use Rattle.sinks.specs.Sinks.{TakesPrefix};
 ghost use Rattle.sinks.specs.WriteFaults.{failures_of};
 
 use cheri_model::{Image, NoMemory};
@@ -88,7 +88,7 @@ fn write_said(
 }
 
 /// Writes that no state is one that was looked for, of so many states: of all, or of those that
-/// were kept. After a fault the sink took a beginning of it.
+/// were kept. After a fault the sink took a prefix of it.
 pub fn write_absent<S: Sink>(
     alloc: Global,
     format: Format,
@@ -97,12 +97,12 @@ pub fn write_absent<S: Sink>(
     states: u32,
     sink: &mut S,
 ) -> Result<(), WriteFault>
-    ensures whole { OnOk result (Appends (S.taken sink.old) (S.taken sink.new)
+    ensures whole { OnOk result (Appends (S.written sink.old) (S.written sink.new)
         (absent format complete image.now states)) }
-    ensures beginning { TakesBeginning (S.taken sink.old) (S.taken sink.new)
+    ensures prefix { TakesPrefix (S.written sink.old) (S.written sink.new)
         (absent format complete image.now states) }
     ensures failures { S.failures sink.new ≡ S.failures sink.old + failures_of result }
-    ensures place { S.place sink.new ≡ S.place sink.old }
+    ensures identity { S.identity sink.new ≡ S.identity sink.old }
 {
     let mut out = String::new(alloc);
     write_said(alloc, format, &mut out, complete, image, states)?;

@@ -48,10 +48,10 @@ fn write_state<S: Sink>(
     requires opening { opening_state kept.now.image
         ≡ record { harts = harts.now; memory = ram.now } }
     ensures written { OnOk result (IsWritten (IsShown format kept.now number)
-        (S.taken sink.old) (S.taken sink.new)) }
+        (S.written sink.old) (S.written sink.new)) }
     ensures begun { IfErr result (IsUnwritten (IsShown format kept.now number)
-        (S.taken sink.old) (S.taken sink.new)) }
-    ensures place { S.place sink.new ≡ S.place sink.old }
+        (S.written sink.old) (S.written sink.new)) }
+    ensures identity { S.identity sink.new ≡ S.identity sink.old }
 {
     // Its clause says that the image is one.
     let _granules = kept.image().granules();
@@ -69,12 +69,12 @@ fn write_none<S: Sink>(
     sink: &mut S,
 ) -> Result<Ending, WriteFault>
     ensures written { IfOk result (λ ending. IsWritten (λ text. Says format kept.now None text ending)
-        (S.taken sink.old) (S.taken sink.new)) }
+        (S.written sink.old) (S.written sink.new)) }
     ensures begun { IfErr result (IsUnwritten
         (λ text. (ending : Ending) × Says format kept.now None text ending)
-        (S.taken sink.old) (S.taken sink.new)) }
+        (S.written sink.old) (S.written sink.new)) }
     ensures all { result ≡ Ok Ending.Nowhere → AreAllKept kept.now }
-    ensures place { S.place sink.new ≡ S.place sink.old }
+    ensures identity { S.identity sink.new ≡ S.identity sink.old }
 {
     let complete = kept.is_complete();
     write_absent(alloc, format, complete, kept.image(), kept.len(), sink)?;
@@ -99,13 +99,13 @@ fn write_answer<S: Sink>(
         ≡ record { harts = harts.now; memory = ram.now } }
     ensures written { IfOk result (λ ending. IsWritten
         (λ text. Says format found.now.kept found.now.state text ending)
-        (S.taken sink.old) (S.taken sink.new)) }
+        (S.written sink.old) (S.written sink.new)) }
     ensures begun { IfErr result (IsUnwritten
         (λ text. (ending : Ending) × Says format found.now.kept found.now.state text ending)
-        (S.taken sink.old) (S.taken sink.new)) }
+        (S.written sink.old) (S.written sink.new)) }
     ensures nowhere { result ≡ Ok Ending.Nowhere
         → (found.now.state ≡ None) × AreAllKept found.now.kept }
-    ensures place { S.place sink.new ≡ S.place sink.old }
+    ensures identity { S.identity sink.new ≡ S.identity sink.old }
 {
     match found.state {
         Some(number) => {
@@ -129,7 +129,7 @@ pub fn opened(alloc: Global, image: &Image) -> Result<Core, NoMemory>
 /// Searches the states that an image reaches, by steps of its harts and these sweeps, for the first
 /// one in which a condition holds, and writes it with its witness; or that none was found, of so
 /// many states. At most `limit` states are kept. Nothing is written before the search has ended.
-/// After a fault of the writing the sink took a beginning of the answer.
+/// After a fault of the writing the sink took a prefix of the answer.
 pub fn find<P: Progress, S: Sink>(
     alloc: Global,
     image: &Image,
@@ -144,13 +144,13 @@ pub fn find<P: Progress, S: Sink>(
     requires few { length sweeps.now ≤ MAX_SWEEPS }
     ensures written { IfOk result (λ ending. IsWritten
         (λ text. IsFindAnswer image.now condition.now sweeps.now limit format text ending)
-        (S.taken sink.old) (S.taken sink.new)) }
+        (S.written sink.old) (S.written sink.new)) }
     ensures begun { IfErr result (IsUnwritten (λ text. (ending : Ending)
         × IsFindAnswer image.now condition.now sweeps.now limit format text ending)
-        (S.taken sink.old) (S.taken sink.new)) }
+        (S.written sink.old) (S.written sink.new)) }
     ensures nowhere { result ≡ Ok Ending.Nowhere
         → IsNowhere image.now condition.now sweeps.now }
-    ensures place { S.place sink.new ≡ S.place sink.old }
+    ensures identity { S.identity sink.new ≡ S.identity sink.old }
 {
     let core = opened(alloc, image)?;
     let view = core.view();

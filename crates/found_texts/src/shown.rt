@@ -12,7 +12,7 @@ ghost use Rattle.found_texts.specs.FoundParts.{
   order_member,
 };
 ghost use Rattle.order_texts.specs.OrderTexts.{order_text};
-ghost use Rattle.sinks.specs.Sinks.{TakesAllBut, TakesBeginning};
+ghost use Rattle.sinks.specs.Sinks.{TakesAllBut, TakesPrefix};
 ghost use Rattle.sinks.specs.WriteFaults.{failures_of};
 
 use cheri_model::{Image, NoMemory, Op};
@@ -118,20 +118,20 @@ fn put_parts<S: Sink>(
     order: &[Op],
     state: &Loaded,
 ) -> Result<(), WriteFault>
-    ensures whole { OnOk result (TakesAllBut (S.taken sink.old) (S.taken sink.new)
+    ensures whole { OnOk result (TakesAllBut (S.written sink.old) (S.written sink.new)
         (string_bytes out.new)
         (string_bytes out.old ++ found_parts format image.now order.now state.now)) }
-    ensures beginning { TakesBeginning (S.taken sink.old) (S.taken sink.new)
+    ensures prefix { TakesPrefix (S.written sink.old) (S.written sink.new)
         (string_bytes out.old ++ found_parts format image.now order.now state.now) }
     ensures failures { S.failures sink.new ≡ S.failures sink.old + failures_of result }
-    ensures place { S.place sink.new ≡ S.place sink.old }
+    ensures identity { S.identity sink.new ≡ S.identity sink.old }
 {
     write_head(alloc, format, out, image, order)?;
     put_state(alloc, format, out, sink, state)
 }
 
 /// Writes the state that was found, and the order that leads to it. After a fault the sink took a
-/// beginning of it.
+/// prefix of it.
 pub fn write_found<S: Sink>(
     alloc: Global,
     format: Format,
@@ -140,12 +140,12 @@ pub fn write_found<S: Sink>(
     state: &Loaded,
     sink: &mut S,
 ) -> Result<(), WriteFault>
-    ensures whole { OnOk result (Appends (S.taken sink.old) (S.taken sink.new)
+    ensures whole { OnOk result (Appends (S.written sink.old) (S.written sink.new)
         (found format image.now order.now state.now)) }
-    ensures beginning { TakesBeginning (S.taken sink.old) (S.taken sink.new)
+    ensures prefix { TakesPrefix (S.written sink.old) (S.written sink.new)
         (found format image.now order.now state.now) }
     ensures failures { S.failures sink.new ≡ S.failures sink.old + failures_of result }
-    ensures place { S.place sink.new ≡ S.place sink.old }
+    ensures identity { S.identity sink.new ≡ S.identity sink.old }
 {
     let mut out = String::with_capacity(alloc, PIECE)?;
     put_parts(alloc, format, &mut out, sink, image, order, state)?;

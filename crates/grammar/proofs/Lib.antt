@@ -6,9 +6,9 @@ pub mod FirstToken
 pub mod LabelLemmas
 pub mod LawfulTypes
 pub mod LineLemmas
-pub mod Names
+pub mod Rulesets
 pub mod NumeralLemmas
-pub mod Open
+pub mod Unfold
 pub mod OperandLemmas
 pub mod PermissionTexts
 pub mod PlainTexts

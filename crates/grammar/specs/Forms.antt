@@ -23,7 +23,7 @@ use Rattle.grammar.specs.Faults.{◌>>=◌}
 use Rattle.grammar.specs.Tokens.{token_at}
 use Rattle.grammar.specs.Operands.{register_of, immediate_of, immediate_of_12_bits, immediate_up_to}
 use Rattle.grammar.specs.Operands.{memory_operand_of}
-use Rattle.grammar.specs.Labels.{PlaceParts, target_operand_of, target_of}
+use Rattle.grammar.specs.Labels.{LabelParts, target_operand_of, target_of}
 
 -- a line of just this many tokens
 unfoldable pub counted : ℕ → List (List ℕ) → Result (Unit {0}) ListingFaultKind
@@ -123,22 +123,22 @@ swap_form tokens = do
   Ok (form.Swap cd c2 c1)
 
 -- `c1, c2, target`
-unfoldable pub branch_form : PlaceParts → BranchOp → List (List ℕ) → Result Form ListingFaultKind
-branch_form places op tokens = do
+unfoldable pub branch_form : LabelParts → BranchOp → List (List ℕ) → Result Form ListingFaultKind
+branch_form labels op tokens = do
   count ← counted 4 tokens
   c1 ← register_of (token_at tokens 1)
   c2 ← register_of (token_at tokens 2)
-  operand ← target_operand_of places (token_at tokens 3)
-  target ← target_of places operand
+  operand ← target_operand_of labels (token_at tokens 3)
+  target ← target_of labels operand
   Ok (form.Branch op c1 c2 target)
 
 -- `cd, target`
-unfoldable pub jump_form : PlaceParts → List (List ℕ) → Result Form ListingFaultKind
-jump_form places tokens = do
+unfoldable pub jump_form : LabelParts → List (List ℕ) → Result Form ListingFaultKind
+jump_form labels tokens = do
   count ← counted 3 tokens
   cd ← register_of (token_at tokens 1)
-  operand ← target_operand_of places (token_at tokens 2)
-  target ← target_of places operand
+  operand ← target_operand_of labels (token_at tokens 2)
+  target ← target_of labels operand
   Ok (form.Jump cd target)
 
 -- `c1, c2`
@@ -156,18 +156,18 @@ alone_form tokens = do
   Ok form.Alone
 
 -- the operands of an instruction's line
-unfoldable pub form_from : PlaceParts → Mnemonic → List (List ℕ) → Result Form ListingFaultKind
-form_from places (mnemonic.Three op) tokens = three_form op tokens
-form_from places (mnemonic.Two op) tokens = two_form op tokens
-form_from places (mnemonic.Immediate op) tokens = immediate_form op tokens
-form_from places (mnemonic.Shift op) tokens = shift_form op tokens
-form_from places (mnemonic.WordShift op) tokens = word_shift_form op tokens
-form_from places mnemonic.SetBoundsImm tokens = set_bounds_form tokens
-form_from places (mnemonic.Upper op) tokens = upper_form op tokens
-form_from places (mnemonic.Load op) tokens = load_form op tokens
-form_from places (mnemonic.Store op) tokens = store_form op tokens
-form_from places mnemonic.Swap tokens = swap_form tokens
-form_from places (mnemonic.Branch op) tokens = branch_form places op tokens
-form_from places mnemonic.Jump tokens = jump_form places tokens
-form_from places mnemonic.Invoke tokens = invoke_form tokens
-form_from places mnemonic.Alone tokens = alone_form tokens
+unfoldable pub form_from : LabelParts → Mnemonic → List (List ℕ) → Result Form ListingFaultKind
+form_from labels (mnemonic.Three op) tokens = three_form op tokens
+form_from labels (mnemonic.Two op) tokens = two_form op tokens
+form_from labels (mnemonic.Immediate op) tokens = immediate_form op tokens
+form_from labels (mnemonic.Shift op) tokens = shift_form op tokens
+form_from labels (mnemonic.WordShift op) tokens = word_shift_form op tokens
+form_from labels mnemonic.SetBoundsImm tokens = set_bounds_form tokens
+form_from labels (mnemonic.Upper op) tokens = upper_form op tokens
+form_from labels (mnemonic.Load op) tokens = load_form op tokens
+form_from labels (mnemonic.Store op) tokens = store_form op tokens
+form_from labels mnemonic.Swap tokens = swap_form tokens
+form_from labels (mnemonic.Branch op) tokens = branch_form labels op tokens
+form_from labels mnemonic.Jump tokens = jump_form labels tokens
+form_from labels mnemonic.Invoke tokens = invoke_form tokens
+form_from labels mnemonic.Alone tokens = alone_form tokens

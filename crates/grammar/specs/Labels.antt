@@ -5,7 +5,7 @@ use Rattle.std.specs.Prelude.{Option, Some, None, option_map, Result, Ok, Err}
 use Rattle.std.specs.List.{list_all}
 use Rattle.grammar.specs.declared.fault.ListingFaultKind.{ListingFaultKind}
 use Rattle.grammar.specs.declared.fault.ListingFaultKind.TheVariants.{Operand, Label, Twice}
-use Rattle.grammar.specs.declared.labels.Place.{Place}
+use Rattle.grammar.specs.declared.labels.LabelLine.{LabelLine}
 use Rattle.grammar.specs.declared.labels.TargetOperand.{TargetOperand}
 use Rattle.grammar.specs.declared.labels.TargetOperand.TheVariants.{Number, Named}
 use Rattle.grammar.specs.Faults.{◌>>=◌}
@@ -42,7 +42,7 @@ label_name token = take (length token - 1) token
 unfoldable pub count_of : List ℕ → ℕ
 count_of token = if is_instruction token then 1 else 0
 
-unfoldable pub label_of : List ℕ → Place → List (List ℕ × Place)
+unfoldable pub label_of : List ℕ → LabelLine → List (List ℕ × LabelLine)
 label_of token place =
     if is_instruction token then []
     else if is_label_token token then (label_name token, place) ∷ []
@@ -50,7 +50,7 @@ label_of token place =
 
 -- The names that lines define, from a line and a count of instruction lines on: where each is, and
 -- how many instruction lines are before it.
-unfoldable pub labels_from : ℕ → ℕ → List (List ℕ) → List (List ℕ × Place)
+unfoldable pub labels_from : ℕ → ℕ → List (List ℕ) → List (List ℕ × LabelLine)
 labels_from number instructions [] = []
 labels_from number instructions (line ∷ lines) =
     let token = token_at (tokens_of line) 0 in
@@ -64,45 +64,45 @@ instruction_lines (line ∷ lines) = count_of (token_at (tokens_of line) 0) + in
 
 -- what jumps may name: for each name the place of the first line that defines it, and how many
 -- instruction lines there are
-pub record PlaceParts : Type 0 where
-  pub label : List ℕ → Option Place
+pub record LabelParts : Type 0 where
+  pub label : List ℕ → Option LabelLine
   pub instructions : ℕ
 
-abbrev pub label_in : List ℕ → List ℕ → Option Place
+abbrev pub label_in : List ℕ → List ℕ → Option LabelLine
 label_in text name = found_at (labels_from 1 0 (lines_of text)) name
 
-unfoldable pub places_of : List ℕ → PlaceParts
-places_of text =
+unfoldable pub labels_of : List ℕ → LabelParts
+labels_of text =
     record { label = λ name. label_in text name; instructions = instruction_lines (lines_of text) }
 
 abbrev pub begins_at_sign : List ℕ → Bool
 begins_at_sign token = nat_le 1 (length token) && (slice_index token 0 == 0x40)
 
 -- a target: `@` and decimal digits, or a label's name
-unfoldable pub target_operand_of : PlaceParts → List ℕ → Result TargetOperand ListingFaultKind
-target_operand_of places token =
+unfoldable pub target_operand_of : LabelParts → List ℕ → Result TargetOperand ListingFaultKind
+target_operand_of labels token =
     if begins_at_sign token then (do
       number ← number_of_digits 10 (drop 1 token)
       Ok (Number number))
     else if is_label_name token
-    then Ok (Named (option_map (λ place. place.instructions) (places.label token)))
+    then Ok (Named (option_map (λ place. place.instructions) (labels.label token)))
     else Err Operand
 
 -- The number of the instruction that a target names. The one after the last instruction line may be
 -- named.
-unfoldable pub target_of : PlaceParts → TargetOperand → Result ℕ ListingFaultKind
-target_of places (Number number) = at_most places.instructions number
-target_of places (Named (Some number)) = Ok number
-target_of places (Named None) = Err Label
+unfoldable pub target_of : LabelParts → TargetOperand → Result ℕ ListingFaultKind
+target_of labels (Number number) = at_most labels.instructions number
+target_of labels (Named (Some number)) = Ok number
+target_of labels (Named None) = Err Label
 
 -- whether a name's first line is before this one
-abbrev pub is_earlier : ℕ → Option Place → Bool
+abbrev pub is_earlier : ℕ → Option LabelLine → Bool
 is_earlier number (Some place) = nat_lt place.line number
 is_earlier number None = false
 
 -- a label's line of this number: its name is well formed, and no earlier line defines it
-unfoldable pub label_fault : PlaceParts → ℕ → List ℕ → Result (Unit {0}) ListingFaultKind
-label_fault places number name =
+unfoldable pub label_fault : LabelParts → ℕ → List ℕ → Result (Unit {0}) ListingFaultKind
+label_fault labels number name =
     if not (is_label_name name) then Err Label
-    else if is_earlier number (places.label name) then Err Twice
+    else if is_earlier number (labels.label name) then Err Twice
     else Ok tt

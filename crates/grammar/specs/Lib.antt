@@ -6,6 +6,6 @@ pub mod Permissions
 pub mod Operands
 pub mod Directives
 pub mod Labels
-pub mod Places
+pub mod LabelMap
 pub mod Forms
 pub mod Capability

@@ -1,5 +1,5 @@
 //! The capabilities of a listing.
-#![tactic(auto, using(crate::proofs::Names::count), unfolding(crate::proofs::Open::capabilities))]
+#![tactic(auto, using(crate::proofs::Rulesets::count), unfolding(crate::proofs::Unfold::capabilities))]
 
 ghost use Rattle.std.specs.Prelude.{◌≡◌, ◌<◌, ◌^◌};
 ghost use Rattle.grammar.specs.Tokens.{texts};

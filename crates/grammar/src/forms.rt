@@ -1,9 +1,9 @@
 //! The operands of instructions, by their form.
-#![tactic(auto, unfolding(crate::proofs::Open::forms))]
+#![tactic(auto, unfolding(crate::proofs::Unfold::forms))]
 
 ghost use Rattle.std.specs.Prelude.{◌≡◌};
 ghost use Rattle.grammar.specs.Tokens.{texts};
-ghost use Rattle.grammar.specs.Places.{shown};
+ghost use Rattle.grammar.specs.LabelMap.{label_parts};
 ghost use Rattle.grammar.specs.Forms.{
   counted,
   three_form,
@@ -24,7 +24,7 @@ ghost use Rattle.grammar.specs.Forms.{
 };
 
 use crate::fault::ListingFaultKind;
-use crate::labels::{Places, target_of, target_operand_of};
+use crate::labels::{Labels, target_of, target_operand_of};
 use crate::operands::{
     immediate_of, immediate_of_12_bits, immediate_up_to, memory_operand_of, register_of,
 };
@@ -36,7 +36,7 @@ use cheri_model::names::Mnemonic;
 use cheri_model::{MAX_IMMEDIATE_LENGTH, MAX_SHIFT, MAX_UPPER_IMMEDIATE, MAX_WORD_SHIFT};
 
 /// Refuses a line of more or fewer tokens with `Operand`.
-#[tactic(auto, using(crate::proofs::Names::count), unfolding(crate::specs::Forms::counted))]
+#[tactic(auto, using(crate::proofs::Rulesets::count), unfolding(crate::specs::Forms::counted))]
 pub fn counted(count: usize, tokens: &[&[u8]]) -> Result<(), ListingFaultKind>
     ensures { result ≡ counted count (texts tokens.now) }
 {
@@ -162,28 +162,28 @@ fn swap_form(tokens: &[&[u8]]) -> Result<Form, ListingFaultKind>
 
 /// `c1, c2, target`
 fn branch_form(
-    places: &Places<'_>,
+    labels: &Labels<'_>,
     op: BranchOp,
     tokens: &[&[u8]],
 ) -> Result<Form, ListingFaultKind>
-    ensures { result ≡ branch_form (shown places.now) op (texts tokens.now) }
+    ensures { result ≡ branch_form (label_parts labels.now) op (texts tokens.now) }
 {
     counted(4, tokens)?;
     let c1 = register_of(token_at(tokens, 1))?;
     let c2 = register_of(token_at(tokens, 2))?;
-    let operand = target_operand_of(places, token_at(tokens, 3))?;
-    let target = target_of(places, operand)?;
+    let operand = target_operand_of(labels, token_at(tokens, 3))?;
+    let target = target_of(labels, operand)?;
     Ok(Form::Branch(op, c1, c2, target))
 }
 
 /// `cd, target`
-fn jump_form(places: &Places<'_>, tokens: &[&[u8]]) -> Result<Form, ListingFaultKind>
-    ensures { result ≡ jump_form (shown places.now) (texts tokens.now) }
+fn jump_form(labels: &Labels<'_>, tokens: &[&[u8]]) -> Result<Form, ListingFaultKind>
+    ensures { result ≡ jump_form (label_parts labels.now) (texts tokens.now) }
 {
     counted(3, tokens)?;
     let cd = register_of(token_at(tokens, 1))?;
-    let operand = target_operand_of(places, token_at(tokens, 2))?;
-    let target = target_of(places, operand)?;
+    let operand = target_operand_of(labels, token_at(tokens, 2))?;
+    let target = target_of(labels, operand)?;
     Ok(Form::Jump(cd, target))
 }
 
@@ -208,11 +208,11 @@ fn alone_form(tokens: &[&[u8]]) -> Result<Form, ListingFaultKind>
 /// The operands of an instruction's line: their count and shapes, then their ranges, then labels.
 #[tactic(auto, unfolding(crate::specs::Forms::form_from))]
 pub fn form_from(
-    places: &Places<'_>,
+    labels: &Labels<'_>,
     mnemonic: Mnemonic,
     tokens: &[&[u8]],
 ) -> Result<Form, ListingFaultKind>
-    ensures { result ≡ form_from (shown places.now) mnemonic (texts tokens.now) }
+    ensures { result ≡ form_from (label_parts labels.now) mnemonic (texts tokens.now) }
 {
     match mnemonic {
         Mnemonic::Three(op) => three_form(op, tokens),
@@ -225,8 +225,8 @@ pub fn form_from(
         Mnemonic::Load(op) => load_form(op, tokens),
         Mnemonic::Store(op) => store_form(op, tokens),
         Mnemonic::Swap => swap_form(tokens),
-        Mnemonic::Branch(op) => branch_form(places, op, tokens),
-        Mnemonic::Jump => jump_form(places, tokens),
+        Mnemonic::Branch(op) => branch_form(labels, op, tokens),
+        Mnemonic::Jump => jump_form(labels, tokens),
         Mnemonic::Invoke => invoke_form(tokens),
         Mnemonic::Alone => alone_form(tokens),
     }

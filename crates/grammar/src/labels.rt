@@ -1,5 +1,5 @@
 //! The labels of a listing, and the targets of its jumps.
-#![tactic(auto, unfolding(crate::proofs::Open::labels))]
+#![tactic(auto, unfolding(crate::proofs::Unfold::labels))]
 
 ghost use Rattle.std.specs.Prelude.{
   ◌≡◌,
@@ -23,14 +23,14 @@ ghost use Rattle.grammar.specs.Labels.{
   label_name,
   label_of,
   count_of,
-  places_of,
+  labels_of,
   target_operand_of,
   target_of,
   label_fault,
 };
 ghost use Rattle.cheri_model.specs.instructions.Tables.{found_at};
 ghost use Rattle.grammar.specs.Tokens.{tokens_of, token_at};
-ghost use Rattle.grammar.specs.Places.{shown, named_in, first_place};
+ghost use Rattle.grammar.specs.LabelMap.{label_parts, named_in, first_line};
 
 use crate::fault::ListingFaultKind;
 use crate::numerals::{at_most, number_of_digits};
@@ -43,15 +43,15 @@ use std::collections::HashMap;
 /// Where a name is defined: the line's number, from 1 on, and how many instruction lines are before
 /// it.
 #[derive(Clone, Copy)]
-pub struct Place {
+pub struct LabelLine {
     pub line: usize,
     pub instructions: u32,
 }
 
 /// What the jumps of a listing may name.
 #[derive(Drop)]
-pub struct Places<'a> {
-    labels: HashMap<&'a [u8], Place>,
+pub struct Labels<'a> {
+    labels: HashMap<&'a [u8], LabelLine>,
     instructions: u32,
 }
 
@@ -102,12 +102,12 @@ pub fn label_name(token: &[u8]) -> &[u8]
 
 /// Defines a name, unless it is defined already.
 fn define<'a>(
-    labels: &mut HashMap<&'a [u8], Place>,
+    labels: &mut HashMap<&'a [u8], LabelLine>,
     name: &'a [u8],
-    place: Place,
-) -> Result<(), AllocFailed<(&'a [u8], Place)>>
+    place: LabelLine,
+) -> Result<(), AllocFailed<(&'a [u8], LabelLine)>>
     ensures { OnOk result ((q : List ℕ) → named_in labels.new q
-        ≡ first_place (named_in labels.old q)
+        ≡ first_line (named_in labels.old q)
         (if bytes_eq name.now q then Some place else None)) }
 {
     if labels.contains_key(name) {
@@ -119,13 +119,13 @@ fn define<'a>(
 
 /// Defines a line's name, if the line is a label's, and gives how many instructions it counts.
 fn add_line<'a>(
-    labels: &mut HashMap<&'a [u8], Place>,
+    labels: &mut HashMap<&'a [u8], LabelLine>,
     line: &'a [u8],
-    place: Place,
-) -> Result<u32, AllocFailed<(&'a [u8], Place)>>
+    place: LabelLine,
+) -> Result<u32, AllocFailed<(&'a [u8], LabelLine)>>
     ensures count { IfOk result (λ count. count ≡ count_of (token_at (tokens_of line.now) 0)) }
     ensures labels { OnOk result ((q : List ℕ) → named_in labels.new q
-        ≡ first_place (named_in labels.old q)
+        ≡ first_line (named_in labels.old q)
         (found_at (label_of (token_at (tokens_of line.now) 0) place) q)) }
 {
     let first = first_token(line);
@@ -141,38 +141,38 @@ fn add_line<'a>(
 }
 
 /// What the jumps of a listing may name: the first pass over its lines.
-pub fn places_of<'a>(alloc: Global, text: &'a [u8]) -> Result<Places<'a>, AllocError>
+pub fn labels_of<'a>(alloc: Global, text: &'a [u8]) -> Result<Labels<'a>, AllocError>
     requires { length text.now < 2 ^ 31 }
-    ensures { IfOk result (λ places. shown places ≡ places_of text.now) }
+    ensures { IfOk result (λ labels. label_parts labels ≡ labels_of text.now) }
 {
     let mut labels = HashMap::new(alloc);
     let mut number = 1;
     let mut instructions = 0;
     for line in text.split(|byte| *byte == b'\n') {
-        let place = Place {
+        let place = LabelLine {
             line: number,
             instructions,
         };
         instructions += add_line(&mut labels, line, place)?;
         number += 1;
     }
-    Ok(Places {
+    Ok(Labels {
         labels,
         instructions,
     })
 }
 
-impl Places<'_> {
+impl Labels<'_> {
     /// Where a name is first defined.
-    fn label(&self, name: &[u8]) -> Option<Place>
-        ensures { result ≡ (shown self.now).label name.now }
+    fn label(&self, name: &[u8]) -> Option<LabelLine>
+        ensures { result ≡ (label_parts self.now).label name.now }
     {
         self.labels.get(name).copied()
     }
 
     /// How many instruction lines there are.
     fn instructions(&self) -> u32
-        ensures { result ≡ (shown self.now).instructions }
+        ensures { result ≡ (label_parts self.now).instructions }
     {
         self.instructions
     }
@@ -180,15 +180,15 @@ impl Places<'_> {
 
 /// The target that a token writes: `@` and decimal digits, or a label's name. Fails with `Operand`.
 pub fn target_operand_of(
-    places: &Places<'_>,
+    labels: &Labels<'_>,
     token: &[u8],
 ) -> Result<TargetOperand, ListingFaultKind>
-    ensures { result ≡ target_operand_of (shown places.now) token.now }
+    ensures { result ≡ target_operand_of (label_parts labels.now) token.now }
 {
     match token {
         [b'@', digits @ ..] => Ok(TargetOperand::Number(number_of_digits(10, digits)?)),
         _ if is_label_name(token) => {
-            let place = places.label(token);
+            let place = labels.label(token);
             Ok(TargetOperand::Named(place.map(|place| place.instructions)))
         }
         _ => Err(ListingFaultKind::Operand),
@@ -197,12 +197,12 @@ pub fn target_operand_of(
 
 /// The instruction that a target names. The place after the last instruction line may be named.
 /// Fails with `Range` past it, and with `Label` where no line defines the name.
-pub fn target_of(places: &Places<'_>, operand: TargetOperand) -> Result<Target, ListingFaultKind>
-    ensures { result ≡ target_of (shown places.now) operand }
+pub fn target_of(labels: &Labels<'_>, operand: TargetOperand) -> Result<Target, ListingFaultKind>
+    ensures { result ≡ target_of (label_parts labels.now) operand }
 {
     match operand {
         TargetOperand::Number(number) => {
-            let number = at_most(u128::from(places.instructions()), number)?;
+            let number = at_most(u128::from(labels.instructions()), number)?;
             Ok(Target::new(number as u32))
         }
         TargetOperand::Named(Some(number)) => Ok(Target::new(number)),
@@ -212,13 +212,13 @@ pub fn target_of(places: &Places<'_>, operand: TargetOperand) -> Result<Target, 
 
 /// Refuses a name that is malformed with `Label`, and one that a line before this one defines with
 /// `Twice`.
-pub fn label_fault(places: &Places<'_>, number: usize, name: &[u8]) -> Result<(), ListingFaultKind>
-    ensures { result ≡ label_fault (shown places.now) number name.now }
+pub fn label_fault(labels: &Labels<'_>, number: usize, name: &[u8]) -> Result<(), ListingFaultKind>
+    ensures { result ≡ label_fault (label_parts labels.now) number name.now }
 {
     if !is_label_name(name) {
         return Err(ListingFaultKind::Label);
     }
-    match places.label(name) {
+    match labels.label(name) {
         Some(place) if place.line < number => Err(ListingFaultKind::Twice),
         _ => Ok(()),
     }

@@ -1,5 +1,5 @@
 //! The lines of a listing.
-#![tactic(auto, using(crate::proofs::Names::plain))]
+#![tactic(auto, using(crate::proofs::Rulesets::plain))]
 
 ghost use Rattle.std.specs.Prelude.{◌≡◌, ◌==◌, ◌&&◌, ◌||◌, fold, true};
 ghost use Rattle.std.specs.List.{list_all};

@@ -1,5 +1,5 @@
 //! The numbers of a listing.
-#![tactic(auto, using(crate::proofs::Names::digits), unfolding(crate::specs::Numerals::number_of))]
+#![tactic(auto, using(crate::proofs::Rulesets::digits), unfolding(crate::specs::Numerals::number_of))]
 
 ghost use Rattle.std.specs.Prelude.{◌≡◌, ◌<◌, ◌≤◌, ◌^◌, nat_lt, fold, true};
 ghost use Rattle.std.specs.List.{list_all};

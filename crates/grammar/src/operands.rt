@@ -1,5 +1,5 @@
 //! The operands of a listing's lines.
-#![tactic(auto, using(crate::proofs::Names::lawful), unfolding(crate::proofs::Open::operands))]
+#![tactic(auto, using(crate::proofs::Rulesets::lawful), unfolding(crate::proofs::Unfold::operands))]
 
 ghost use Rattle.std.specs.Prelude.{◌≡◌, ◌≢◌, ◌<◌, ◌≤◌, ◌^◌, ◌==◌, IfOk, position};
 ghost use Rattle.cap_model.specs.values.Capability.{IsLawfulType};
@@ -165,7 +165,7 @@ fn memory_operand_from(imm: Immediate, part: &[u8]) -> Result<MemoryOperand, Lis
 
 /// The memory operand that a token writes: an immediate and a register in brackets. Fails with
 /// `Operand`.
-#[tactic(auto, using(crate::proofs::Names::bracket), unfolding(crate::proofs::Open::memory))]
+#[tactic(auto, using(crate::proofs::Rulesets::bracket), unfolding(crate::proofs::Unfold::memory))]
 pub fn memory_operand_of(token: &[u8]) -> Result<MemoryOperand, ListingFaultKind>
     ensures { result ≡ memory_operand_of token.now }
 {

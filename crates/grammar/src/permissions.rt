@@ -15,7 +15,7 @@ use cheri_model::Perms;
 use std::str;
 
 /// The permission of this name.
-#[tactic(auto, using(crate::proofs::Names::no_name), unfolding(crate::proofs::Open::named))]
+#[tactic(auto, using(crate::proofs::Rulesets::no_name), unfolding(crate::proofs::Unfold::named))]
 fn permission_named(name: &[u8]) -> Option<Perms>
     ensures { option_map (λ perms. perms.0) result ≡ permission_named name.now }
 {
@@ -46,7 +46,7 @@ fn joined_permissions(token: &[u8]) -> Option<Perms>
 
 /// The permission set that a token writes: `all`, `none`, or names joined by `+`. Fails with
 /// `Operand`.
-#[tactic(auto, unfolding(crate::proofs::Open::permissions))]
+#[tactic(auto, unfolding(crate::proofs::Unfold::permissions))]
 pub fn permissions_of(token: &[u8]) -> Result<Perms, ListingFaultKind>
     ensures { result ≡ permissions_of token.now }
 {

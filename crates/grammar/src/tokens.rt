@@ -1,5 +1,5 @@
 //! The tokens of a listing's line.
-#![tactic(auto, using(crate::proofs::Names::token))]
+#![tactic(auto, using(crate::proofs::Rulesets::token))]
 
 ghost use Rattle.std.specs.Prelude.{◌≡◌, OnOk, not, position};
 ghost use Rattle.grammar.specs.Tokens.{
@@ -89,7 +89,7 @@ pub fn read_tokens<'a>(line: &'a [u8], tokens: &mut Vec<&'a [u8]>) -> Result<(),
 }
 
 /// The token at a place, and an empty one where there is none.
-#[tactic(auto, using(crate::proofs::Names::token), unfolding(crate::specs::Tokens::token_at))]
+#[tactic(auto, using(crate::proofs::Rulesets::token), unfolding(crate::specs::Tokens::token_at))]
 pub fn token_at<'a>(tokens: &[&'a [u8]], place: usize) -> &'a [u8]
     ensures { result.now ≡ token_at (texts tokens.now) place }
 {

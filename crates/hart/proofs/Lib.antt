@@ -1,3 +1,3 @@
-pub mod Open
+pub mod Unfold
 pub mod OpenedHarts
 pub mod SweptHarts

@@ -4,7 +4,7 @@ use Rattle.std.proofs.Math.ListN.{length-set}
 use Rattle.std.specs.Prelude.{All, ◌%◌, ◌==◌, ◌&&◌, true}
 use Rattle.std.proofs.lemmas.Bool.{and_parts}
 use Rattle.cheri_model.specs.runs.Image.{ImageParts}
-use Rattle.cheri_model.specs.runs.ImageForm.{is_image, are_sizes, is_between}
+use Rattle.cheri_model.specs.runs.ImageRules.{is_image, are_sizes, is_between}
 use Rattle.cap_model.specs.values.CapValue.{CapValue}
 use Rattle.cheri_model.specs.steps.Memory.{store_capability, is_ram_size}
 

@@ -1,5 +1,5 @@
 //! One hart: its registers, PCC and status.
-#![tactic(auto, unfolding(crate::proofs::Open::hart))]
+#![tactic(auto, unfolding(crate::proofs::Unfold::hart))]
 
 ghost use Rattle.std.specs.Prelude.{◌≡◌, ◌≤◌, ◌∷◌, All, count_by, map, true};
 ghost use Rattle.cheri_model.specs.runs.Authority.{EachOfHart};

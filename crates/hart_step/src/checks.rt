@@ -110,9 +110,8 @@ pub(crate) fn outside(cap: Cap, from: u64, bytes: u64, reg: u8) -> Line
     check(!cap.holds(from, bytes), Trap::LENGTH, reg)
 }
 
-/// What is left of an address over multiples of a count of bytes. By a constant power of two this
-/// is a mask, and all sizes of accesses are such; by a number that is only known in a run the
-/// processor would divide.
+/// `addr % bytes`, by a mask for the sizes of accesses: a remainder by a number that is only known
+/// in a run is a division.
 fn remainder(addr: u64, bytes: u64) -> u64
     requires { 0 < bytes }
     ensures { result ≡ addr % bytes }

@@ -1,5 +1,5 @@
 //! One step of one hart: the fetch, then what the instruction asks for.
-#![tactic(auto, unfolding(crate::proofs::Open::done))]
+#![tactic(auto, unfolding(crate::proofs::Unfold::done))]
 
 ghost use Rattle.std.specs.Prelude.{◌≡◌, true, if◌then◌else◌};
 ghost use Rattle.cheri_model.specs.steps.Actions.{
@@ -286,7 +286,7 @@ fn execute(action: Action, hart: &mut Hart, ram: &mut Ram) -> Outcome
 /// One step of a hart that runs: the first failing check of the fetch traps and changes nothing but
 /// the status, else the instruction at PCC acts. No step makes authority (CHERI ISA v9, "capability
 /// monotonicity"). Takes no memory.
-#[tactic(auto, unfolding(crate::proofs::Open::step))]
+#[tactic(auto, unfolding(crate::proofs::Unfold::step))]
 pub fn step(program: &[Instr], hart: &mut Hart, ram: &mut Ram) -> Outcome
     ensures value { hart_step program.now hart.old ram.old
         ≡ record { hart = hart.new; memory = ram.new; outcome = result } }

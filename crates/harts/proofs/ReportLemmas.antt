@@ -73,7 +73,7 @@ module _ {W : Type 0} (report : W → HartReport) (share : W → ShareParts) whe
     in_order = ap (map (λ (r : HartReport). r.hart)) made ∙ hart_by_report ws ∙ order
         ∙ ap (map (λ (s : ShareParts). s.hart)) start ∙ harts_in_order [] harts;
     exact = rw made (exact trace ws work (rw shares at counted));
-    turned = turned;
+    within_turns = turned;
   }
 
 same_reports : (reports : List HartReport) → reports ≡ map (λ (r : HartReport). r) reports

@@ -44,4 +44,4 @@ pub record AreReports (turns : ℕ) (trace : List Event) (harts : ℕ) (reports 
     : Type 0 where
   pub in_order : map (λ report. report.hart) reports ≡ range_with_len 0 harts
   pub exact : All (λ report. report.steps ≡ step_count trace report.hart) reports
-  pub turned : All (KeepsTurns turns) reports
+  pub within_turns : All (KeepsTurns turns) reports

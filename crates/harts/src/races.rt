@@ -171,7 +171,7 @@ fn race_all<J: Naming + Send + Sync, G: Gate + Sync, V: Viewer, R: Threads + Wai
         map (λ r. r.hart) all.0.items ≡ map (λ s. s.hart) shares.items) }
     ensures counted { IfOk result (λ all.
         all.1.items ≡ map (λ r. record { hart = r.hart; amount = r.steps }) all.0.items) }
-    ensures turned { IfOk result (λ all. All (KeepsTurns turns) all.0.items) }
+    ensures within_turns { IfOk result (λ all. All (KeepsTurns turns) all.0.items) }
 {
     let worked = work_all(work, alloc, turns, shares, onlooker)?;
     let reports = reports_of(alloc, worked.as_slice())?;
@@ -225,7 +225,7 @@ fn work_all<J: Naming + Send + Sync, G: Gate + Sync, V: Viewer, R: Threads + Wai
         map (λ w. w.report.hart) all.items ≡ map (λ s. s.hart) shares.items) }
     ensures counted { IfOk result (λ all. All
         (λ w. w.share ≡ record { hart = w.report.hart; amount = w.report.steps }) all.items) }
-    ensures turned { IfOk result (λ all. All (λ w. KeepsTurns turns w.report) all.items) }
+    ensures within_turns { IfOk result (λ all. All (λ w. KeepsTurns turns w.report) all.items) }
 {
     let done = Vec::with_capacity(alloc, shares.len())?;
     thread::scope(
@@ -240,7 +240,8 @@ fn work_all<J: Naming + Send + Sync, G: Gate + Sync, V: Viewer, R: Threads + Wai
             ensures counted { IfOk result (λ all. All
                 (λ w. w.share ≡ record { hart = w.report.hart; amount = w.report.steps })
                 all.items) }
-            ensures turned { IfOk result (λ all. All (λ w. KeepsTurns turns w.report) all.items) }
+            ensures within_turns { IfOk result (λ all.
+                All (λ w. KeepsTurns turns w.report) all.items) }
         { work_rest(scope, work, turns, shares, done, onlooker) },
     )
 }
@@ -262,7 +263,7 @@ fn work_rest<'s, E, J: Naming + Send + Sync, G: Gate + Sync, V: Viewer, R: Threa
         map (λ w. w.report.hart) all.items ≡ map (λ s. s.hart) shares.items) }
     ensures counted { IfOk result (λ all. All
         (λ w. w.share ≡ record { hart = w.report.hart; amount = w.report.steps }) all.items) }
-    ensures turned { IfOk result (λ all. All (λ w. KeepsTurns turns w.report) all.items) }
+    ensures within_turns { IfOk result (λ all. All (λ w. KeepsTurns turns w.report) all.items) }
 {
     let mut shares = shares;
     let Some(share) = shares.pop() else {
@@ -276,7 +277,7 @@ fn work_rest<'s, E, J: Naming + Send + Sync, G: Gate + Sync, V: Viewer, R: Threa
         ensures hart { result.report.hart ≡ share.hart }
         ensures share { result.share
             ≡ record { hart = share.hart; amount = result.report.steps } }
-        ensures turned { KeepsTurns turns result.report }
+        ensures within_turns { KeepsTurns turns result.report }
     { work_one(work, turns, share) };
     let worker = started(scope.spawn_with(promise, job))?;
     let mut all = work_rest(scope, work, turns, shares, done, onlooker)?;
@@ -307,7 +308,7 @@ fn work_one<J: Naming, G: Gate, R: Wait>(
     requires { share.amount ≡ 0 }
     ensures hart { result.report.hart ≡ share.hart }
     ensures share { result.share ≡ record { hart = share.hart; amount = result.report.steps } }
-    ensures turned { KeepsTurns turns result.report }
+    ensures within_turns { KeepsTurns turns result.report }
 {
     let (report, share) = hart_loop(work.rt, work.shared, turns, work.gate, share);
     Worked { report, share }

@@ -82,7 +82,7 @@ fn goes_on(outcome: Outcome) -> bool
 /// Why a loop ends at a step that is refused after so many steps. A hart that is stopped after
 /// steps of its own was stopped by the last of them: nobody else has its share.
 fn why_refused(steps: u32, fault: StepFault) -> Why
-    requires there { fault ≢ StepFault.NoSuchHart }
+    requires hart_exists { fault ≢ StepFault.NoSuchHart }
     requires steps { fault ≢ StepFault.BadRange }
     ensures { (turns : ℕ) → steps < turns → IsReason turns steps result }
 {
@@ -110,7 +110,7 @@ fn step_once<J: Naming, R: Wait>(
     ensures counted { OnOk result (share.new
         ≡ record { hart = share.old.hart; amount = share.old.amount + 1 }) }
     ensures kept { OnErr result (share.new ≡ share.old) }
-    ensures there { result ≢ Err StepFault.NoSuchHart }
+    ensures hart_exists { result ≢ Err StepFault.NoSuchHart }
     ensures steps { result ≢ Err StepFault.BadRange }
 {
     shared.lock(rt).step(rt, share)

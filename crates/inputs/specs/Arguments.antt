@@ -1,7 +1,7 @@
--- The words of a command line.
+-- The arguments of a command line.
 use Rattle.std.specs.Prelude.{ℕ, List, ◌∷◌, map, String, string_bytes}
 use Rattle.std.specs.Global.{Global}
 
--- the program's name, and the words after it
-abbrev pub command_words : List ℕ → List (String Global) → List (List ℕ)
-command_words name words = name ∷ map string_bytes words
+-- the program's name, and the arguments after it
+abbrev pub command_args : List ℕ → List (String Global) → List (List ℕ)
+command_args name args = name ∷ map string_bytes args

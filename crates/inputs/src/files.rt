@@ -38,7 +38,7 @@ pub struct SystemFiles<'a, R>(pub &'a R);
 
 /// The first bytes of a file, up to `most`. Room for all of them is taken at once, where the system
 /// tells how many there are.
-fn read_beginning<R: rt::Files + AllocGlobal>(rt: &R, name: &str, most: u64) -> io::Result<Vec<u8>>
+fn read_prefix<R: rt::Files + AllocGlobal>(rt: &R, name: &str, most: u64) -> io::Result<Vec<u8>>
     ensures { IfOk result (λ bytes. length bytes.items ≤ most) }
 {
     let file = fs::open(rt, name)?;
@@ -62,7 +62,7 @@ pub fn fault_of(kind: ErrorKind) -> FileFault
 
 impl<R: rt::Files + AllocGlobal> Files for SystemFiles<'_, R> {
     fn read(&mut self, name: &str, most: u64) -> Result<Vec<u8>, FileFault> {
-        match read_beginning(self.0, name, most) {
+        match read_prefix(self.0, name, most) {
             Ok(bytes) => Ok(bytes),
             Err(error) => Err(fault_of(error.kind())),
         }

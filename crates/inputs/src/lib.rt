@@ -7,7 +7,7 @@ mod files;
 mod laws;
 mod reading;
 
-pub use arguments::{command_words, words_given};
+pub use arguments::{args_given, command_args};
 pub use fault::InputFault;
 pub use files::{FileFault, Files, SystemFiles, fault_of};
 pub use reading::{Texts, read_image, read_listing_text, read_texts};

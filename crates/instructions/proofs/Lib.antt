@@ -1,1 +1,1 @@
-pub mod Open
+pub mod Unfold

@@ -90,7 +90,7 @@ pub enum Action {
 }
 
 /// What an instruction asks for, by its form.
-#[tactic(auto, unfolding(crate::proofs::Open::forms))]
+#[tactic(auto, unfolding(crate::proofs::Unfold::forms))]
 fn form_action(form: Form, hart: &Hart) -> Action
     ensures { action_of result ≡ action (instr_of form) hart.now }
 {

@@ -1,5 +1,5 @@
 //! The integer operations (RISC-V unprivileged ISA, "RV64I").
-#![tactic(auto, using(crate::proofs::Open::low), unfolding(crate::proofs::Open::integers))]
+#![tactic(auto, using(crate::proofs::Unfold::low), unfolding(crate::proofs::Unfold::integers))]
 
 ghost use Rattle.std.specs.Prelude.{◌≡◌, ◌%◌, ◌/◌, ◌*◌, ◌^◌, ◌<◌};
 ghost use Rattle.cheri_model.specs.instructions.Integers.{

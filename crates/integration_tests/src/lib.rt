@@ -7,9 +7,9 @@ mod common;
 #[cfg(test)]
 mod machines;
 #[cfg(test)]
-mod memory;
-#[cfg(test)]
 mod races;
+#[cfg(test)]
+mod refused_memory;
 #[cfg(test)]
 mod reporting;
 #[cfg(test)]

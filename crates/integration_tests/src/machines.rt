@@ -4,7 +4,7 @@
 ghost use Rattle.std.specs.Prelude.{◌≡◌};
 
 use crate::common::{TWO_HARTS, image_of, steps_of, watch_of};
-use crate::memory::{assert_may_refuse, first_image};
+use crate::refused_memory::{assert_may_refuse, first_image};
 use crate::watches::looked;
 use cheri_model::{Entry, Outcome};
 use machine::{

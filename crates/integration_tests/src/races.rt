@@ -4,7 +4,7 @@
 ghost use Rattle.std.specs.Prelude.{◌≡◌};
 
 use crate::common::{entry_at, image_of, operation_of, shows_the_same, steps_of};
-use crate::memory::assert_may_refuse;
+use crate::refused_memory::assert_may_refuse;
 use cheri_model::{Event, Image, Outcome, Reg, Status, Trap};
 use gates::{EndsAt, Meeting, Tally};
 use harts::{Gate, HartReport, RunFault, Shared, Why, hart_loop, run_harts};

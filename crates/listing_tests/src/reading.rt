@@ -1,11 +1,11 @@
 //! Listings that are read, and listings that are refused, as their format says.
 
-mod beginnings;
 mod capabilities;
 mod instructions;
 mod labels;
 mod memory;
 mod pairs;
+mod prefixes;
 mod registers;
 mod whole;
 

@@ -6,7 +6,7 @@ use Rattle.std.proofs.lemmas.List.{append-nil}
 use Rattle.std.proofs.lemmas.Bool.Decides.{nat_tests}
 use Rattle.cap_model.specs.values.CapValue.{CapValue, raw}
 use Rattle.cheri_model.specs.steps.Memory.{ram_base, is_in_ram, fits, store_data}
-use Rattle.cheri_model.specs.runs.ImageForm.{is_listed}
+use Rattle.cheri_model.specs.runs.ImageRules.{is_listed}
 use Rattle.grammar.proofs.PermissionTexts.{first, second}
 use Rattle.listings.specs.Draft.{stored_bytes}
 use Rattle.listings.specs.Meaning.{listed_from}

@@ -5,7 +5,7 @@ use Rattle.std.proofs.lemmas.Bool.Decides.{nat_tests}
 use Rattle.cap_model.specs.values.CapValue.{CapValue}
 use Rattle.cheri_model.specs.steps.Memory.{ram_base, IsMemory}
 use Rattle.cheri_model.specs.runs.Image.{ImageParts}
-use Rattle.cheri_model.specs.runs.ImageForm.{image_of, is_image, are_granules, is_granule, is_listed}
+use Rattle.cheri_model.specs.runs.ImageRules.{image_of, is_image, are_granules, is_granule, is_listed}
 use Rattle.cheri_model.specs.declared.instr.Instr.{Instr}
 use Rattle.cheri_model.specs.declared.image.HartImage.{HartImage}
 use Rattle.listings.specs.declared.fault.ListingFault.{ListingFault}

@@ -1,6 +1,6 @@
 pub mod GranuleLemmas
 pub mod ImageLemmas
 pub mod LineLemmas
-pub mod Names
-pub mod Open
+pub mod Rulesets
+pub mod Unfold
 pub mod ReaderLemmas

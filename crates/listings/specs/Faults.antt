@@ -21,8 +21,7 @@ GivesLine (Ok x) meaning = meaning ≡ Ok x
 GivesLine (Err line_faults.NoMemory) meaning = ⊤
 GivesLine (Err (line_faults.Kind kind)) meaning = meaning ≡ Err kind
 
--- a line was read by its meaning into what it fills: what that is then, or its kind of fault, or
--- out of memory
+-- the draft is what the line means, or the answer is its fault or out of memory
 abbrev pub FillsLine : {X : Type 0} → Result (Unit {0}) LineFault → X → Result X ListingFaultKind
     → Type 0
 FillsLine (Ok done) new meaning = meaning ≡ Ok new

@@ -6,7 +6,7 @@ use Rattle.cheri_model.specs.declared.memory.TheConstants.{GRANULE_BYTES}
 use Rattle.cap_model.specs.values.CapValue.{CapValue}
 use Rattle.cheri_model.specs.steps.Memory.{ram_base}
 use Rattle.cheri_model.specs.runs.Image.{ImageParts}
-use Rattle.cheri_model.specs.runs.ImageForm.{is_listed}
+use Rattle.cheri_model.specs.runs.ImageRules.{is_listed}
 use Rattle.listings.specs.declared.reader.TheConstants.{LISTING_LIMIT}
 use Rattle.listings.specs.declared.fault.ListingFault.{ListingFault}
 use Rattle.grammar.specs.declared.fault.ListingFaultKind.{ListingFaultKind}
@@ -14,7 +14,7 @@ use Rattle.grammar.specs.declared.fault.ListingFaultKind.TheVariants.{NotAscii, 
 use Rattle.grammar.specs.Faults.{◌>>=◌}
 use Rattle.grammar.specs.Lines.{lines_of, is_plain}
 use Rattle.grammar.specs.Tokens.{tokens_of}
-use Rattle.grammar.specs.Labels.{PlaceParts, places_of}
+use Rattle.grammar.specs.Labels.{LabelParts, labels_of}
 use Rattle.listings.specs.Statement.{tokens_meaning}
 use Rattle.listings.specs.Draft.{DraftParts, empty_draft}
 
@@ -24,10 +24,10 @@ whole_fault kind = record { line = 0; kind = kind }
 
 -- What a line of this number makes of what the lines before it made. Its comment says nothing, but
 -- may have no byte outside ASCII either.
-unfoldable pub line_meaning : PlaceParts → ℕ → DraftParts → List ℕ
+unfoldable pub line_meaning : LabelParts → ℕ → DraftParts → List ℕ
     → Result DraftParts ListingFaultKind
-line_meaning places number draft line =
-    if list_all is_plain line then tokens_meaning places number draft (tokens_of line)
+line_meaning labels number draft line =
+    if list_all is_plain line then tokens_meaning labels number draft (tokens_of line)
     else Err NotAscii
 
 -- a line's result, or its kind of fault at its number
@@ -36,12 +36,12 @@ at_line number (Ok x) = Ok x
 at_line number (Err kind) = Err (record { line = number; kind = kind })
 
 -- what lines make one after another, the first of this number, up to the first fault
-unfoldable pub lines_meaning : PlaceParts → ℕ → DraftParts → List (List ℕ)
+unfoldable pub lines_meaning : LabelParts → ℕ → DraftParts → List (List ℕ)
     → Result DraftParts ListingFault
-lines_meaning places number draft [] = Ok draft
-lines_meaning places number draft (line ∷ lines) = do
-  next ← at_line number (line_meaning places number draft line)
-  lines_meaning places (number + 1) next lines
+lines_meaning labels number draft [] = Ok draft
+lines_meaning labels number draft (line ∷ lines) = do
+  next ← at_line number (line_meaning labels number draft line)
+  lines_meaning labels (number + 1) next lines
 
 -- the granules that are tagged or not all 0, the first of them at this address
 unfoldable pub listed_from : ℕ → List CapValue → List (ℕ × CapValue)
@@ -72,5 +72,5 @@ unfoldable pub listing_meaning : List ℕ → Result ImageParts ListingFault
 listing_meaning text =
     if nat_lt listing_limit (length text) then Err (whole_fault Size)
     else (do
-      draft ← lines_meaning (places_of text) 1 empty_draft (lines_of text)
+      draft ← lines_meaning (labels_of text) 1 empty_draft (lines_of text)
       finished draft)

@@ -22,7 +22,7 @@ use Rattle.grammar.specs.Capability.{cap_operands_of, cap_tokens, cap_parts_of}
 use Rattle.grammar.specs.Directives.{directive_of}
 use Rattle.cheri_model.specs.instructions.Names.{mnemonic_of}
 use Rattle.grammar.specs.Forms.{counted, form_from}
-use Rattle.grammar.specs.Labels.{PlaceParts, is_label_token, label_name, label_fault}
+use Rattle.grammar.specs.Labels.{LabelParts, is_label_token, label_name, label_fault}
 use Rattle.listings.specs.Draft.{DraftParts, with_ram, with_hart, with_set, with_bytes}
 use Rattle.listings.specs.Draft.{with_capability, with_instruction}
 
@@ -112,37 +112,37 @@ directive_line draft directive.Bytes tokens = bytes_line draft tokens
 directive_line draft directive.Cap tokens = cap_line draft tokens
 
 -- an instruction and its operands
-unfoldable pub instruction_line : PlaceParts → DraftParts → Mnemonic → List (List ℕ)
+unfoldable pub instruction_line : LabelParts → DraftParts → Mnemonic → List (List ℕ)
     → Result DraftParts ListingFaultKind
-instruction_line places draft mnemonic tokens = do
-  form ← form_from places mnemonic tokens
+instruction_line labels draft mnemonic tokens = do
+  form ← form_from labels mnemonic tokens
   with_instruction draft (instr_of form)
 
 -- `name:`, alone on its line, which has this number
-unfoldable pub label_line : PlaceParts → ℕ → DraftParts → List (List ℕ)
+unfoldable pub label_line : LabelParts → ℕ → DraftParts → List (List ℕ)
     → Result DraftParts ListingFaultKind
-label_line places number draft tokens = do
+label_line labels number draft tokens = do
   count ← counted 1 tokens
-  fault ← label_fault places number (label_name (token_at tokens 0))
+  fault ← label_fault labels number (label_name (token_at tokens 0))
   Ok draft
 
 -- a line that begins with no directive
-unfoldable pub other_line : PlaceParts → ℕ → DraftParts → Option Mnemonic → List (List ℕ)
+unfoldable pub other_line : LabelParts → ℕ → DraftParts → Option Mnemonic → List (List ℕ)
     → Result DraftParts ListingFaultKind
-other_line places number draft (Some mnemonic) tokens =
-    instruction_line places draft mnemonic tokens
-other_line places number draft None tokens =
-    if is_label_token (token_at tokens 0) then label_line places number draft tokens else Err Word
+other_line labels number draft (Some mnemonic) tokens =
+    instruction_line labels draft mnemonic tokens
+other_line labels number draft None tokens =
+    if is_label_token (token_at tokens 0) then label_line labels number draft tokens else Err Word
 
-unfoldable pub line_from : PlaceParts → ℕ → DraftParts → Option Directive → List (List ℕ)
+unfoldable pub line_from : LabelParts → ℕ → DraftParts → Option Directive → List (List ℕ)
     → Result DraftParts ListingFaultKind
-line_from places number draft (Some directive) tokens = directive_line draft directive tokens
-line_from places number draft None tokens =
-    other_line places number draft (mnemonic_of (token_at tokens 0)) tokens
+line_from labels number draft (Some directive) tokens = directive_line draft directive tokens
+line_from labels number draft None tokens =
+    other_line labels number draft (mnemonic_of (token_at tokens 0)) tokens
 
 -- A line's tokens: a directive, an instruction or a label. A line without tokens changes nothing.
-unfoldable pub tokens_meaning : PlaceParts → ℕ → DraftParts → List (List ℕ)
+unfoldable pub tokens_meaning : LabelParts → ℕ → DraftParts → List (List ℕ)
     → Result DraftParts ListingFaultKind
-tokens_meaning places number draft tokens =
+tokens_meaning labels number draft tokens =
     if length tokens == 0 then Ok draft
-    else line_from places number draft (directive_of (token_at tokens 0)) tokens
+    else line_from labels number draft (directive_of (token_at tokens 0)) tokens

@@ -12,7 +12,7 @@ ghost use Rattle.std.specs.Prelude.{
   length,
 };
 ghost use Rattle.cheri_model.specs.steps.Memory.{ram_base, is_in_ram};
-ghost use Rattle.cheri_model.specs.runs.ImageForm.{is_listed};
+ghost use Rattle.cheri_model.specs.runs.ImageRules.{is_listed};
 ghost use Rattle.listings.specs.Draft.{stored_bytes};
 ghost use Rattle.listings.specs.Meaning.{listed_from};
 

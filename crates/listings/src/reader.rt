@@ -4,7 +4,7 @@ ghost use Rattle.std.specs.Prelude.{◌≡◌, ◌≤◌, ◌<◌, ◌^◌, leng
 ghost use Rattle.std.specs.List.{list_all};
 ghost use Rattle.listings.specs.Faults.{Gives, FillsLine};
 ghost use Rattle.grammar.specs.Lines.{lines_of, is_plain};
-ghost use Rattle.grammar.specs.Places.{shown};
+ghost use Rattle.grammar.specs.LabelMap.{label_parts};
 ghost use Rattle.listings.specs.Draft.{empty_draft};
 ghost use Rattle.listings.specs.Meaning.{line_meaning, lines_meaning, listing_meaning};
 
@@ -13,7 +13,7 @@ use crate::fault::{LineFault, ListingFault};
 use crate::statement::with_line;
 use cheri_model::Image;
 use grammar::fault::ListingFaultKind;
-use grammar::labels::{Places, places_of};
+use grammar::labels::{Labels, labels_of};
 use grammar::lines::{are_plain, is_plain};
 use grammar::tokens::read_tokens;
 use std::alloc::Global;
@@ -26,7 +26,7 @@ pub const LISTING_LIMIT: usize = 1_048_576;
 #[tactic(auto, unfolding(crate::specs::Meaning::line_meaning))]
 fn read_line<'a>(
     alloc: Global,
-    places: &Places<'_>,
+    labels: &Labels<'_>,
     number: usize,
     draft: &mut Draft,
     line: &'a [u8],
@@ -35,26 +35,26 @@ fn read_line<'a>(
 ) -> Result<(), LineFault>
     requires { plain ≡ true → list_all is_plain line.now ≡ true }
     ensures { FillsLine result draft.new
-        (line_meaning (shown places.now) number draft.old line.now) }
+        (line_meaning (label_parts labels.now) number draft.old line.now) }
 {
     if !plain && !is_plain(line) {
         return Err(LineFault::Kind(ListingFaultKind::NotAscii));
     }
     read_tokens(line, tokens)?;
-    with_line(alloc, places, number, draft, tokens.as_slice())
+    with_line(alloc, labels, number, draft, tokens.as_slice())
 }
 
 /// What lines make one after another, up to the first fault.
-fn read_lines(alloc: Global, places: &Places<'_>, text: &[u8]) -> Result<Draft, ListingFault>
+fn read_lines(alloc: Global, labels: &Labels<'_>, text: &[u8]) -> Result<Draft, ListingFault>
     requires { length text.now < 2 ^ 32 }
-    ensures { Gives result (lines_meaning (shown places.now) 1 empty_draft (lines_of text.now)) }
+    ensures { Gives result (lines_meaning (label_parts labels.now) 1 empty_draft (lines_of text.now)) }
 {
     let mut draft = Draft::new(alloc)?;
     let mut tokens = Vec::new(alloc);
     let plain = are_plain(text);
     let mut number = 1;
     for line in text.split(|byte| *byte == b'\n') {
-        match read_line(alloc, places, number, &mut draft, line, plain, &mut tokens) {
+        match read_line(alloc, labels, number, &mut draft, line, plain, &mut tokens) {
             Ok(()) => number += 1,
             Err(fault) => return Err(fault.at(number)),
         }
@@ -76,7 +76,7 @@ pub fn read_listing(alloc: Global, text: &[u8]) -> Result<Image, ListingFault>
             kind: ListingFaultKind::Size,
         });
     }
-    let places = places_of(alloc, text)?;
-    let draft = read_lines(alloc, &places, text)?;
+    let labels = labels_of(alloc, text)?;
+    let draft = read_lines(alloc, &labels, text)?;
     draft.finish(alloc)
 }

@@ -1,11 +1,11 @@
 //! What one line of a listing makes of what the lines before it made.
-#![tactic(auto, unfolding(crate::proofs::Open::lines))]
+#![tactic(auto, unfolding(crate::proofs::Unfold::lines))]
 
 ghost use Rattle.std.specs.Prelude.{◌≡◌};
 ghost use Rattle.grammar.specs.Tokens.{texts, token_at};
 ghost use Rattle.cheri_model.specs.instructions.Names.{mnemonic_of};
 ghost use Rattle.listings.specs.Faults.{FillsLine, GivesLine};
-ghost use Rattle.grammar.specs.Places.{shown};
+ghost use Rattle.grammar.specs.LabelMap.{label_parts};
 ghost use Rattle.listings.specs.Statement.{
   ram_line,
   hart_line,
@@ -33,7 +33,7 @@ use grammar::capability::{cap_operands_of, cap_parts_of, cap_tokens};
 use grammar::directives::{Directive, directive_of};
 use grammar::fault::ListingFaultKind;
 use grammar::forms::{counted, form_from};
-use grammar::labels::{Places, is_label_token, label_fault, label_name};
+use grammar::labels::{Labels, is_label_token, label_fault, label_name};
 use grammar::numerals::{at_most, number_of};
 use grammar::operands::{TypeOperand, register_of};
 use grammar::tokens::token_at;
@@ -168,69 +168,69 @@ fn directive_line(
 
 /// An instruction and its operands.
 fn instruction_line(
-    places: &Places<'_>,
+    labels: &Labels<'_>,
     draft: &mut Draft,
     mnemonic: Mnemonic,
     tokens: &[&[u8]],
 ) -> Result<(), LineFault>
     ensures { FillsLine result draft.new
-        (instruction_line (shown places.now) draft.old mnemonic (texts tokens.now)) }
+        (instruction_line (label_parts labels.now) draft.old mnemonic (texts tokens.now)) }
 {
-    let form = form_from(places, mnemonic, tokens)?;
+    let form = form_from(labels, mnemonic, tokens)?;
     draft.with_instruction(form.instr())
 }
 
 /// `name:`, alone on its line, which has this number.
 fn label_line(
-    places: &Places<'_>,
+    labels: &Labels<'_>,
     number: usize,
     draft: &mut Draft,
     tokens: &[&[u8]],
 ) -> Result<(), LineFault>
     ensures { FillsLine result draft.new
-        (label_line (shown places.now) number draft.old (texts tokens.now)) }
+        (label_line (label_parts labels.now) number draft.old (texts tokens.now)) }
 {
     counted(1, tokens)?;
-    label_fault(places, number, label_name(token_at(tokens, 0)))?;
+    label_fault(labels, number, label_name(token_at(tokens, 0)))?;
     Ok(())
 }
 
 /// A line that begins with no directive: an instruction's, or a label's.
 #[tactic(auto, unfolding(crate::specs::Statement::other_line))]
 fn other_line(
-    places: &Places<'_>,
+    labels: &Labels<'_>,
     number: usize,
     draft: &mut Draft,
     tokens: &[&[u8]],
 ) -> Result<(), LineFault>
-    ensures { FillsLine result draft.new (other_line (shown places.now) number draft.old
+    ensures { FillsLine result draft.new (other_line (label_parts labels.now) number draft.old
         (mnemonic_of (token_at (texts tokens.now) 0)) (texts tokens.now)) }
 {
     let first = token_at(tokens, 0);
     match mnemonic_of(first) {
-        Some(mnemonic) => instruction_line(places, draft, mnemonic, tokens),
-        None if is_label_token(first) => label_line(places, number, draft, tokens),
+        Some(mnemonic) => instruction_line(labels, draft, mnemonic, tokens),
+        None if is_label_token(first) => label_line(labels, number, draft, tokens),
         None => Err(LineFault::Kind(ListingFaultKind::Word)),
     }
 }
 
 /// What a line's tokens make of what the lines before it made. The line has this number.
-#[tactic(auto, using(crate::proofs::Names::count), unfolding(crate::proofs::Open::line))]
+#[tactic(auto, using(crate::proofs::Rulesets::count), unfolding(crate::proofs::Unfold::line))]
 pub fn with_line(
     alloc: Global,
-    places: &Places<'_>,
+    labels: &Labels<'_>,
     number: usize,
     draft: &mut Draft,
     tokens: &[&[u8]],
 ) -> Result<(), LineFault>
     ensures { FillsLine result draft.new
-        (tokens_meaning (shown places.now) number draft.old (texts tokens.now)) }
+        (tokens_meaning (label_parts labels.now) number draft.old (texts tokens.now)) }
 {
     if tokens.is_empty() {
         return Ok(());
     }
     match directive_of(token_at(tokens, 0)) {
         Some(directive) => directive_line(alloc, draft, directive, tokens),
-        None => other_line(places, number, draft, tokens),
+        None => other_line(labels, number, draft, tokens),
     }
 }

@@ -7,7 +7,7 @@ ghost use Rattle.number_lines.specs.Lines.{bounds_part, decode_line};
 use cap_bounds::{Fields, fields, set_bounds};
 use cap_ops::Cap;
 use cheri_model::NoMemory;
-use report_lines::{Hex, HexWord, TypeText};
+use report_lines::{Hex, Hex64, TypeText};
 use std::alloc::Global;
 use std::fmt;
 
@@ -34,7 +34,7 @@ pub fn bounds_text(alloc: Global, base: u64, len: u128) -> Result<String, NoMemo
     let (ie, e) = (rounded.ie, rounded.e);
     let t = Hex::new(u128::from(rounded.t), 3);
     let b = Hex::new(u128::from(rounded.b), 4);
-    let low = HexWord(rounded.base);
+    let low = Hex64(rounded.base);
     let top = Hex::of_top(rounded.top);
     let exact = YesOrNo(rounded.exact);
     let mut out = String::new(alloc);
@@ -62,8 +62,8 @@ fn write_bounds(out: &mut String, held: Cap) -> Result<(), NoMemory>
     ensures { OnOk result (string_bytes out.new ≡ string_bytes out.old ++ bounds_part held) }
 {
     let (base, top) = held.bounds();
-    let (base, top) = (HexWord(base), Hex::of_top(top));
-    let (addr, len) = (HexWord(held.addr()), HexWord(held.len()));
+    let (base, top) = (Hex64(base), Hex::of_top(top));
+    let (addr, len) = (Hex64(held.addr()), Hex64(held.len()));
     writeln!(out, " base={base} top={top} addr={addr} len={len}")?;
     Ok(())
 }

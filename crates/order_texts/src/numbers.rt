@@ -4,7 +4,7 @@ ghost use Rattle.std.specs.Prelude.{◌≡◌, ◌/◌, ◌%◌, ◌^◌, ◌<�
 ghost use Rattle.std.specs.Fmt.{DisplaysOnOk};
 ghost use Rattle.order_texts.specs.OrderTexts.{number_text};
 
-use report_lines::HexWord;
+use report_lines::Hex64;
 use std::fmt;
 
 /// The two words of a number, the upper one first.
@@ -31,6 +31,6 @@ impl fmt::Display for NumberText {
         if upper == 0 {
             return write!(f, "0x{lower:x}");
         }
-        write!(f, "0x{upper:x}{}", HexWord(lower))
+        write!(f, "0x{upper:x}{}", Hex64(lower))
     }
 }

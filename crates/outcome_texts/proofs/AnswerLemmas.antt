@@ -24,7 +24,7 @@ use Rattle.schedules.specs.declared.ranges.SweepRange.{SweepRange}
 use Rattle.shown_states.specs.Endings.{ending_of, IsWritten, IsUnwritten}
 use Rattle.shown_states.specs.declared.form.Ending.{Ending}
 use Rattle.shown_states.specs.declared.form.Format.{Format}
-use Rattle.sinks.specs.Sinks.{TakesBeginning}
+use Rattle.sinks.specs.Sinks.{TakesPrefix}
 use Rattle.sinks.specs.declared.fault.WriteFault.{WriteFault}
 use Rattle.state_loops.specs.Endless.{IsEndless, IsSame}
 use Rattle.state_loops.specs.declared.endless.Endless.{Endless}
@@ -62,13 +62,13 @@ searched_kept image sweeps limit kept endless numbers searched = record {
   all = searched.all;
 }
 
--- a text that is an answer was written, or a beginning of it
+-- a text that is an answer was written, or a prefix of it
 pub answer_written : (IsSo : List ℕ → Ending → Type 0) (text : List ℕ) (ending told : Ending) (old new : Option (List ℕ))
     → IsSo text told → ending ≡ told → Appends old new text → IsWritten (λ t. IsSo t ending) old new
 answer_written IsSo text ending told old new so is taken = (text, subst (IsSo text) (sym is) so, taken)
 
 pub answer_begun : (IsSo : List ℕ → Ending → Type 0) (text : List ℕ) (told : Ending) (fault : WriteFault) (old new : Option (List ℕ))
-    → IsSo text told → TakesBeginning old new text → IsUnwritten (λ t. (ending : Ending) × IsSo t ending) old new fault
+    → IsSo text told → TakesPrefix old new text → IsUnwritten (λ t. (ending : Ending) × IsSo t ending) old new fault
 answer_begun IsSo text told fault old new so begun = inr (text, (told, so), begun)
 
 -- outcomes are kept states, and so are the first ones of rows

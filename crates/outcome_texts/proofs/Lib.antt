@@ -1,4 +1,4 @@
-pub mod Open
+pub mod Unfold
 pub mod EndlessLemmas
 pub mod ToldLemmas
 pub mod PartLemmas

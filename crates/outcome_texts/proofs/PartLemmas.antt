@@ -5,7 +5,7 @@ use Rattle.outcome_texts.specs.OutcomeParts.{kept_part, outcome_part}
 use Rattle.outcome_texts.specs.Told.{kept_state}
 use Rattle.outcome_texts.specs.declared.told.Outcome.{Outcome}
 use Rattle.shown_states.specs.declared.form.Format.{Format}
-use Rattle.sinks.specs.Sinks.{TakesAllBut, TakesBeginning}
+use Rattle.sinks.specs.Sinks.{TakesAllBut, TakesPrefix}
 use Rattle.sinks.proofs.SinkLemmas.{takes_on_ok, stops_on, begins_on}
 use Rattle.states.specs.Kept.{KeptParts}
 
@@ -27,14 +27,14 @@ outcome_taken result first now last out kept before shown after whole left put s
 
 pub outcome_stops : (first now last : Option (List ℕ)) (out kept before shown after whole left put : List ℕ) → kept ≡ out ++ before
     → whole ≡ before ++ (shown ++ after) → TakesAllBut first now left (kept ++ shown) → put ≡ left ++ after
-    → TakesBeginning now last put → TakesBeginning first last (out ++ whole)
+    → TakesPrefix now last put → TakesPrefix first last (out ++ whole)
 outcome_stops first now last out kept before shown after whole left put is parts so_far written stop =
     rw (joined out kept before shown after whole is parts) at
     (stops_on first now last left (kept ++ shown) after so_far (rw written at stop))
 
 -- the state stopped
 pub outcome_begins : (first now : Option (List ℕ)) (out kept before shown after whole : List ℕ) → kept ≡ out ++ before
-    → whole ≡ before ++ (shown ++ after) → TakesBeginning first now (kept ++ shown) → TakesBeginning first now (out ++ whole)
+    → whole ≡ before ++ (shown ++ after) → TakesPrefix first now (kept ++ shown) → TakesPrefix first now (out ++ whole)
 outcome_begins first now out kept before shown after whole is parts begun =
     rw (joined out kept before shown after whole is parts) at (begins_on first now (kept ++ shown) after begun)
 

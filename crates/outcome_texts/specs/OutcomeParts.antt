@@ -23,7 +23,7 @@ use Rattle.states.specs.Kept.{KeptParts}
 abbrev pub complete_text : Bool → List ℕ
 complete_text complete = if complete then codes "true" else codes "false"
 
--- the object's beginning, up to the image
+-- the object's first part, up to the image
 unfoldable pub json_head : Bool → ImageParts → Endless → List ℕ
 json_head complete image endless =
     codes "{\"complete\":" +++ complete_text complete +++ codes ",\"endless\":"

@@ -64,11 +64,11 @@ fn list_found<S: Sink>(
         ≡ record { harts = harts.now; memory = ram.now } }
     ensures written { IfOk result (λ ending. IsWritten (λ text. IsListedAnswer
         searched.now.kept.image searched.now.kept.sweeps searched.now.kept.limit format text ending)
-        (S.taken sink.old) (S.taken sink.new)) }
+        (S.written sink.old) (S.written sink.new)) }
     ensures begun { IfErr result (IsUnwritten (λ text. (ending : Ending) × IsListedAnswer
         searched.now.kept.image searched.now.kept.sweeps searched.now.kept.limit format text ending)
-        (S.taken sink.old) (S.taken sink.new)) }
-    ensures place { S.place sink.new ≡ S.place sink.old }
+        (S.written sink.old) (S.written sink.new)) }
+    ensures identity { S.identity sink.new ≡ S.identity sink.old }
 {
     let told = outcomes_told(alloc, &searched.kept, searched.outcomes.as_slice())?;
     let head = head_of(searched);
@@ -96,11 +96,11 @@ fn show_found<S: Sink>(
     requires found { IsFound searched.now }
     ensures written { IfOk result (λ ending. IsWritten (λ text. IsShownAnswer
         searched.now.kept.image (list_of items.now) searched.now.kept.sweeps
-        searched.now.kept.limit format text ending) (S.taken sink.old) (S.taken sink.new)) }
+        searched.now.kept.limit format text ending) (S.written sink.old) (S.written sink.new)) }
     ensures begun { IfErr result (IsUnwritten (λ text. (ending : Ending) × IsShownAnswer
         searched.now.kept.image (list_of items.now) searched.now.kept.sweeps
-        searched.now.kept.limit format text ending) (S.taken sink.old) (S.taken sink.new)) }
-    ensures place { S.place sink.new ≡ S.place sink.old }
+        searched.now.kept.limit format text ending) (S.written sink.old) (S.written sink.new)) }
+    ensures identity { S.identity sink.new ≡ S.identity sink.old }
 {
     let shown = items.shown.as_slice();
     let outcomes = searched.outcomes.as_slice();
@@ -122,7 +122,7 @@ fn show_found<S: Sink>(
 /// Searches the states that an image reaches, by steps of its harts and these sweeps, and writes
 /// those in which no hart runs, each with the order that leads to it. At most `limit` states are
 /// kept. Nothing is written before the search has ended. After a fault of the writing the sink took
-/// a beginning of the answer.
+/// a prefix of the answer.
 pub fn list_outcomes<P: Progress, S: Sink>(
     alloc: Global,
     image: &Image,
@@ -136,11 +136,11 @@ pub fn list_outcomes<P: Progress, S: Sink>(
     requires few { length sweeps.now ≤ MAX_SWEEPS }
     ensures written { IfOk result (λ ending. IsWritten
         (λ text. IsListedAnswer image.now sweeps.now limit format text ending)
-        (S.taken sink.old) (S.taken sink.new)) }
+        (S.written sink.old) (S.written sink.new)) }
     ensures begun { IfErr result (IsUnwritten (λ text. (ending : Ending)
         × IsListedAnswer image.now sweeps.now limit format text ending)
-        (S.taken sink.old) (S.taken sink.new)) }
-    ensures place { S.place sink.new ≡ S.place sink.old }
+        (S.written sink.old) (S.written sink.new)) }
+    ensures identity { S.identity sink.new ≡ S.identity sink.old }
 {
     let core = opened(alloc, image)?;
     let searched = search_outcomes(alloc, image, &core, sweeps, limit, progress)?;
@@ -164,11 +164,11 @@ pub fn show_outcomes<P: Progress, S: Sink>(
     requires few { length sweeps.now ≤ MAX_SWEEPS }
     ensures written { IfOk result (λ ending. IsWritten
         (λ text. IsShownAnswer image.now (list_of items.now) sweeps.now limit format text ending)
-        (S.taken sink.old) (S.taken sink.new)) }
+        (S.written sink.old) (S.written sink.new)) }
     ensures begun { IfErr result (IsUnwritten (λ text. (ending : Ending)
         × IsShownAnswer image.now (list_of items.now) sweeps.now limit format text ending)
-        (S.taken sink.old) (S.taken sink.new)) }
-    ensures place { S.place sink.new ≡ S.place sink.old }
+        (S.written sink.old) (S.written sink.new)) }
+    ensures identity { S.identity sink.new ≡ S.identity sink.old }
 {
     let core = opened(alloc, image)?;
     let searched = search_outcomes(alloc, image, &core, sweeps, limit, progress)?;

@@ -1,5 +1,5 @@
 //! Outcomes as states.
-#![tactic(auto, unfolding(crate::proofs::Open::listed))]
+#![tactic(auto, unfolding(crate::proofs::Unfold::listed))]
 
 ghost use Rattle.std.specs.Prelude.{◌≡◌, ◌<◌, ◌++◌, IfOk, OnOk, codes, string_bytes};
 ghost use Rattle.std.specs.Io.KnownBytes.{Appends};
@@ -18,7 +18,7 @@ ghost use Rattle.outcome_texts.specs.OutcomeParts.{
 ghost use Rattle.outcome_texts.specs.Told.{kept_state, AreOutcomesBelow};
 ghost use Rattle.shown_states.specs.declared.form.Format.{Format};
 ghost use Rattle.report_lines.specs.Texts.{numbered};
-ghost use Rattle.sinks.specs.Sinks.{TakesAllBut, TakesBeginning};
+ghost use Rattle.sinks.specs.Sinks.{TakesAllBut, TakesPrefix};
 ghost use Rattle.states.specs.Kept.{count};
 
 use crate::heads::{Head, write_head_lines, write_json_head};
@@ -108,12 +108,12 @@ fn put_outcome<S: Sink>(
     outcome: &Outcome,
     state: &Loaded,
 ) -> Result<(), WriteFault>
-    ensures whole { OnOk result (TakesAllBut (S.taken sink.old) (S.taken sink.new)
+    ensures whole { OnOk result (TakesAllBut (S.written sink.old) (S.written sink.new)
         (string_bytes out.new) (string_bytes out.old
         ++ outcome_part format state.now number outcome.now)) }
-    ensures beginning { TakesBeginning (S.taken sink.old) (S.taken sink.new)
+    ensures prefix { TakesPrefix (S.written sink.old) (S.written sink.new)
         (string_bytes out.old ++ outcome_part format state.now number outcome.now) }
-    ensures place { S.place sink.new ≡ S.place sink.old }
+    ensures identity { S.identity sink.new ≡ S.identity sink.old }
 {
     write_before(format, out, number, outcome)?;
     put_state(alloc, format, out, sink, state)?;
@@ -135,12 +135,12 @@ fn put_outcomes<S: Sink>(
     requires there { AreOutcomesBelow (count kept.now) outcomes.now }
     requires opening { opening_state kept.now.image
         ≡ record { harts = harts.now; memory = ram.now } }
-    ensures whole { OnOk result (TakesAllBut (S.taken sink.old) (S.taken sink.new)
+    ensures whole { OnOk result (TakesAllBut (S.written sink.old) (S.written sink.new)
         (string_bytes out.new) (string_bytes out.old
         ++ numbered (kept_part format kept.now) 0 outcomes.now)) }
-    ensures beginning { TakesBeginning (S.taken sink.old) (S.taken sink.new)
+    ensures prefix { TakesPrefix (S.written sink.old) (S.written sink.new)
         (string_bytes out.old ++ numbered (kept_part format kept.now) 0 outcomes.now) }
-    ensures place { S.place sink.new ≡ S.place sink.old }
+    ensures identity { S.identity sink.new ≡ S.identity sink.old }
 {
     for (number, outcome) in outcomes.iter().enumerate() {
         let state = loaded_state(alloc, harts, ram, kept, outcome.state)?;
@@ -203,23 +203,23 @@ fn put_parts<S: Sink>(
     requires there { AreOutcomesBelow (count kept.now) outcomes.now }
     requires opening { opening_state kept.now.image
         ≡ record { harts = harts.now; memory = ram.now } }
-    ensures whole { OnOk result (TakesAllBut (S.taken sink.old) (S.taken sink.new)
+    ensures whole { OnOk result (TakesAllBut (S.written sink.old) (S.written sink.new)
         (string_bytes out.new) (string_bytes out.old
         ++ listed_parts format head.entry.complete head.entry.image.now
         head.entry.states head.entry.endless.now kept.now
         outcomes.now)) }
-    ensures beginning { TakesBeginning (S.taken sink.old) (S.taken sink.new)
+    ensures prefix { TakesPrefix (S.written sink.old) (S.written sink.new)
         (string_bytes out.old
         ++ listed_parts format head.entry.complete head.entry.image.now
         head.entry.states head.entry.endless.now kept.now
         outcomes.now) }
-    ensures place { S.place sink.new ≡ S.place sink.old }
+    ensures identity { S.identity sink.new ≡ S.identity sink.old }
 {
     write_head(alloc, format, out, head, outcomes.len())?;
     put_outcomes(alloc, format, out, sink, harts, ram, kept, outcomes)
 }
 
-/// Writes outcomes as states, each with its order. After a fault the sink took a beginning of them.
+/// Writes outcomes as states, each with its order. After a fault the sink took a prefix of them.
 pub fn put_listed<S: Sink>(
     alloc: Global,
     format: Format,
@@ -233,15 +233,15 @@ pub fn put_listed<S: Sink>(
     requires there { AreOutcomesBelow (count kept.now) outcomes.now }
     requires opening { opening_state kept.now.image
         ≡ record { harts = harts.now; memory = ram.now } }
-    ensures whole { OnOk result (Appends (S.taken sink.old) (S.taken sink.new)
+    ensures whole { OnOk result (Appends (S.written sink.old) (S.written sink.new)
         (listed_whole format head.entry.complete head.entry.image.now
         head.entry.states head.entry.endless.now kept.now
         outcomes.now)) }
-    ensures beginning { TakesBeginning (S.taken sink.old) (S.taken sink.new)
+    ensures prefix { TakesPrefix (S.written sink.old) (S.written sink.new)
         (listed_whole format head.entry.complete head.entry.image.now
         head.entry.states head.entry.endless.now kept.now
         outcomes.now) }
-    ensures place { S.place sink.new ≡ S.place sink.old }
+    ensures identity { S.identity sink.new ≡ S.identity sink.old }
 {
     let mut out = String::with_capacity(alloc, PIECE)?;
     put_parts(

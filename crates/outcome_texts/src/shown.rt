@@ -1,5 +1,5 @@
 //! Outcomes as rows of values.
-#![tactic(auto, unfolding(crate::proofs::Open::shown))]
+#![tactic(auto, unfolding(crate::proofs::Unfold::shown))]
 
 ghost use Rattle.std.specs.Prelude.{◌≡◌, ◌++◌, IfOk, OnOk, map, string_bytes};
 ghost use Rattle.std.specs.Io.KnownBytes.{Appends};
@@ -20,7 +20,7 @@ ghost use Rattle.outcome_texts.specs.OutcomeParts.{
 };
 ghost use Rattle.report_lines.specs.JsonText.{item_text};
 ghost use Rattle.report_lines.specs.Texts.{numbered};
-ghost use Rattle.sinks.specs.Sinks.{TakesBeginning};
+ghost use Rattle.sinks.specs.Sinks.{TakesPrefix};
 
 use crate::heads::{Head, write_head_lines, write_json_head};
 use crate::told::ShownRow;
@@ -222,7 +222,7 @@ fn write_said(
     }
 }
 
-/// Writes outcomes as rows of values. After a fault the sink took a beginning of them.
+/// Writes outcomes as rows of values. After a fault the sink took a prefix of them.
 pub fn put_shown<S: Sink>(
     alloc: Global,
     format: Format,
@@ -232,15 +232,15 @@ pub fn put_shown<S: Sink>(
     names: &[&str],
     rows: &[ShownRow],
 ) -> Result<(), WriteFault>
-    ensures whole { OnOk result (Appends (S.taken sink.old) (S.taken sink.new)
+    ensures whole { OnOk result (Appends (S.written sink.old) (S.written sink.new)
         (shown_whole format head.entry.complete head.entry.image.now
         head.entry.states head.entry.endless.now outcomes
         (map (λ name. name.now) names.now) rows.now)) }
-    ensures beginning { TakesBeginning (S.taken sink.old) (S.taken sink.new)
+    ensures prefix { TakesPrefix (S.written sink.old) (S.written sink.new)
         (shown_whole format head.entry.complete head.entry.image.now
         head.entry.states head.entry.endless.now outcomes
         (map (λ name. name.now) names.now) rows.now) }
-    ensures place { S.place sink.new ≡ S.place sink.old }
+    ensures identity { S.identity sink.new ≡ S.identity sink.old }
 {
     let mut out = String::new(alloc);
     write_said(alloc, format, &mut out, head, outcomes, names, rows)?;

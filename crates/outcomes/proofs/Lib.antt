@@ -1,4 +1,4 @@
-pub mod Open
+pub mod Unfold
 pub mod CountLemmas
 pub mod TableLemmas
 pub mod CodeLemmas

@@ -1,5 +1,5 @@
 //! What items hold in a state.
-#![tactic(auto, unfolding(crate::proofs::Open::items))]
+#![tactic(auto, unfolding(crate::proofs::Unfold::items))]
 
 ghost use Rattle.std.specs.Prelude.{◌≡◌, ◌++◌, ◌<◌, ◌^◌, OnOk, IfOk};
 ghost use Rattle.cheri_model.specs.runs.Machine.{hart_at};

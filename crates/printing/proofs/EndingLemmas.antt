@@ -3,12 +3,12 @@ use Rattle.std.proofs.Common.{◌≡◌, refl, subst, sym, ℕ, Bool, List, [], 
 use Rattle.std.specs.Prelude.{OnOk, IfErr, ⊤, ◌⊎◌}
 use Rattle.std.specs.Io.KnownBytes.{Appends, Keeps}
 use Rattle.std.proofs.KnownBytes.{Appends-kept}
-use Rattle.sinks.specs.Sinks.{TakesBeginning}
+use Rattle.sinks.specs.Sinks.{TakesPrefix}
 use Rattle.printing.specs.Endings.{Answer, Failure, Refused, Unwritten, OutOfMemory, Stopped, FailsBy, HasPrefix, HasWhole}
 
 -- a text that was written whole, and then flushed or not
 pub begins_whole : (old now new : Option (List ℕ)) (text : List ℕ) → Appends old now text → Keeps now new →
-    TakesBeginning old new text
+    TakesPrefix old new text
 begins_whole old now new text grown kept =
     ([], record { taken = text; grown = Appends-kept old now new text grown kept; parts = rw append-nil refl })
 

@@ -2,7 +2,7 @@
 use Rattle.std.proofs.Common.{◌≡◌, ℕ, List, [], ◌∷◌, ◌++◌, Option, None, Some}
 use Rattle.std.specs.Prelude.{IfSome}
 use Rattle.std.specs.Fmt.{with_newline}
-use Rattle.sinks.specs.Sinks.{TakesBeginning}
+use Rattle.sinks.specs.Sinks.{TakesPrefix}
 use Rattle.sinks.proofs.SinkLemmas.{takes_none}
 
 -- a text with a newline is a line
@@ -12,6 +12,6 @@ line_written None bytes is = tt
 line_written (Some said) bytes is = is
 
 -- where no line is made, nothing is written
-pub line_unwritten : (output : Option (List ℕ)) (at : Option (List ℕ)) → IfSome output (λ said. TakesBeginning at at (said ++ 10 ∷ []))
+pub line_unwritten : (output : Option (List ℕ)) (at : Option (List ℕ)) → IfSome output (λ said. TakesPrefix at at (said ++ 10 ∷ []))
 line_unwritten None at = tt
 line_unwritten (Some said) at = (_, takes_none at _)

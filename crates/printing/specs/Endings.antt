@@ -1,7 +1,7 @@
 -- How a command ends, and what standard output then has of its answer.
 use Rattle.std.specs.Prelude.{◌≡◌, ℕ, List, [], ◌∷◌, ◌++◌, Option, Result, Ok, Err, ◌⊎◌, Bool, true}
 use Rattle.std.specs.Io.KnownBytes.{Appends}
-use Rattle.sinks.specs.Sinks.{TakesBeginning}
+use Rattle.sinks.specs.Sinks.{TakesPrefix}
 
 -- The answer to a command: its text, and how the command then ends; or the fault that comes before
 -- anything is printed.
@@ -17,7 +17,7 @@ HasWhole IsAnswer end old new =
 abbrev pub HasPrefix : {End Fault : Type 0} → (Answer End Fault → Type 0)
     → Option (List ℕ) → Option (List ℕ) → Type 0
 HasPrefix {End} IsAnswer old new =
-    (text : List ℕ) × (end : End) × IsAnswer (Ok (text, end)) × TakesBeginning old new text
+    (text : List ℕ) × (end : End) × IsAnswer (Ok (text, end)) × TakesPrefix old new text
 
 -- The ways in which a command fails: its answer is a fault; a write failed; memory ran out, where
 -- the text is printed in pieces or at once; or its text was printed and ends so.
@@ -44,4 +44,4 @@ pub record EndsBy {Fault : Type 0} (status_of : Fault → ℕ) (text_of : Fault 
   pub fault : Fault
   pub status_is : status ≡ status_of fault
   pub is_so : IsSo fault
-  pub told : TakesBeginning old new (text_of fault ++ 10 ∷ [])
+  pub told : TakesPrefix old new (text_of fault ++ 10 ∷ [])

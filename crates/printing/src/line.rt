@@ -2,7 +2,7 @@
 
 ghost use Rattle.std.specs.Prelude.{◌≡◌, ◌++◌, ◌∷◌, [], OnOk, IfSome};
 ghost use Rattle.std.specs.Io.KnownBytes.{Appends};
-ghost use Rattle.sinks.specs.Sinks.{TakesBeginning};
+ghost use Rattle.sinks.specs.Sinks.{TakesPrefix};
 
 use crate::text::write_text;
 use arrayvec::ArrayString;
@@ -26,12 +26,12 @@ fn line_of<D: Display + Drop>(value: D) -> Option<ArrayString<LINE_ROOM>>
 }
 
 /// Writes the line of a value without memory, which may have run out: a line of more than 128 bytes
-/// is a fault. After a fault a beginning of the line was written.
+/// is a fault. After a fault a prefix of the line was written.
 pub fn write_line<O: Write, D: Display + Drop>(out: &mut O, value: D) -> Result<(), SinkFailed>
     ensures whole { IfSome (D.output value) (λ said.
         OnOk result (Appends (O.contents out.old) (O.contents out.new) (said ++ 10 ∷ []))) }
-    ensures beginning { IfSome (D.output value) (λ said.
-        TakesBeginning (O.contents out.old) (O.contents out.new) (said ++ 10 ∷ [])) }
+    ensures prefix { IfSome (D.output value) (λ said.
+        TakesPrefix (O.contents out.old) (O.contents out.new) (said ++ 10 ∷ [])) }
 {
     match line_of(value) {
         Some(text) => write_text(out, text.as_str()),

@@ -2,7 +2,7 @@
 
 ghost use Rattle.std.specs.Prelude.{OnOk};
 ghost use Rattle.std.specs.Io.KnownBytes.{Appends, Keeps};
-ghost use Rattle.sinks.specs.Sinks.{TakesBeginning};
+ghost use Rattle.sinks.specs.Sinks.{TakesPrefix};
 
 use sinks::{SinkFailed, ToWrite, put_whole};
 use std::io::Write;
@@ -17,10 +17,10 @@ pub fn flush<O: Write>(out: &mut O) -> Result<(), SinkFailed>
     }
 }
 
-/// Writes all of a text. After a fault a beginning of it was written.
+/// Writes all of a text. After a fault a prefix of it was written.
 pub fn write_text<O: Write>(out: &mut O, text: &str) -> Result<(), SinkFailed>
     ensures whole { OnOk result (Appends (O.contents out.old) (O.contents out.new) text.now) }
-    ensures beginning { TakesBeginning (O.contents out.old) (O.contents out.new) text.now }
+    ensures prefix { TakesPrefix (O.contents out.old) (O.contents out.new) text.now }
 {
     let mut sink = ToWrite::new(out);
     let written = put_whole(&mut sink, text.as_bytes());
@@ -30,11 +30,11 @@ pub fn write_text<O: Write>(out: &mut O, text: &str) -> Result<(), SinkFailed>
     written
 }
 
-/// Writes all of a text, and flushes. After a fault a beginning of it was written.
+/// Writes all of a text, and flushes. After a fault a prefix of it was written.
 #[tactic(auto, using(crate::proofs::EndingLemmas::begins_whole))]
 pub fn print<O: Write>(out: &mut O, text: &str) -> Result<(), SinkFailed>
     ensures printed { OnOk result (Appends (O.contents out.old) (O.contents out.new) text.now) }
-    ensures beginning { TakesBeginning (O.contents out.old) (O.contents out.new) text.now }
+    ensures prefix { TakesPrefix (O.contents out.old) (O.contents out.new) text.now }
 {
     write_text(out, text)?;
     flush(out)

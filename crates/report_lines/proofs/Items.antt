@@ -3,7 +3,7 @@ use Rattle.std.proofs.Common.{◌≡◌, ℕ, ◌+◌, ◌<◌, ◌≤◌, List,
 use Rattle.std.proofs.Math.ListN.{drop_of_length-le}
 use Rattle.std.proofs.lemmas.List.{append-nil}
 use Rattle.report_lines.specs.Texts.{numbered}
-use Rattle.sinks.specs.Sinks.{TakesAllBut, TakesBeginning}
+use Rattle.sinks.specs.Sinks.{TakesAllBut, TakesPrefix}
 use Rattle.sinks.proofs.SinkLemmas.{takes_then, stops_then}
 
 -- the text so far and that of the items from a place on stay the same when the item there is written
@@ -38,8 +38,8 @@ item_takes text items place d item before now after kept written still all room 
 pub item_stops : {X : Type 0} (text : ℕ → X → List ℕ) (items : List X) (place : ℕ) (d item : X)
     (before now after : Option (List ℕ)) (kept written all : List ℕ)
     → place < length items → item ≡ get_or items place d → written ≡ kept ++ text place item
-    → TakesAllBut before now (kept ++ numbered text place (drop place items)) all → TakesBeginning now after written
-    → TakesBeginning before after all
+    → TakesAllBut before now (kept ++ numbered text place (drop place items)) all → TakesPrefix now after written
+    → TakesPrefix before after all
 item_stops text items place d item before now after kept written all room here more so_far stop =
     stops_then before now after written _ _ all (numbered_step text items place d item kept written _ room here more refl)
     so_far stop

@@ -10,7 +10,7 @@ use Rattle.cheri_model.specs.declared.trace.Outcome.{Outcome}
 use Rattle.cheri_model.specs.declared.trace.Outcome.TheVariants as outcome
 use Rattle.cap_model.specs.values.CapValue.{CapValue, tag_of}
 use Rattle.cheri_model.specs.runs.Image.{ImageParts}
-use Rattle.cheri_model.specs.runs.ImageForm.{is_listed}
+use Rattle.cheri_model.specs.runs.ImageRules.{is_listed}
 use Rattle.report_lines.specs.EventData.{event_members, event_data, step_members, image_data}
 use Rattle.report_lines.specs.ValueData.{count, value_members, value_data, put_listed}
 use Rattle.report_lines.specs.ValueText.{hex_text}

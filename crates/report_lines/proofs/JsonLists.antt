@@ -6,7 +6,7 @@ use Rattle.serde_json.specs.View.{items_of}
 use Rattle.serde_json.specs.Written.{compact_text, items_text}
 use Rattle.report_lines.specs.JsonText.{item_text}
 use Rattle.report_lines.specs.Texts.{numbered}
-use Rattle.sinks.specs.Sinks.{TakesAllBut, TakesBeginning}
+use Rattle.sinks.specs.Sinks.{TakesAllBut, TakesPrefix}
 use Rattle.sinks.proofs.SinkLemmas.{begins_on}
 
 items_are : {X : Type 0} (data_of : X → Data) (number : ℕ) (xs : List X)
@@ -40,6 +40,6 @@ closed_takes before now out head kept still text whole opening closing opened cl
 
 pub closed_begins : (before now : Option (List ℕ)) (out head text whole : List ℕ) (opening closing : ℕ)
     → head ≡ out ++ opening ∷ [] → whole ≡ opening ∷ (text ++ closing ∷ [])
-    → TakesBeginning before now (head ++ text) → TakesBeginning before now (out ++ whole)
+    → TakesPrefix before now (head ++ text) → TakesPrefix before now (out ++ whole)
 closed_begins before now out head text whole opening closing opened is begun =
     rw (same_text out head text whole opening closing opened is) at (begins_on before now (head ++ text) (closing ∷ []) begun)

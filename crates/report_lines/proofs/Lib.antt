@@ -1,4 +1,4 @@
-pub mod Open
+pub mod Unfold
 pub mod HexDigits
 pub mod DoneSteps
 pub mod Items

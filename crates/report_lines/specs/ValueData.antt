@@ -2,7 +2,7 @@
 use Rattle.std.specs.Prelude.{ℕ, if◌then◌else◌, List, true, false, codes}
 use Rattle.serde_json.specs.Data.{Data, boolean, number, unsigned, string, object}
 use Rattle.serde_json.specs.Data.{Members, no_members, member, put}
-use Rattle.cheri_model.specs.runs.ImageForm.{is_listed}
+use Rattle.cheri_model.specs.runs.ImageRules.{is_listed}
 use Rattle.cap_model.specs.values.CapValue.{CapValue, bits_of, tag_of, parts_of}
 use Rattle.report_lines.specs.ValueText.{hex_text, type_text, word_text}
 

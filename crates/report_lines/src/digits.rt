@@ -135,9 +135,9 @@ impl fmt::Display for Hex {
 /// All sixteen hexadecimal digits of a number of 64 bits, as an address is, in lower case. It is
 /// written faster than a `Hex`, and most numbers of a report are such.
 #[derive(Clone, Copy)]
-pub struct HexWord(pub u64);
+pub struct Hex64(pub u64);
 
-impl Integer for HexWord {
+impl Integer for Hex64 {
     const MAX_STR_LEN: usize = 16;
 
     ghost MAX_STR_LEN = { 16 };
@@ -150,7 +150,7 @@ impl Integer for HexWord {
     }
 }
 
-impl fmt::Display for HexWord {
+impl fmt::Display for Hex64 {
     ghost output = { λ h. Some (hex_text 16 h.0) };
 
     fn fmt<W: fmt::Write>(&self, f: &mut fmt::Formatter<W>) -> fmt::Result {

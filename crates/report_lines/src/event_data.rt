@@ -1,6 +1,6 @@
 //! Events and images in JSON.
 
-#![tactic(auto, unfolding(crate::proofs::Open::events))]
+#![tactic(auto, unfolding(crate::proofs::Unfold::events))]
 
 ghost use Rattle.std.specs.Prelude.{◌≡◌, IfOk, string_bytes};
 ghost use Rattle.cheri_model.specs.declared.operation.Event.TheVariants as event;
@@ -10,7 +10,7 @@ ghost use Rattle.report_lines.specs.EventData.{ended_members, event_data, event_
 ghost use Rattle.report_lines.specs.EventData.{image_data, trapped_members};
 ghost use Rattle.report_lines.specs.ValueData.{count};
 
-use crate::digits::{Hex, HexWord};
+use crate::digits::{Hex, Hex64};
 use cheri_model::{Entry, Event, Image, NoMemory, Outcome, Trap};
 use serde_json::{Map, Value, json, put};
 use std::alloc::Global;
@@ -65,7 +65,7 @@ fn trapped_members(
 fn step_members(alloc: Global, entry: &Entry) -> Result<Map<String, Value>, NoMemory>
     ensures { IfOk result (λ m. members_view m.entries ≡ event_members (event.Step entry.now)) }
 {
-    let pc = HexWord(entry.pc).to_string(alloc)?;
+    let pc = Hex64(entry.pc).to_string(alloc)?;
     match entry.outcome {
         Outcome::Done => ended_members(alloc, entry.hart, pc, "done"),
         Outcome::Halt => ended_members(alloc, entry.hart, pc, "halt"),
@@ -83,7 +83,7 @@ fn sweep_members(
     ensures { IfOk result (λ m. members_view m.entries
         ≡ event_members (event.Sweep cleared lo hi)) }
 {
-    let lo = HexWord(lo).to_string(alloc)?;
+    let lo = Hex64(lo).to_string(alloc)?;
     let hi = Hex::of_top(hi).to_string(alloc)?;
     let mut members = Map::new(alloc);
     put(&mut members, alloc, "cleared", Value::from(cleared))?;

@@ -1,6 +1,6 @@
 //! Outcomes, statuses and events as texts.
 
-#![tactic(auto, using(crate::proofs::Open::lengths), unfolding(crate::proofs::Open::event_texts))]
+#![tactic(auto, using(crate::proofs::Unfold::lengths), unfolding(crate::proofs::Unfold::event_texts))]
 
 ghost use Rattle.std.specs.Prelude.{◌≡◌, ◌<◌, ◌++◌, OnOk, Some, string_bytes};
 ghost use Rattle.std.specs.Fmt.{DisplaysOnOk};
@@ -9,7 +9,7 @@ ghost use Rattle.report_lines.specs.EventText.{cause_text, done_text, event_text
 ghost use Rattle.report_lines.specs.EventText.{status_text};
 ghost use Rattle.report_lines.specs.declared.event_text.TheConstants.{FIRST_LONG_NUMBER};
 
-use crate::digits::{BUFFER, Hex, HexWord, put_before, word_digits};
+use crate::digits::{BUFFER, Hex, Hex64, put_before, word_digits};
 use cheri_model::{Entry, Event, NoMemory, Outcome, Status, Trap};
 use itoa::{Buffer, Integer, write_digits};
 use std::fmt;
@@ -101,7 +101,7 @@ fn write_step(out: &mut String, number: usize, entry: &Entry) -> Result<(), NoMe
             return out.push_str(Buffer::new().format(DoneStep { number, hart, pc }));
         }
     }
-    let (pc, outcome) = (HexWord(pc), OutcomeText(outcome));
+    let (pc, outcome) = (Hex64(pc), OutcomeText(outcome));
     write!(out, "{number} hart={hart} pc={pc} {outcome}")
 }
 
@@ -116,7 +116,7 @@ fn write_sweep(
     ensures { OnOk result (string_bytes out.new
         ≡ string_bytes out.old ++ event_text number (event.Sweep cleared lo hi)) }
 {
-    let (lo, hi) = (HexWord(lo), Hex::of_top(hi));
+    let (lo, hi) = (Hex64(lo), Hex::of_top(hi));
     write!(out, "{number} sweep lo={lo} hi={hi} cleared={cleared}")
 }
 

@@ -1,6 +1,6 @@
 //! JSON as text, part by part, so that no long value is ever whole.
 
-#![tactic(auto, using(crate::proofs::JsonLemmas::floatless), unfolding(crate::proofs::Open::events))]
+#![tactic(auto, using(crate::proofs::JsonLemmas::floatless), unfolding(crate::proofs::Unfold::events))]
 
 ghost use Rattle.std.specs.Prelude.{◌≡◌, ◌++◌, OnOk, false, string_bytes};
 ghost use Rattle.cheri_model.specs.declared.trace.Outcome.TheVariants as outcome;
@@ -11,7 +11,7 @@ ghost use Rattle.report_lines.specs.EventData.{event_data, step_members};
 ghost use Rattle.report_lines.specs.ValueData.{count};
 ghost use Rattle.report_lines.specs.ValueText.{hex_text};
 
-use crate::digits::HexWord;
+use crate::digits::Hex64;
 use crate::event_data::event_json;
 use cheri_model::{Entry, Event, NoMemory, Outcome};
 use itoa::Buffer;
@@ -47,7 +47,7 @@ fn write_done(out: &mut String, hart: u8, pc: u64) -> Result<(), NoMemory>
     out.push_str("{\"hart\":")?;
     out.push_str(number.format(hart))?;
     out.push_str(",\"outcome\":\"done\",\"pc\":\"")?;
-    out.push_str(number.format(HexWord(pc)))?;
+    out.push_str(number.format(Hex64(pc)))?;
     out.push_str("\"}")?;
     Ok(())
 }

@@ -11,7 +11,7 @@ mod names;
 mod value_data;
 mod value_text;
 
-pub use digits::{BUFFER, Hex, HexWord, MOST_DIGITS, put_before};
+pub use digits::{BUFFER, Hex, Hex64, MOST_DIGITS, put_before};
 pub use event_data::{event_json, event_members, image_json};
 pub use event_text::{OutcomeText, StatusText, write_event};
 pub use json_text::{write_comma, write_event_json, write_json_value};

@@ -1,6 +1,6 @@
 //! Lines that a report is made of. Each call appends one to a text.
 
-#![tactic(auto, unfolding(crate::proofs::Open::lines))]
+#![tactic(auto, unfolding(crate::proofs::Unfold::lines))]
 
 ghost use Rattle.std.specs.Prelude.{◌≡◌, ◌++◌, OnOk, string_bytes};
 ghost use Rattle.report_lines.specs.Lines.{count_line, event_line, granule_line, image_line};

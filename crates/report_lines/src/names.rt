@@ -5,7 +5,7 @@ ghost use Rattle.std.specs.Fmt.{DisplaysOnOk};
 ghost use Rattle.report_lines.specs.Names.{address_of_granule, cause_name, place_name};
 ghost use Rattle.report_lines.specs.Names.{trapped_place};
 
-use crate::digits::{Hex, HexWord};
+use crate::digits::{Hex, Hex64};
 use cheri_model::{GRANULE_BYTES, RAM_BASE, Trap};
 use std::fmt;
 
@@ -40,7 +40,7 @@ impl fmt::Display for PlaceName {
         match *self {
             PlaceName::Register(number) => write!(f, "c{number}"),
             PlaceName::Pcc => f.write_str("pcc"),
-            PlaceName::Granule(address) => write!(f, "mem {}", HexWord(address)),
+            PlaceName::Granule(address) => write!(f, "mem {}", Hex64(address)),
         }
     }
 }

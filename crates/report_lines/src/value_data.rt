@@ -9,7 +9,7 @@ ghost use Rattle.report_lines.specs.ValueData.{capability_members, put_listed, u
 ghost use Rattle.report_lines.specs.ValueData.{value_data, value_members};
 ghost use Rattle.report_lines.specs.ValueText.{hex_text};
 
-use crate::digits::{Hex, HexWord};
+use crate::digits::{Hex, Hex64};
 use crate::names::granule_address;
 use crate::value_text::{TypeText, Word, is_listed};
 use cap_ops::Cap;
@@ -58,7 +58,7 @@ pub fn value_members(alloc: Global, held: Cap) -> Result<Map<String, Value>, NoM
         return untagged_members(alloc, word);
     }
     let (base, top) = held.bounds();
-    let base = HexWord(base).to_string(alloc)?;
+    let base = Hex64(base).to_string(alloc)?;
     let top = Hex::of_top(top).to_string(alloc)?;
     let perms = Hex::of_perms(held.perm()).to_string(alloc)?;
     let otype = TypeText(held.object_type()).to_string(alloc)?;

@@ -3,7 +3,7 @@
 ghost use Rattle.std.specs.Prelude.{◌≡◌, ◌++◌, OnOk, Some, string_bytes};
 ghost use Rattle.std.specs.Fmt.{DisplaysOnOk};
 ghost use Rattle.cap_model.specs.values.CapValue.{parts_of};
-ghost use Rattle.cheri_model.specs.runs.ImageForm.{is_listed};
+ghost use Rattle.cheri_model.specs.runs.ImageRules.{is_listed};
 ghost use Rattle.report_lines.specs.ValueText.{
   bounds_text,
   parts_text,
@@ -13,7 +13,7 @@ ghost use Rattle.report_lines.specs.ValueText.{
   word_text,
 };
 
-use crate::digits::{BUFFER, Hex, HexWord, most_digits, put_before, word_digits};
+use crate::digits::{BUFFER, Hex, Hex64, most_digits, put_before, word_digits};
 use bitflags::Flags;
 use cap_ops::Cap;
 use cheri_model::{NoMemory, OType, SENTRY_TYPE, UNSEALED_TYPE};
@@ -104,7 +104,7 @@ impl fmt::Display for Parts {
 
     fn fmt<W: fmt::Write>(&self, f: &mut fmt::Formatter<W>) -> fmt::Result {
         let (base, top) = self.0.bounds();
-        let (base, top) = (HexWord(base), Hex::of_top(top));
+        let (base, top) = (Hex64(base), Hex::of_top(top));
         let perms = Hex::of_perms(self.0.perm());
         let otype = TypeText(self.0.object_type());
         write!(f, "{base} {top} {perms} {otype}")

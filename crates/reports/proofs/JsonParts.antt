@@ -4,11 +4,11 @@ use Rattle.std.proofs.Math.ListN.{drop_of_length-le}
 use Rattle.std.proofs.lemmas.Bool.{and_parts}
 use Rattle.std.specs.Io.KnownBytes.{Appends}
 use Rattle.cap_model.specs.values.CapValue.{CapValue}
-use Rattle.cheri_model.specs.runs.ImageForm.{is_listed}
+use Rattle.cheri_model.specs.runs.ImageRules.{is_listed}
 use Rattle.cheri_model.specs.declared.memory.TheConstants.{GRANULE_BYTES, MAX_RAM_BYTES}
 use Rattle.cheri_model.specs.steps.Memory.{IsMemory}
 use Rattle.reports.specs.JsonText.{granule_member, granule_members}
-use Rattle.sinks.specs.Sinks.{TakesAllBut, TakesBeginning}
+use Rattle.sinks.specs.Sinks.{TakesAllBut, TakesPrefix}
 use Rattle.sinks.proofs.SinkLemmas.{takes_none, takes_then, stops_then, stops_on, begins_on, takes_to_end}
 
 -- one granule more
@@ -34,8 +34,8 @@ granule_takes memory number d v later more before now after kept written still a
 pub granule_stops : (memory : List CapValue) (number : ℕ) (d v : CapValue) (later : Bool)
     (before now after : Option (List ℕ)) (kept written all : List ℕ)
     → number < length memory → v ≡ get_or memory number d → written ≡ kept ++ granule_member later number v
-    → TakesAllBut before now (kept ++ granule_members later number (drop number memory)) all → TakesBeginning now after written
-    → TakesBeginning before after all
+    → TakesAllBut before now (kept ++ granule_members later number (drop number memory)) all → TakesPrefix now after written
+    → TakesPrefix before after all
 granule_stops memory number d v later before now after kept written all room here is so_far stop =
     stops_then before now after written _ _ all (granule_step memory number d v later _ kept written room here is refl) so_far stop
 
@@ -50,12 +50,12 @@ granules_end memory number later before now kept all ended so_far =
 
 -- the end follows
 pub parts_begin : (before now : Option (List ℕ)) (out shown last whole : List ℕ)
-    → whole ≡ shown ++ last → out ≡ [] → TakesBeginning before now (out ++ shown) → TakesBeginning before now whole
+    → whole ≡ shown ++ last → out ≡ [] → TakesPrefix before now (out ++ shown) → TakesPrefix before now whole
 parts_begin before now out shown last whole is none begun = rw is (begins_on before now shown last (rw none at begun))
 
 pub parts_stop : (before now after : Option (List ℕ)) (out kept put shown last whole : List ℕ)
     → whole ≡ shown ++ last → out ≡ [] → TakesAllBut before now kept (out ++ shown) → put ≡ kept ++ last
-    → TakesBeginning now after put → TakesBeginning before after whole
+    → TakesPrefix now after put → TakesPrefix before after whole
 parts_stop before now after out kept put shown last whole is none so_far written stop =
     rw is (stops_on before now after kept shown last (rw none at so_far) (rw written at stop))
 
@@ -75,10 +75,10 @@ pub part_taken : {E : Type 0} (result : Result (Unit {0}) E) (before now : Optio
 part_taken result before now left kept head out text part is parts so_far = rw (same_part kept head out text part is parts) at so_far
 
 pub part_begun : (before now : Option (List ℕ)) (kept head out text part : List ℕ)
-    → kept ≡ out ++ head → part ≡ head ++ text → TakesBeginning before now (kept ++ text) → TakesBeginning before now (out ++ part)
+    → kept ≡ out ++ head → part ≡ head ++ text → TakesPrefix before now (kept ++ text) → TakesPrefix before now (out ++ part)
 part_begun before now kept head out text part is parts so_far = rw (same_part kept head out text part is parts) at so_far
 
-pub head_begun : (at : Option (List ℕ)) (text : List ℕ) → TakesBeginning at at text
+pub head_begun : (at : Option (List ℕ)) (text : List ℕ) → TakesPrefix at at text
 head_begun at text = (text, takes_none at text)
 
 -- a memory has at most so many granules that their addresses have 16 digits

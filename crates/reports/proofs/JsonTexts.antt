@@ -9,7 +9,7 @@ use Rattle.serde_json.specs.Written.{comma_if, compact_text, members_text}
 use Rattle.cheri_model.specs.declared.operation.Event.{Event}
 use Rattle.cap_model.specs.values.CapValue.{CapValue}
 use Rattle.cheri_model.specs.runs.Image.{ImageParts}
-use Rattle.cheri_model.specs.runs.ImageForm.{is_listed}
+use Rattle.cheri_model.specs.runs.ImageRules.{is_listed}
 use Rattle.cheri_model.specs.runs.Machine.{MachineState}
 use Rattle.report_lines.specs.EventData.{image_data}
 use Rattle.report_lines.specs.Names.{address_of_granule}

@@ -1,4 +1,4 @@
-pub mod Open
+pub mod Unfold
 pub mod ReportLines
 pub mod ReportParts
 pub mod JsonLemmas

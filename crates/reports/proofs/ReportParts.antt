@@ -6,7 +6,7 @@ use Rattle.cheri_model.specs.runs.Image.{ImageParts}
 use Rattle.cheri_model.specs.runs.Machine.{MachineState}
 use Rattle.report_lines.specs.Texts.{line}
 use Rattle.reports.specs.Report.{report, head_lines, shown_lines}
-use Rattle.sinks.specs.Sinks.{TakesAllBut, TakesBeginning}
+use Rattle.sinks.specs.Sinks.{TakesAllBut, TakesPrefix}
 use Rattle.sinks.proofs.SinkLemmas.{stops_on, begins_on, takes_to_end}
 
 -- a report is the lines before the first event, those that show the trace and the state, and the last one
@@ -20,10 +20,10 @@ pub three_parts : (kept first second third : List ℕ)
     → ((kept ++ first) ++ second) ++ third ≡ kept ++ (first ++ (second ++ third))
 three_parts kept first second third = simp append_assoc
 
--- a report of which a beginning was put up to its last line
+-- a report of which a prefix was put up to its last line
 pub report_begins : (image : ImageParts) (events : List Event) (state : MachineState) (before now : Option (List ℕ)) (head : List ℕ)
-    → head ≡ head_lines image events → TakesBeginning before now (head ++ shown_lines events state)
-    → TakesBeginning before now (report image events state)
+    → head ≡ head_lines image events → TakesPrefix before now (head ++ shown_lines events state)
+    → TakesPrefix before now (report image events state)
 report_begins image events state before now head same begun =
     rw (report_parts, ← append_assoc, ← same) (begins_on before now (head ++ shown_lines events state) (line (codes "end")) begun)
 
@@ -31,8 +31,8 @@ report_begins image events state before now head same begun =
 pub report_stops : (image : ImageParts) (events : List Event) (state : MachineState) (before now after : Option (List ℕ))
     (head kept last : List ℕ)
     → head ≡ head_lines image events → TakesAllBut before now kept (head ++ shown_lines events state)
-    → last ≡ kept ++ line (codes "end") → TakesBeginning now after last
-    → TakesBeginning before after (report image events state)
+    → last ≡ kept ++ line (codes "end") → TakesPrefix now after last
+    → TakesPrefix before after (report image events state)
 report_stops image events state before now after head kept last same so_far written stop =
     rw (report_parts, ← append_assoc, ← same)
     (stops_on before now after kept (head ++ shown_lines events state) (line (codes "end")) so_far (rw written at stop))

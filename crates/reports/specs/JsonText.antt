@@ -7,7 +7,7 @@ use Rattle.cheri_model.specs.declared.operation.Event.{Event}
 use Rattle.cap_model.specs.values.CapValue.{CapValue}
 use Rattle.cheri_model.specs.steps.Hart.{HartState}
 use Rattle.cheri_model.specs.runs.Image.{ImageParts}
-use Rattle.cheri_model.specs.runs.ImageForm.{is_listed}
+use Rattle.cheri_model.specs.runs.ImageRules.{is_listed}
 use Rattle.cheri_model.specs.runs.Machine.{MachineState}
 use Rattle.report_lines.specs.EventData.{image_data}
 use Rattle.report_lines.specs.Names.{address_of_granule}
@@ -31,7 +31,7 @@ granule_members later number [] = []
 granule_members later number (v ∷ rest) =
     granule_member later number v ++ granule_members (later || is_listed v) (number + 1) rest
 
--- the object's beginning, with the events
+-- the object's first part, with the events
 abbrev pub events_part : List Event → List ℕ
 events_part events = codes "{\"entries\":" ++ compact_text (events_data events)
 

@@ -9,6 +9,6 @@ pub use json::pieces::write_json;
 pub use json::state::{put_granules_json, put_harts_json};
 pub use json::{granules_json, harts_json, report_json};
 pub use report::write_report;
-pub use report_lines::{Hex, HexWord, MOST_DIGITS, TypeText};
+pub use report_lines::{Hex, Hex64, MOST_DIGITS, TypeText};
 pub use sinks::{MemSink, Sink, SinkFailed, ToWrite, WriteFault as ReportFault, put_whole};
 pub use state::{put_granules, put_harts};

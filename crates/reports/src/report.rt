@@ -6,7 +6,7 @@ ghost use Rattle.hart.specs.View.{state_of};
 ghost use Rattle.report_lines.specs.Lines.{event_line};
 ghost use Rattle.report_lines.specs.Texts.{numbered};
 ghost use Rattle.reports.specs.Report.{head_lines, report, shown_lines, title_line, version_of};
-ghost use Rattle.sinks.specs.Sinks.{TakesAllBut, TakesBeginning};
+ghost use Rattle.sinks.specs.Sinks.{TakesAllBut, TakesPrefix};
 ghost use Rattle.sinks.specs.WriteFaults.{failures_of};
 
 use crate::state::{put_granules, put_harts};
@@ -40,12 +40,12 @@ fn write_title(out: &mut String, version: u8) -> Result<(), NoMemory>
 
 /// Writes the lines of the events.
 fn put_events<S: Sink>(out: &mut String, sink: &mut S, events: &[Event]) -> Result<(), WriteFault>
-    ensures whole { OnOk result (TakesAllBut (S.taken sink.old) (S.taken sink.new)
+    ensures whole { OnOk result (TakesAllBut (S.written sink.old) (S.written sink.new)
         (string_bytes out.new) (string_bytes out.old ++ numbered event_line 0 events.now)) }
-    ensures beginning { TakesBeginning (S.taken sink.old) (S.taken sink.new)
+    ensures prefix { TakesPrefix (S.written sink.old) (S.written sink.new)
         (string_bytes out.old ++ numbered event_line 0 events.now) }
     ensures failures { S.failures sink.new ≡ S.failures sink.old + failures_of result }
-    ensures place { S.place sink.new ≡ S.place sink.old }
+    ensures identity { S.identity sink.new ≡ S.identity sink.old }
 {
     for (number, event) in events.iter().enumerate() {
         write_event_line(out, number, event)?;
@@ -56,13 +56,13 @@ fn put_events<S: Sink>(out: &mut String, sink: &mut S, events: &[Event]) -> Resu
 
 /// Writes the lines of the events, the harts and the granules.
 fn put_parts<S: Sink>(out: &mut String, sink: &mut S, view: View<'_>) -> Result<(), WriteFault>
-    ensures whole { OnOk result (TakesAllBut (S.taken sink.old) (S.taken sink.new)
+    ensures whole { OnOk result (TakesAllBut (S.written sink.old) (S.written sink.new)
         (string_bytes out.new)
         (string_bytes out.old ++ shown_lines view.entry.entries.now (state_of view.entry))) }
-    ensures beginning { TakesBeginning (S.taken sink.old) (S.taken sink.new)
+    ensures prefix { TakesPrefix (S.written sink.old) (S.written sink.new)
         (string_bytes out.old ++ shown_lines view.entry.entries.now (state_of view.entry)) }
     ensures failures { S.failures sink.new ≡ S.failures sink.old + failures_of result }
-    ensures place { S.place sink.new ≡ S.place sink.old }
+    ensures identity { S.identity sink.new ≡ S.identity sink.old }
 {
     put_events(out, sink, view.entries)?;
     put_harts(out, sink, view.harts)?;
@@ -81,14 +81,14 @@ fn write_head(out: &mut String, view: View<'_>) -> Result<(), NoMemory>
 }
 
 /// Writes the report of what a view shows, in pieces of at most 64 KiB: report 2 where its trace
-/// has a sweep, else report 1. After a fault the sink took a beginning of it.
+/// has a sweep, else report 1. After a fault the sink took a prefix of it.
 pub fn write_report<S: Sink>(alloc: Global, view: View<'_>, sink: &mut S) -> Result<(), WriteFault>
-    ensures whole { OnOk result (Appends (S.taken sink.old) (S.taken sink.new)
+    ensures whole { OnOk result (Appends (S.written sink.old) (S.written sink.new)
         (report view.entry.image.now view.entry.entries.now (state_of view.entry))) }
-    ensures beginning { TakesBeginning (S.taken sink.old) (S.taken sink.new)
+    ensures prefix { TakesPrefix (S.written sink.old) (S.written sink.new)
         (report view.entry.image.now view.entry.entries.now (state_of view.entry)) }
     ensures failures { S.failures sink.new ≡ S.failures sink.old + failures_of result }
-    ensures place { S.place sink.new ≡ S.place sink.old }
+    ensures identity { S.identity sink.new ≡ S.identity sink.old }
 {
     let mut out = String::with_capacity(alloc, PIECE)?;
     write_head(&mut out, view)?;

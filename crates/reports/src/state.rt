@@ -4,7 +4,7 @@ ghost use Rattle.std.specs.Prelude.{◌≡◌, ◌+◌, ◌++◌, OnOk, string_b
 ghost use Rattle.report_lines.specs.Lines.{granule_line};
 ghost use Rattle.report_lines.specs.Texts.{numbered};
 ghost use Rattle.reports.specs.Report.{hart_lines, register_lines};
-ghost use Rattle.sinks.specs.Sinks.{TakesAllBut, TakesBeginning};
+ghost use Rattle.sinks.specs.Sinks.{TakesAllBut, TakesPrefix};
 ghost use Rattle.sinks.specs.WriteFaults.{failures_of};
 
 use cheri_model::{NoMemory, Reg};
@@ -38,12 +38,12 @@ fn write_hart(out: &mut String, number: usize, hart: &Hart) -> Result<(), NoMemo
 /// Writes the lines of the harts, after what is kept in `out`. Whenever another part might not fit,
 /// what is kept is put to the sink; the rest stays in `out`.
 pub fn put_harts<S: Sink>(out: &mut String, sink: &mut S, harts: &[Hart]) -> Result<(), WriteFault>
-    ensures whole { OnOk result (TakesAllBut (S.taken sink.old) (S.taken sink.new)
+    ensures whole { OnOk result (TakesAllBut (S.written sink.old) (S.written sink.new)
         (string_bytes out.new) (string_bytes out.old ++ numbered hart_lines 0 harts.now)) }
-    ensures beginning { TakesBeginning (S.taken sink.old) (S.taken sink.new)
+    ensures prefix { TakesPrefix (S.written sink.old) (S.written sink.new)
         (string_bytes out.old ++ numbered hart_lines 0 harts.now) }
     ensures failures { S.failures sink.new ≡ S.failures sink.old + failures_of result }
-    ensures place { S.place sink.new ≡ S.place sink.old }
+    ensures identity { S.identity sink.new ≡ S.identity sink.old }
 {
     for (number, hart) in harts.iter().enumerate() {
         write_hart(out, number, hart)?;
@@ -54,12 +54,12 @@ pub fn put_harts<S: Sink>(out: &mut String, sink: &mut S, harts: &[Hart]) -> Res
 
 /// Writes the lines of the granules, as `put_harts` those of the harts.
 pub fn put_granules<S: Sink>(out: &mut String, sink: &mut S, ram: &Ram) -> Result<(), WriteFault>
-    ensures whole { OnOk result (TakesAllBut (S.taken sink.old) (S.taken sink.new)
+    ensures whole { OnOk result (TakesAllBut (S.written sink.old) (S.written sink.new)
         (string_bytes out.new) (string_bytes out.old ++ numbered granule_line 0 ram.now)) }
-    ensures beginning { TakesBeginning (S.taken sink.old) (S.taken sink.new)
+    ensures prefix { TakesPrefix (S.written sink.old) (S.written sink.new)
         (string_bytes out.old ++ numbered granule_line 0 ram.now) }
     ensures failures { S.failures sink.new ≡ S.failures sink.old + failures_of result }
-    ensures place { S.place sink.new ≡ S.place sink.old }
+    ensures identity { S.identity sink.new ≡ S.identity sink.old }
 {
     for number in 0..ram.granule_count() {
         write_granule_line(out, number, ram.granule(number))?;

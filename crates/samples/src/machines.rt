@@ -4,7 +4,7 @@
 ghost use Rattle.std.specs.Prelude.{◌≡◌, ◌∷◌, IfOk, replicate};
 ghost use Rattle.cheri_model.specs.declared.instr.Instr.TheVariants as instr;
 ghost use Rattle.cheri_model.specs.declared.trace.Status.TheVariants as status;
-ghost use Rattle.cheri_model.specs.runs.ImageForm.{image_of};
+ghost use Rattle.cheri_model.specs.runs.ImageRules.{image_of};
 ghost use Rattle.cheri_model.specs.steps.Hart.{null};
 ghost use Rattle.samples.specs.Machines.{empty_hart};
 

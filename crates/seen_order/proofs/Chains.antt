@@ -34,7 +34,7 @@ open_end_more key (x ∷ xs) ys = by_pen (x.pen == key) (open_end_more x.next xs
     by_pen true its other = its
     by_pen false its other = other
 
--- so a beginning of the links gives a beginning of the order
+-- so a prefix of the links gives a prefix of the order
 pub order_prefix : (key : ℕ) (xs ys : List Link) → IsPrefix xs ys → IsPrefix (order key xs) (order key ys)
 order_prefix key xs ys p = (order (open_end key xs) p.0, sym (order_more key xs p.0) ∙ ap (order key) p.1)
 

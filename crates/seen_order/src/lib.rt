@@ -1,5 +1,5 @@
 //! The order of a machine's operations, as it exists in proofs alone: it only grows, one keeper
-//! adds to it, and whatever anybody has seen of it is a beginning of it.
+//! adds to it, and whatever anybody has seen of it is a prefix of it.
 //!
 //! An order is a chain of links in a book. A link has the pen that wrote it, an operation, and the
 //! pen that may write the next link; a pen that wrote its link is spent.

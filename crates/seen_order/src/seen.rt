@@ -28,7 +28,7 @@ pub struct Token {
     pub seen: logbook::Seen<Link, u64, LinkRule>,
 }
 
-/// A beginning of an order, which was seen. Contracts see its operations.
+/// A prefix of an order, which was seen. Contracts see its operations.
 #[derive(Drop)]
 pub struct Seen<J: Order> {
     token: Token,
@@ -98,7 +98,7 @@ impl<J: Order> Seen<J> {
         self.token.again()
     }
 
-    /// Whatever two have seen, the shorter is a beginning of the longer.
+    /// Whatever two have seen, the shorter is a prefix of the longer.
     pub fn meet(&self, other: &Seen<J>)
         ensures { length self.now ≤ length other.now → IsPrefix self.now other.now }
     {

@@ -12,8 +12,8 @@ use Rattle.cheri_model.specs.declared.trace.Entry.{Entry}
 use Rattle.cheri_model.specs.runs.Image.{ImageParts}
 use Rattle.cheri_model.specs.runs.Sweeps.{is_range}
 use Rattle.cheri_model.specs.runs.Machine.{MachineState, opening_state, entry_of, event_of, state_after_one, is_running, hart_at}
-use Rattle.cheri_model.specs.runs.Replay.{IsReplay, IsBeginning, events_of, operations_of, replayed_events}
-use Rattle.cheri_model.proofs.Runs.Replays.{events_beginning}
+use Rattle.cheri_model.specs.runs.Replay.{IsReplay, IsPrefixOf, events_of, operations_of, replayed_events}
+use Rattle.cheri_model.proofs.Runs.Replays.{events_prefix}
 use Rattle.seen_order.specs.declared.seen.Token.{Token}
 use Rattle.seen_order.specs.Orders.{OrderName, order}
 use Rattle.cores.specs.declared.faults.StepFault.{StepFault}
@@ -41,9 +41,9 @@ unfolding operations_of
 length-operations_of trace = simp length-map
 
 -- what begins the order begins the trace
-pub trace_beginning : (image : ImageParts) (xs ys : List Op) → IsPrefix xs ys → IsBeginning (replayed_events image xs) (replayed_events image ys)
+pub trace_prefix : (image : ImageParts) (xs ys : List Op) → IsPrefix xs ys → IsPrefixOf (replayed_events image xs) (replayed_events image ys)
 unfolding replayed_events
-trace_beginning image xs ys p = events_beginning image (opening_state image) xs ys (p.0, sym p.1)
+trace_prefix image xs ys p = events_prefix image (opening_state image) xs ys (p.0, sym p.1)
 
 -- a replay has an event for each operation
 length-events_of : (image : ImageParts) (state : MachineState) (order : List Op) → length (events_of image state order) ≡ length order
@@ -57,8 +57,8 @@ unfolding replayed_events
 length-replayed_events image order = length-events_of image (opening_state image) order
 
 -- each trace begins with itself
-pub beginning_self : (xs : List Event) → IsBeginning xs xs
-beginning_self xs = ([], sym (append-nil xs))
+pub prefix_self : (xs : List Event) → IsPrefixOf xs xs
+prefix_self xs = ([], sym (append-nil xs))
 
 pub applied_after : (core : CoreParts) (op : Op) → refused core op ≡ None → applied core op ≡ core_after core op
 unfolding applied

@@ -83,7 +83,7 @@ impl<J: Naming> Machine<J> {
             → result ≡ answered_step self.old.core share.old.hart }
         ensures memory { result ≡ Err StepFault.NoMemory
             → refused self.old.core (Op.Step share.old.hart) ≡ None }
-        ensures there { result ≢ Err StepFault.NoSuchHart }
+        ensures hart_exists { result ≢ Err StepFault.NoSuchHart }
         ensures of_a_step { result ≢ Err StepFault.BadRange }
         ensures applied { OnOk result
             (self.new.core ≡ applied self.old.core (Op.Step share.old.hart)) }

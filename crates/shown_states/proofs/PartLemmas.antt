@@ -1,7 +1,7 @@
 -- A text that was kept and put in parts, as a sink takes it.
 use Rattle.std.proofs.Common.{◌≡◌, ℕ, List, ◌++◌, Option, Result, OnOk, refl, append_assoc}
 use Rattle.reports.proofs.ReportParts.{three_parts}
-use Rattle.sinks.specs.Sinks.{TakesAllBut, TakesBeginning}
+use Rattle.sinks.specs.Sinks.{TakesAllBut, TakesPrefix}
 use Rattle.sinks.proofs.SinkLemmas.{begins_on, stops_on, takes_on_ok}
 
 -- more was appended to what is kept
@@ -15,12 +15,12 @@ pushed before now kept more then text is so_far = record {
 
 -- a text of two parts of which the first was begun
 pub first_begins : (before now : Option (List ℕ)) (out a b whole : List ℕ) → whole ≡ a ++ b
-    → TakesBeginning before now (out ++ a) → TakesBeginning before now (out ++ whole)
+    → TakesPrefix before now (out ++ a) → TakesPrefix before now (out ++ whole)
 first_begins before now out a b whole is begun = rw (is, ← append_assoc) (begins_on before now (out ++ a) b begun)
 
 -- and the second
 pub second_stops : (before now after : Option (List ℕ)) (kept out a b whole : List ℕ) → whole ≡ a ++ b
-    → TakesAllBut before now kept (out ++ a) → TakesBeginning now after (kept ++ b) → TakesBeginning before after (out ++ whole)
+    → TakesAllBut before now kept (out ++ a) → TakesPrefix now after (kept ++ b) → TakesPrefix before after (out ++ whole)
 second_stops before now after kept out a b whole is so_far begun =
     rw (is, ← append_assoc) (stops_on before now after kept (out ++ a) b so_far begun)
 
@@ -32,7 +32,7 @@ second_takes result before now after kept still out a b whole is so_far taken =
 
 -- a text of three parts, the second of which was appended
 pub third_stops : (before now after : Option (List ℕ)) (kept out a b c whole : List ℕ) → whole ≡ a ++ (b ++ c)
-    → TakesAllBut before now kept ((out ++ a) ++ b) → TakesBeginning now after (kept ++ c) → TakesBeginning before after (out ++ whole)
+    → TakesAllBut before now kept ((out ++ a) ++ b) → TakesPrefix now after (kept ++ c) → TakesPrefix before after (out ++ whole)
 third_stops before now after kept out a b c whole is so_far begun =
     rw (is, ← three_parts) (stops_on before now after kept ((out ++ a) ++ b) c so_far begun)
 

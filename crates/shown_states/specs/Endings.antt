@@ -3,7 +3,7 @@ use Rattle.std.specs.Prelude.{◌≡◌, ℕ, Bool, if◌then◌else◌, List, O
 use Rattle.std.specs.Io.KnownBytes.{Appends}
 use Rattle.shown_states.specs.declared.form.Ending.{Ending}
 use Rattle.shown_states.specs.declared.form.Ending.TheVariants.{Done, Unfinished, Nowhere}
-use Rattle.sinks.specs.Sinks.{TakesBeginning}
+use Rattle.sinks.specs.Sinks.{TakesPrefix}
 use Rattle.sinks.specs.declared.fault.WriteFault.{WriteFault}
 use Rattle.sinks.specs.declared.fault.WriteFault.TheVariants.{NoMemory}
 
@@ -21,8 +21,8 @@ ending_of complete = if complete then Done else Unfinished
 abbrev pub IsWritten : (List ℕ → Type 0) → Option (List ℕ) → Option (List ℕ) → Type 0
 IsWritten IsSo old new = (text : List ℕ) × IsSo text × Appends old new text
 
--- it took nothing before memory ran out, or a beginning of a text that is so
+-- it took nothing before memory ran out, or a prefix of a text that is so
 abbrev pub IsUnwritten : (List ℕ → Type 0) → Option (List ℕ) → Option (List ℕ) → WriteFault → Type 0
 IsUnwritten IsSo old new fault =
     ((new ≡ old) × (fault ≡ NoMemory))
-    ⊎ ((text : List ℕ) × IsSo text × TakesBeginning old new text)
+    ⊎ ((text : List ℕ) × IsSo text × TakesPrefix old new text)

@@ -11,7 +11,7 @@ ghost use Rattle.shown_states.specs.StateTexts.{
   states_line,
   states_word,
 };
-ghost use Rattle.sinks.specs.Sinks.{TakesAllBut, TakesBeginning};
+ghost use Rattle.sinks.specs.Sinks.{TakesAllBut, TakesPrefix};
 ghost use Rattle.sinks.specs.WriteFaults.{failures_of};
 
 use crate::form::Format;
@@ -54,12 +54,12 @@ fn put_state_lines<S: Sink>(
     sink: &mut S,
     state: &Loaded,
 ) -> Result<(), WriteFault>
-    ensures whole { OnOk result (TakesAllBut (S.taken sink.old) (S.taken sink.new)
+    ensures whole { OnOk result (TakesAllBut (S.written sink.old) (S.written sink.new)
         (string_bytes out.new) (string_bytes out.old ++ state_lines state.now)) }
-    ensures beginning { TakesBeginning (S.taken sink.old) (S.taken sink.new)
+    ensures prefix { TakesPrefix (S.written sink.old) (S.written sink.new)
         (string_bytes out.old ++ state_lines state.now) }
     ensures failures { S.failures sink.new ≡ S.failures sink.old + failures_of result }
-    ensures place { S.place sink.new ≡ S.place sink.old }
+    ensures identity { S.identity sink.new ≡ S.identity sink.old }
 {
     put_harts(out, sink, state.harts())?;
     put_granules(out, sink, state.ram())
@@ -72,12 +72,12 @@ fn put_harts_member<S: Sink>(
     sink: &mut S,
     state: &Loaded,
 ) -> Result<(), WriteFault>
-    ensures whole { OnOk result (TakesAllBut (S.taken sink.old) (S.taken sink.new)
+    ensures whole { OnOk result (TakesAllBut (S.written sink.old) (S.written sink.new)
         (string_bytes out.new) (string_bytes out.old ++ harts_member state.now)) }
-    ensures beginning { TakesBeginning (S.taken sink.old) (S.taken sink.new)
+    ensures prefix { TakesPrefix (S.written sink.old) (S.written sink.new)
         (string_bytes out.old ++ harts_member state.now) }
     ensures failures { S.failures sink.new ≡ S.failures sink.old + failures_of result }
-    ensures place { S.place sink.new ≡ S.place sink.old }
+    ensures identity { S.identity sink.new ≡ S.identity sink.old }
 {
     out.push_str("\"harts\":")?;
     put_harts_json(alloc, out, sink, state.harts())
@@ -90,12 +90,12 @@ fn put_state_members<S: Sink>(
     sink: &mut S,
     state: &Loaded,
 ) -> Result<(), WriteFault>
-    ensures whole { OnOk result (TakesAllBut (S.taken sink.old) (S.taken sink.new)
+    ensures whole { OnOk result (TakesAllBut (S.written sink.old) (S.written sink.new)
         (string_bytes out.new) (string_bytes out.old ++ state_members state.now)) }
-    ensures beginning { TakesBeginning (S.taken sink.old) (S.taken sink.new)
+    ensures prefix { TakesPrefix (S.written sink.old) (S.written sink.new)
         (string_bytes out.old ++ state_members state.now) }
     ensures failures { S.failures sink.new ≡ S.failures sink.old + failures_of result }
-    ensures place { S.place sink.new ≡ S.place sink.old }
+    ensures identity { S.identity sink.new ≡ S.identity sink.old }
 {
     put_harts_member(alloc, out, sink, state)?;
     out.push_str(",\"mem\":")?;
@@ -111,12 +111,12 @@ pub fn put_state<S: Sink>(
     sink: &mut S,
     state: &Loaded,
 ) -> Result<(), WriteFault>
-    ensures whole { OnOk result (TakesAllBut (S.taken sink.old) (S.taken sink.new)
+    ensures whole { OnOk result (TakesAllBut (S.written sink.old) (S.written sink.new)
         (string_bytes out.new) (string_bytes out.old ++ shown_state format state.now)) }
-    ensures beginning { TakesBeginning (S.taken sink.old) (S.taken sink.new)
+    ensures prefix { TakesPrefix (S.written sink.old) (S.written sink.new)
         (string_bytes out.old ++ shown_state format state.now) }
     ensures failures { S.failures sink.new ≡ S.failures sink.old + failures_of result }
-    ensures place { S.place sink.new ≡ S.place sink.old }
+    ensures identity { S.identity sink.new ≡ S.identity sink.old }
 {
     match format {
         Format::Text => put_state_lines(out, sink, state),

@@ -6,7 +6,7 @@ ghost use Rattle.serde_json.specs.Written.{compact_text};
 ghost use Rattle.hart.specs.View.{state_of};
 ghost use Rattle.report_lines.specs.Texts.{line};
 ghost use Rattle.reports.specs.Json.{json_report};
-ghost use Rattle.sinks.specs.Sinks.{TakesBeginning};
+ghost use Rattle.sinks.specs.Sinks.{TakesPrefix};
 ghost use Rattle.sinks.specs.WriteFaults.{failures_of};
 ghost use Rattle.simulation.specs.Simulation.{IsRefusedRun, IsRunAnd, run_of_texts, json_of};
 ghost use Rattle.simulation.specs.Simulation.{is_reported, failures_of_run};
@@ -21,12 +21,12 @@ use std::alloc::Global;
 /// Writes the JSON report of what a view shows, in one line.
 #[tactic(auto, using(crate::proofs::LineLemmas::json_lines))]
 fn write_json_line<S: Sink>(alloc: Global, view: View<'_>, sink: &mut S) -> Result<(), ReportFault>
-    ensures whole { OnOk result (Appends (S.taken sink.old) (S.taken sink.new) (line (compact_text
+    ensures whole { OnOk result (Appends (S.written sink.old) (S.written sink.new) (line (compact_text
         (json_report view.entry.image.now view.entry.entries.now (state_of view.entry))))) }
-    ensures beginning { TakesBeginning (S.taken sink.old) (S.taken sink.new) (line (compact_text
+    ensures prefix { TakesPrefix (S.written sink.old) (S.written sink.new) (line (compact_text
         (json_report view.entry.image.now view.entry.entries.now (state_of view.entry)))) }
     ensures failures { S.failures sink.new ≡ S.failures sink.old + failures_of result }
-    ensures place { S.place sink.new ≡ S.place sink.old }
+    ensures identity { S.identity sink.new ≡ S.identity sink.old }
 {
     write_json(alloc, view, sink)?;
     put_whole(sink, b"\n")?;
@@ -43,13 +43,13 @@ pub fn simulate_json<S: Sink>(
 ) -> Result<Option<(usize, StepFault)>, SimFault>
     ensures shown { IfOk result (λ end.
         IsRunAnd (run_of_texts listing.now order.now limit) (λ run. (run.1 ≡ end)
-        × Appends (S.taken out.old) (S.taken out.new) (json_of run))) }
+        × Appends (S.written out.old) (S.written out.new) (json_of run))) }
     ensures refused { IfErr result (λ fault.
         IsRefusedRun (run_of_texts listing.now order.now limit)
-        (λ run. TakesBeginning (S.taken out.old) (S.taken out.new) (json_of run)) fault) }
+        (λ run. TakesPrefix (S.written out.old) (S.written out.new) (json_of run)) fault) }
     ensures untouched { IfErr result (λ fault. is_reported fault ≡ false → out.new ≡ out.old) }
     ensures failures { S.failures out.new ≡ S.failures out.old + failures_of_run result }
-    ensures place { S.place out.new ≡ S.place out.old }
+    ensures identity { S.identity out.new ≡ S.identity out.old }
 {
     let (core, refused) = run_texts(alloc, listing, order, limit)?;
     write_json_line(alloc, core.view(), out)?;

@@ -2,7 +2,7 @@
 
 ghost use Rattle.std.specs.Prelude.{◌≡◌, ◌+◌, IfOk, IfErr, false};
 ghost use Rattle.std.specs.Io.KnownBytes.{Appends};
-ghost use Rattle.sinks.specs.Sinks.{TakesBeginning};
+ghost use Rattle.sinks.specs.Sinks.{TakesPrefix};
 ghost use Rattle.simulation.specs.Simulation.{IsRefusedRun, IsRunAnd, run_of_texts, report_of};
 ghost use Rattle.simulation.specs.Simulation.{is_reported, failures_of_run};
 
@@ -16,7 +16,7 @@ use std::alloc::Global;
 /// its report. Answers the operation that was refused, if one was, with its place in the order
 /// counted from 0. Nothing is written before both texts are good; the listing is judged first, then
 /// the order, then the limit, which is from 1 to 100,000. After a fault of the report the sink took
-/// a beginning of it.
+/// a prefix of it.
 pub fn simulate<S: Sink>(
     alloc: Global,
     listing: &[u8],
@@ -26,13 +26,13 @@ pub fn simulate<S: Sink>(
 ) -> Result<Option<(usize, StepFault)>, SimFault>
     ensures shown { IfOk result (λ end.
         IsRunAnd (run_of_texts listing.now order.now limit) (λ run. (run.1 ≡ end)
-        × Appends (S.taken out.old) (S.taken out.new) (report_of run))) }
+        × Appends (S.written out.old) (S.written out.new) (report_of run))) }
     ensures refused { IfErr result (λ fault.
         IsRefusedRun (run_of_texts listing.now order.now limit)
-        (λ run. TakesBeginning (S.taken out.old) (S.taken out.new) (report_of run)) fault) }
+        (λ run. TakesPrefix (S.written out.old) (S.written out.new) (report_of run)) fault) }
     ensures untouched { IfErr result (λ fault. is_reported fault ≡ false → out.new ≡ out.old) }
     ensures failures { S.failures out.new ≡ S.failures out.old + failures_of_run result }
-    ensures place { S.place out.new ≡ S.place out.old }
+    ensures identity { S.identity out.new ≡ S.identity out.old }
 {
     let (core, refused) = run_texts(alloc, listing, order, limit)?;
     write_report(alloc, core.view(), out)?;

@@ -2,7 +2,7 @@
 use Rattle.std.proofs.Common.{◌≡◌, ℕ, ◌+◌, List, [], ◌++◌, Option, take, drop, refl, append_assoc, append-nil, take-append-drop, Result, Ok, Err, OnOk, arith}
 use Rattle.std.specs.Io.KnownBytes.{Appends}
 use Rattle.std.proofs.KnownBytes.{Appends-nil, Appends-trans}
-use Rattle.sinks.specs.Sinks.{TakesAllBut, TakesBeginning}
+use Rattle.sinks.specs.Sinks.{TakesAllBut, TakesPrefix}
 
 -- nothing was taken yet
 pub takes_none : (at : Option (List ℕ)) (text : List ℕ) → TakesAllBut at at text text
@@ -48,8 +48,8 @@ takes_then before now after kept rest left still text joined so_far more = recor
 
 -- the same where the put failed
 pub stops_then : (before now after : Option (List ℕ)) (kept rest left text : List ℕ)
-    → kept ++ rest ≡ left → TakesAllBut before now left text → TakesBeginning now after kept
-    → TakesBeginning before after text
+    → kept ++ rest ≡ left → TakesAllBut before now left text → TakesPrefix now after kept
+    → TakesPrefix before after text
 stops_then before now after kept rest left text joined so_far stop =
     (stop.0 ++ rest, takes_then before now after kept rest left stop.0 text joined so_far stop.1)
 
@@ -64,13 +64,13 @@ takes_on before now after kept still text more so_far next = record {
 }
 
 pub stops_on : (before now after : Option (List ℕ)) (kept text more : List ℕ)
-    → TakesAllBut before now kept text → TakesBeginning now after (kept ++ more)
-    → TakesBeginning before after (text ++ more)
+    → TakesAllBut before now kept text → TakesPrefix now after (kept ++ more)
+    → TakesPrefix before after (text ++ more)
 stops_on before now after kept text more so_far stop = (stop.0, takes_on before now after kept stop.0 text more so_far stop.1)
 
--- a beginning of a text is one of a longer text
+-- a prefix of a text is one of a longer text
 pub begins_on : (before after : Option (List ℕ)) (text more : List ℕ)
-    → TakesBeginning before after text → TakesBeginning before after (text ++ more)
+    → TakesPrefix before after text → TakesPrefix before after (text ++ more)
 begins_on before after text more begun = (
   begun.0 ++ more,
   record {

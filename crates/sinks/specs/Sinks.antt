@@ -8,9 +8,9 @@ pub record TakesAllBut (before after : Option (List ℕ)) (left text : List ℕ)
   pub grown : Appends before after taken
   pub parts : taken ++ left ≡ text
 
--- Between two moments a sink that tells its bytes took a beginning of a text.
-abbrev pub TakesBeginning : Option (List ℕ) → Option (List ℕ) → List ℕ → Type 0
-TakesBeginning before after text = (left : List ℕ) × TakesAllBut before after left text
+-- Between two moments a sink that tells its bytes took a prefix of a text.
+abbrev pub TakesPrefix : Option (List ℕ) → Option (List ℕ) → List ℕ → Type 0
+TakesPrefix before after text = (left : List ℕ) × TakesAllBut before after left text
 
 -- A sink in memory: its bytes, the most that a put takes, how many puts from now on one fails, or 0
 -- where none does, and how many have failed.

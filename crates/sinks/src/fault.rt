@@ -6,7 +6,7 @@ use crate::sink::SinkFailed;
 use std::alloc::AllocError;
 use thiserror::Error;
 
-/// Why a text was not written: the sink took a beginning of it.
+/// Why a text was not written: the sink took a prefix of it.
 #[derive(Clone, Copy, Debug, PartialEq, Eq, Error)]
 pub enum WriteFault {
     /// The sink failed.

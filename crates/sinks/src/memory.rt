@@ -61,7 +61,7 @@ impl MemSink {
 impl Sink for MemSink {
     ghost failures = { λ s. s.failures };
 
-    ghost taken = { λ s. Some s.bytes };
+    ghost written = { λ s. Some s.bytes };
 
     /// A put that finds no memory fails too.
     fn put(&mut self, piece: &[u8]) -> Result<usize, SinkFailed>

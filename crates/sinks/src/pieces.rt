@@ -1,7 +1,7 @@
 //! A long text in pieces: what is kept is put when another part might not fit after it.
 
 ghost use Rattle.std.specs.Prelude.{◌≡◌, ◌+◌, ◌≤◌, OnOk, length, string_bytes};
-ghost use Rattle.sinks.specs.Sinks.{TakesAllBut, TakesBeginning};
+ghost use Rattle.sinks.specs.Sinks.{TakesAllBut, TakesPrefix};
 ghost use Rattle.sinks.specs.WriteFaults.{failures_of};
 
 use crate::fault::WriteFault;
@@ -18,12 +18,12 @@ pub const PART: usize = 8_192;
 /// one.
 pub fn make_room<S: Sink>(out: &mut String, sink: &mut S) -> Result<(), WriteFault>
     ensures room { OnOk result (length (string_bytes out.new) + PART ≤ PIECE) }
-    ensures whole { OnOk result (TakesAllBut (S.taken sink.old) (S.taken sink.new)
+    ensures whole { OnOk result (TakesAllBut (S.written sink.old) (S.written sink.new)
         (string_bytes out.new) (string_bytes out.old)) }
-    ensures beginning { TakesBeginning (S.taken sink.old) (S.taken sink.new)
+    ensures prefix { TakesPrefix (S.written sink.old) (S.written sink.new)
         (string_bytes out.old) }
     ensures failures { S.failures sink.new ≡ S.failures sink.old + failures_of result }
-    ensures place { S.place sink.new ≡ S.place sink.old }
+    ensures identity { S.identity sink.new ≡ S.identity sink.old }
 {
     if out.len() > PIECE - PART {
         put_whole(sink, out.as_bytes())?;

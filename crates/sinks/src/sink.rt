@@ -3,7 +3,7 @@
 ghost use Rattle.std.specs.Prelude.{◌≡◌, ◌+◌, ◌<◌, ◌≤◌, ◌∷◌, ℕ, List, [], Option, None};
 ghost use Rattle.std.specs.Prelude.{length, IfOk, OnOk, MatchResult};
 ghost use Rattle.std.specs.Io.KnownBytes.{Appends, WriteAppends};
-ghost use Rattle.sinks.specs.Sinks.{TakesBeginning};
+ghost use Rattle.sinks.specs.Sinks.{TakesPrefix};
 
 use thiserror::Error;
 
@@ -18,29 +18,29 @@ pub trait Sink {
     ghost failures: { Self → ℕ };
 
     /// The bytes that were taken, where the sink tells them.
-    ghost taken: { Self → Option (List ℕ) } = { λ _. None };
+    ghost written: { Self → Option (List ℕ) } = { λ _. None };
 
-    /// Which sinks a lent sink lends on, so that a caller knows it for the same one afterwards.
-    ghost place: { Self → List ℕ } = { λ _. [] };
+    /// Identity of the sink behind a `&mut`.
+    ghost identity: { Self → List ℕ } = { λ _. [] };
 
     /// Takes the first bytes of a piece and answers how many: at least one of a piece that is
     /// not empty. A failed put takes none.
     fn put(&mut self, piece: &[u8]) -> Result<usize, SinkFailed>
         ensures most { IfOk result (λ n. n ≤ length piece.now) }
         ensures least { IfOk result (λ n. 0 < length piece.now → 0 < n) }
-        ensures bytes { WriteAppends (taken self.old) (taken self.new) result piece.now }
+        ensures bytes { WriteAppends (written self.old) (written self.new) result piece.now }
         ensures count { MatchResult result
             (λ _. failures self.new ≡ failures self.old)
             (λ _. failures self.new ≡ failures self.old + 1) }
-        ensures place { place self.new ≡ place self.old };
+        ensures identity { identity self.new ≡ identity self.old };
 }
 
 impl<S: Sink> Sink for &mut S {
     ghost failures = { λ s. S.failures s.now };
 
-    ghost taken = { λ s. S.taken s.now };
+    ghost written = { λ s. S.written s.now };
 
-    ghost place = { λ s. s.ghost_name ∷ S.place s.now };
+    ghost identity = { λ s. s.ghost_name ∷ S.identity s.now };
 
     fn put(&mut self, piece: &[u8]) -> Result<usize, SinkFailed> {
         (**self).put(piece)
@@ -49,12 +49,12 @@ impl<S: Sink> Sink for &mut S {
 
 /// Puts all of a piece, whatever part each put takes of what is left.
 pub fn put_whole<S: Sink>(sink: &mut S, piece: &[u8]) -> Result<(), SinkFailed>
-    ensures whole { OnOk result (Appends (S.taken sink.old) (S.taken sink.new) piece.now) }
-    ensures beginning { TakesBeginning (S.taken sink.old) (S.taken sink.new) piece.now }
+    ensures whole { OnOk result (Appends (S.written sink.old) (S.written sink.new) piece.now) }
+    ensures prefix { TakesPrefix (S.written sink.old) (S.written sink.new) piece.now }
     ensures count { MatchResult result
         (λ _. S.failures sink.new ≡ S.failures sink.old)
         (λ _. S.failures sink.new ≡ S.failures sink.old + 1) }
-    ensures place { S.place sink.new ≡ S.place sink.old }
+    ensures identity { S.identity sink.new ≡ S.identity sink.old }
 {
     let mut left = piece;
     while !left.is_empty() {

@@ -58,9 +58,9 @@ impl<'a, W: Write> ToWrite<'a, W> {
 impl<W: Write> Sink for ToWrite<'_, W> {
     ghost failures = { λ s. s.failures };
 
-    ghost taken = { λ s. W.contents s.writer.now };
+    ghost written = { λ s. W.contents s.writer.now };
 
-    ghost place = { λ s. s.writer.ghost_name ∷ [] };
+    ghost identity = { λ s. s.writer.ghost_name ∷ [] };
 
     /// A write that fails, or that takes nothing of a piece that is not empty, is a failure.
     fn put(&mut self, piece: &[u8]) -> Result<usize, SinkFailed> {

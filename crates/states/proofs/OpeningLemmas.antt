@@ -5,7 +5,7 @@ use Rattle.std.proofs.lemmas.List.{length-map, length-replicate}
 use Rattle.cap_model.specs.values.CapValue.{CapValue, raw}
 use Rattle.cheri_model.specs.steps.Memory.{granule_number, store_capability, cleared_memory}
 use Rattle.cheri_model.specs.runs.Image.{ImageParts, opening_hart, opening_memory}
-use Rattle.cheri_model.specs.runs.ImageForm.{is_image}
+use Rattle.cheri_model.specs.runs.ImageRules.{is_image}
 use Rattle.cheri_model.specs.runs.Machine.{opening_state}
 use Rattle.cheri_model.proofs.Granules.ImageGranules.{image_ram}
 

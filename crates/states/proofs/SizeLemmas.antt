@@ -6,7 +6,7 @@ use Rattle.std.proofs.lemmas.Bool.Decides.{nat_tests}
 use Rattle.std.proofs.lemmas.Option.{none-some}
 use Rattle.cheri_model.specs.declared.instr.Instr.{Instr}
 use Rattle.cheri_model.specs.runs.Image.{ImageParts}
-use Rattle.cheri_model.specs.runs.ImageForm.{is_image, are_sizes, is_between}
+use Rattle.cheri_model.specs.runs.ImageRules.{is_image, are_sizes, is_between}
 use Rattle.state_store.specs.Stores.{Stored}
 use Rattle.states.specs.Locals.{IsTabled}
 

@@ -4,7 +4,7 @@ use Rattle.std.specs.Prelude.{if◌then◌else◌, true}
 use Rattle.cap_model.specs.values.CapValue.{CapValue}
 use Rattle.cheri_model.specs.steps.Hart.{HartState}
 use Rattle.cheri_model.specs.runs.Image.{ImageParts}
-use Rattle.cheri_model.specs.runs.ImageForm.{is_image}
+use Rattle.cheri_model.specs.runs.ImageRules.{is_image}
 use Rattle.cheri_model.specs.runs.Machine.{MachineState, is_running}
 use Rattle.interner.specs.Rows.{Rows}
 use Rattle.schedules.specs.declared.ranges.SweepRange.{SweepRange}

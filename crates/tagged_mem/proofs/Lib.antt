@@ -1,5 +1,5 @@
 pub mod ClearedMemory
-pub mod Open
+pub mod Unfold
 pub mod PackedBytes
 pub mod PackedTags
 pub mod PackedRam

@@ -1,5 +1,5 @@
 //! The bytes of RAM, in the order of their addresses, and a bitmap with one tag for each granule.
-#![tactic(auto, unfolding(crate::proofs::Open::packed))]
+#![tactic(auto, unfolding(crate::proofs::Unfold::packed))]
 
 ghost use Rattle.std.specs.Prelude.{◌≡◌, ◌≢◌, ◌+◌, ◌/◌, ◌%◌, ◌^◌, ◌*◌, ◌<◌, ◌≤◌, ℕ, length};
 ghost use Rattle.std.specs.Int.{bit_at};
@@ -11,71 +11,71 @@ ghost use Rattle.tagged_mem.specs.Packed.{number_at, with_number, tag_at};
 use cap_ops::Cap;
 use cheri_model::{Value, Width};
 
-/// The word of the sixteen bytes from `place` on.
-pub fn word_at(bytes: &[u8], place: usize) -> u128
-    requires { place + 16 ≤ length bytes.now }
-    ensures { result ≡ number_at bytes.now place 16 }
+/// The word of the sixteen bytes from `index` on.
+pub fn word_at(bytes: &[u8], index: usize) -> u128
+    requires { index + 16 ≤ length bytes.now }
+    ensures { result ≡ number_at bytes.now index 16 }
 {
-    u128::from(double_at(bytes, place)) | u128::from(double_at(bytes, place + 8)) << 64
+    u128::from(double_at(bytes, index)) | u128::from(double_at(bytes, index + 8)) << 64
 }
 
-/// The number of the eight bytes from `place` on.
-pub fn double_at(bytes: &[u8], place: usize) -> u64
-    requires { place + 8 ≤ length bytes.now }
-    ensures { result ≡ number_at bytes.now place 8 }
+/// The number of the eight bytes from `index` on.
+pub fn double_at(bytes: &[u8], index: usize) -> u64
+    requires { index + 8 ≤ length bytes.now }
+    ensures { result ≡ number_at bytes.now index 8 }
 {
     u64::from_le_bytes([
-        bytes[place],
-        bytes[place + 1],
-        bytes[place + 2],
-        bytes[place + 3],
-        bytes[place + 4],
-        bytes[place + 5],
-        bytes[place + 6],
-        bytes[place + 7],
+        bytes[index],
+        bytes[index + 1],
+        bytes[index + 2],
+        bytes[index + 3],
+        bytes[index + 4],
+        bytes[index + 5],
+        bytes[index + 6],
+        bytes[index + 7],
     ])
 }
 
-/// The number of the bytes from `place` on, as many as `width` has.
-pub fn data_at(bytes: &[u8], place: usize, width: Width) -> u64
-    requires { place + bytes_of width ≤ length bytes.now }
-    ensures { result ≡ number_at bytes.now place (bytes_of width) }
+/// The number of the bytes from `index` on, as many as `width` has.
+pub fn data_at(bytes: &[u8], index: usize, width: Width) -> u64
+    requires { index + bytes_of width ≤ length bytes.now }
+    ensures { result ≡ number_at bytes.now index (bytes_of width) }
 {
     match width {
-        Width::Byte => u64::from(bytes[place]),
-        Width::Half => u64::from(u16::from_le_bytes([bytes[place], bytes[place + 1]])),
+        Width::Byte => u64::from(bytes[index]),
+        Width::Half => u64::from(u16::from_le_bytes([bytes[index], bytes[index + 1]])),
         Width::Word => u64::from(u32::from_le_bytes([
-            bytes[place],
-            bytes[place + 1],
-            bytes[place + 2],
-            bytes[place + 3],
+            bytes[index],
+            bytes[index + 1],
+            bytes[index + 2],
+            bytes[index + 3],
         ])),
-        Width::Double => double_at(bytes, place),
+        Width::Double => double_at(bytes, index),
     }
 }
 
-/// Replaces the bytes from `place` on, `count` of them, by the low ones of a number.
-pub fn put_bytes(bytes: &mut [u8], place: usize, count: usize, number: u128)
-    requires { place + count ≤ length bytes.old }
-    ensures { bytes.new ≡ with_number bytes.old place count number }
+/// Replaces the bytes from `index` on, `count` of them, by the low ones of a number.
+pub fn put_bytes(bytes: &mut [u8], index: usize, count: usize, number: u128)
+    requires { index + count ≤ length bytes.old }
+    ensures { bytes.new ≡ with_number bytes.old index count number }
 {
     let mut rest = number;
     for k in 0..count {
-        bytes[place + k] = (rest % 256) as u8;
+        bytes[index + k] = (rest % 256) as u8;
         rest /= 256;
     }
 }
 
 /// The byte with one bit replaced.
-fn with_bit(byte: u8, place: usize, set: bool) -> u8
-    requires { place < 8 }
-    ensures there { bit_at result place ≡ number_of set }
-    ensures others { (k : ℕ) → k < 8 → k ≢ place → bit_at result k ≡ bit_at byte k }
+fn with_bit(byte: u8, index: usize, set: bool) -> u8
+    requires { index < 8 }
+    ensures there { bit_at result index ≡ number_of set }
+    ensures others { (k : ℕ) → k < 8 → k ≢ index → bit_at result k ≡ bit_at byte k }
 {
     if set {
-        byte | 1 << place
+        byte | 1 << index
     } else {
-        byte & !(1 << place)
+        byte & !(1 << index)
     }
 }
 

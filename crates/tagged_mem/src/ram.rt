@@ -1,6 +1,6 @@
 //! RAM as its bytes and a bitmap of tags. A data access touches its bytes and one bit; a capability
 //! is unpacked where it is loaded and packed where it is stored.
-#![tactic(auto, unfolding(crate::proofs::Open::memory))]
+#![tactic(auto, unfolding(crate::proofs::Unfold::memory))]
 
 ghost use Rattle.std.specs.Prelude.{
   ◌≡◌,
@@ -163,9 +163,9 @@ impl Ram {
         requires { IsTrue (fits self.old addr (bytes_of width)) }
         ensures { self.new ≡ store_data self.old addr (bytes_of width) number }
     {
-        let place = (addr - RAM_BASE) as usize;
+        let index = (addr - RAM_BASE) as usize;
         let count = width.bytes() as usize;
-        put_bytes(&mut self.bytes, place, count, u128::from(number));
+        put_bytes(&mut self.bytes, index, count, u128::from(number));
         put_tag(&mut self.tags, granule_number(addr), false);
     }
 
@@ -183,8 +183,8 @@ impl Ram {
         requires { IsTrue (fits self.old addr 16) }
         ensures { self.new ≡ store_capability self.old addr value }
     {
-        let place = (addr - RAM_BASE) as usize;
-        put_bytes(&mut self.bytes, place, 16, value.bits());
+        let index = (addr - RAM_BASE) as usize;
+        put_bytes(&mut self.bytes, index, 16, value.bits());
         put_tag(&mut self.tags, granule_number(addr), value.tag());
     }
 

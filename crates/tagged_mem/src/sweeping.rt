@@ -46,19 +46,19 @@ fn sweep_granules(bytes: &[u8], tags: &mut [u8], from: usize, to: usize, lo: u64
 }
 
 /// Sweeps the granules whose tags one byte of the bitmap has: eight, or fewer at the end of RAM.
-fn sweep_byte(bytes: &[u8], tags: &mut [u8], place: usize, lo: u64, hi: u128) -> u32
+fn sweep_byte(bytes: &[u8], tags: &mut [u8], index: usize, lo: u64, hi: u128) -> u32
     requires packed { IsPackedRam bytes.now tags.old }
-    requires inside { 8 * place < length bytes.now / 16 }
-    ensures swept { let end = min (8 * (place + 1)) (length bytes.now / 16) in
-        IsSweptBetween lo hi bytes.now tags.old tags.new (8 * place) end }
-    ensures cleared { let end = min (8 * (place + 1)) (length bytes.now / 16) in
-        result ≡ cleared_between lo hi bytes.now tags.old (8 * place) end }
+    requires inside { 8 * index < length bytes.now / 16 }
+    ensures swept { let end = min (8 * (index + 1)) (length bytes.now / 16) in
+        IsSweptBetween lo hi bytes.now tags.old tags.new (8 * index) end }
+    ensures cleared { let end = min (8 * (index + 1)) (length bytes.now / 16) in
+        result ≡ cleared_between lo hi bytes.now tags.old (8 * index) end }
 {
-    if tags[place] == 0 {
+    if tags[index] == 0 {
         return 0;
     }
-    let end = (8 * (place + 1)).min(bytes.len() / 16);
-    sweep_granules(bytes, tags, 8 * place, end, lo, hi)
+    let end = (8 * (index + 1)).min(bytes.len() / 16);
+    sweep_granules(bytes, tags, 8 * index, end, lo, hi)
 }
 
 /// Sweeps all granules, and says how many tags that clears.
@@ -68,8 +68,8 @@ pub fn sweep_tags(bytes: &[u8], tags: &mut [u8], lo: u64, hi: u128) -> u32
     ensures cleared { result ≡ cleared_between lo hi bytes.now tags.old 0 (length bytes.now / 16) }
 {
     let mut cleared = 0;
-    for place in 0..bytes.len().div_ceil(128) {
-        cleared += sweep_byte(bytes, tags, place, lo, hi);
+    for index in 0..bytes.len().div_ceil(128) {
+        cleared += sweep_byte(bytes, tags, index, lo, hi);
     }
     cleared
 }

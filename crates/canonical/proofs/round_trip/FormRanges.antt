@@ -18,7 +18,7 @@ use Rattle.cheri_model.specs.declared.names.Mnemonic.TheVariants.{Three, Two, Im
 use Rattle.grammar.specs.Faults.{◌>>=◌}
 use Rattle.grammar.specs.Tokens.{token_at}
 use Rattle.grammar.specs.Operands.{register_of, immediate_of, immediate_of_12_bits, immediate_up_to, memory_operand_of}
-use Rattle.grammar.specs.Labels.{PlaceParts, target_operand_of, target_of}
+use Rattle.grammar.specs.Labels.{LabelParts, target_operand_of, target_of}
 use Rattle.grammar.specs.Forms.{counted, three_form, two_form, immediate_form, shift_form, word_shift_form, set_bounds_form, upper_form, load_form, store_form, swap_form, branch_form, jump_form, invoke_form, alone_form, form_from}
 use Rattle.canonical.specs.Listable.{IsReadable}
 use Rattle.canonical.proofs.round_trip.Ranges.{then_ok, register_ok, twelve_ok, up_to_ok, memory_ok, IsBounded, target_ok}
@@ -121,24 +121,24 @@ swap_ok count tokens whole e =
     let s3 = then_ok (register_of (token_at tokens 3)) (λ c2. Ok (form.Swap s1.0 s2.0 c2)) whole s2.2 in
     subst (OnRead count) s3.2 (register_ok (token_at tokens 1) s1.0 s1.1, register_ok (token_at tokens 2) s2.0 s2.1, register_ok (token_at tokens 3) s3.0 s3.1)
 
-branch_ok : (count : ℕ) (places : PlaceParts) (op : BranchOp) (tokens : List (List ℕ)) (whole : Form) → places.instructions ≤ count → IsBounded places → branch_form places op tokens ≡ Ok whole → IsReadable count whole
+branch_ok : (count : ℕ) (labels : LabelParts) (op : BranchOp) (tokens : List (List ℕ)) (whole : Form) → labels.instructions ≤ count → IsBounded labels → branch_form labels op tokens ≡ Ok whole → IsReadable count whole
 unfolding branch_form
-branch_ok count places op tokens whole few bounded e =
-    let s0 = then_ok (counted 4 tokens) (λ c. register_of (token_at tokens 1) >>= (λ c1. register_of (token_at tokens 2) >>= (λ c2. target_operand_of places (token_at tokens 3) >>= (λ operand. target_of places operand >>= (λ place. Ok (form.Branch op c1 c2 place)))))) whole e in
-    let s1 = then_ok (register_of (token_at tokens 1)) (λ c1. register_of (token_at tokens 2) >>= (λ c2. target_operand_of places (token_at tokens 3) >>= (λ operand. target_of places operand >>= (λ place. Ok (form.Branch op c1 c2 place))))) whole s0.2 in
-    let s2 = then_ok (register_of (token_at tokens 2)) (λ c2. target_operand_of places (token_at tokens 3) >>= (λ operand. target_of places operand >>= (λ place. Ok (form.Branch op s1.0 c2 place)))) whole s1.2 in
-    let s3 = then_ok (target_operand_of places (token_at tokens 3)) (λ operand. target_of places operand >>= (λ place. Ok (form.Branch op s1.0 s2.0 place))) whole s2.2 in
-    let s4 = then_ok (target_of places s3.0) (λ place. Ok (form.Branch op s1.0 s2.0 place)) whole s3.2 in
-    subst (OnRead count) s4.2 (register_ok (token_at tokens 1) s1.0 s1.1, register_ok (token_at tokens 2) s2.0 s2.1, (let most = target_ok places (token_at tokens 3) s3.0 s4.0 bounded s3.1 s4.1 in omega arith))
+branch_ok count labels op tokens whole few bounded e =
+    let s0 = then_ok (counted 4 tokens) (λ c. register_of (token_at tokens 1) >>= (λ c1. register_of (token_at tokens 2) >>= (λ c2. target_operand_of labels (token_at tokens 3) >>= (λ operand. target_of labels operand >>= (λ place. Ok (form.Branch op c1 c2 place)))))) whole e in
+    let s1 = then_ok (register_of (token_at tokens 1)) (λ c1. register_of (token_at tokens 2) >>= (λ c2. target_operand_of labels (token_at tokens 3) >>= (λ operand. target_of labels operand >>= (λ place. Ok (form.Branch op c1 c2 place))))) whole s0.2 in
+    let s2 = then_ok (register_of (token_at tokens 2)) (λ c2. target_operand_of labels (token_at tokens 3) >>= (λ operand. target_of labels operand >>= (λ place. Ok (form.Branch op s1.0 c2 place)))) whole s1.2 in
+    let s3 = then_ok (target_operand_of labels (token_at tokens 3)) (λ operand. target_of labels operand >>= (λ place. Ok (form.Branch op s1.0 s2.0 place))) whole s2.2 in
+    let s4 = then_ok (target_of labels s3.0) (λ place. Ok (form.Branch op s1.0 s2.0 place)) whole s3.2 in
+    subst (OnRead count) s4.2 (register_ok (token_at tokens 1) s1.0 s1.1, register_ok (token_at tokens 2) s2.0 s2.1, (let most = target_ok labels (token_at tokens 3) s3.0 s4.0 bounded s3.1 s4.1 in omega arith))
 
-jump_ok : (count : ℕ) (places : PlaceParts) (tokens : List (List ℕ)) (whole : Form) → places.instructions ≤ count → IsBounded places → jump_form places tokens ≡ Ok whole → IsReadable count whole
+jump_ok : (count : ℕ) (labels : LabelParts) (tokens : List (List ℕ)) (whole : Form) → labels.instructions ≤ count → IsBounded labels → jump_form labels tokens ≡ Ok whole → IsReadable count whole
 unfolding jump_form
-jump_ok count places tokens whole few bounded e =
-    let s0 = then_ok (counted 3 tokens) (λ c. register_of (token_at tokens 1) >>= (λ cd. target_operand_of places (token_at tokens 2) >>= (λ operand. target_of places operand >>= (λ place. Ok (form.Jump cd place))))) whole e in
-    let s1 = then_ok (register_of (token_at tokens 1)) (λ cd. target_operand_of places (token_at tokens 2) >>= (λ operand. target_of places operand >>= (λ place. Ok (form.Jump cd place)))) whole s0.2 in
-    let s2 = then_ok (target_operand_of places (token_at tokens 2)) (λ operand. target_of places operand >>= (λ place. Ok (form.Jump s1.0 place))) whole s1.2 in
-    let s3 = then_ok (target_of places s2.0) (λ place. Ok (form.Jump s1.0 place)) whole s2.2 in
-    subst (OnRead count) s3.2 (register_ok (token_at tokens 1) s1.0 s1.1, (let most = target_ok places (token_at tokens 2) s2.0 s3.0 bounded s2.1 s3.1 in omega arith))
+jump_ok count labels tokens whole few bounded e =
+    let s0 = then_ok (counted 3 tokens) (λ c. register_of (token_at tokens 1) >>= (λ cd. target_operand_of labels (token_at tokens 2) >>= (λ operand. target_of labels operand >>= (λ place. Ok (form.Jump cd place))))) whole e in
+    let s1 = then_ok (register_of (token_at tokens 1)) (λ cd. target_operand_of labels (token_at tokens 2) >>= (λ operand. target_of labels operand >>= (λ place. Ok (form.Jump cd place)))) whole s0.2 in
+    let s2 = then_ok (target_operand_of labels (token_at tokens 2)) (λ operand. target_of labels operand >>= (λ place. Ok (form.Jump s1.0 place))) whole s1.2 in
+    let s3 = then_ok (target_of labels s2.0) (λ place. Ok (form.Jump s1.0 place)) whole s2.2 in
+    subst (OnRead count) s3.2 (register_ok (token_at tokens 1) s1.0 s1.1, (let most = target_ok labels (token_at tokens 2) s2.0 s3.0 bounded s2.1 s3.1 in omega arith))
 
 invoke_ok : (count : ℕ) (tokens : List (List ℕ)) (whole : Form) → invoke_form tokens ≡ Ok whole → IsReadable count whole
 unfolding invoke_form
@@ -155,20 +155,20 @@ alone_ok count tokens whole e =
     subst (OnRead count) s0.2 (tt)
 
 -- an instruction's operands are in their ranges, where no label is past the last instruction line
-pub form_ok : (count : ℕ) (places : PlaceParts) (mnemonic : Mnemonic) (tokens : List (List ℕ)) (whole : Form) → places.instructions ≤ count → IsBounded places
-    → form_from places mnemonic tokens ≡ Ok whole → IsReadable count whole
+pub form_ok : (count : ℕ) (labels : LabelParts) (mnemonic : Mnemonic) (tokens : List (List ℕ)) (whole : Form) → labels.instructions ≤ count → IsBounded labels
+    → form_from labels mnemonic tokens ≡ Ok whole → IsReadable count whole
 unfolding form_from
-form_ok count places (Three op) tokens whole few bounded e = three_ok count op tokens whole e
-form_ok count places (Two op) tokens whole few bounded e = two_ok count op tokens whole e
-form_ok count places (Immediate op) tokens whole few bounded e = immediate_ok count op tokens whole e
-form_ok count places (Shift op) tokens whole few bounded e = shift_ok count op tokens whole e
-form_ok count places (WordShift op) tokens whole few bounded e = word_shift_ok count op tokens whole e
-form_ok count places SetBoundsImm tokens whole few bounded e = set_bounds_ok count tokens whole e
-form_ok count places (Upper op) tokens whole few bounded e = upper_ok count op tokens whole e
-form_ok count places (Load op) tokens whole few bounded e = load_ok count op tokens whole e
-form_ok count places (Store op) tokens whole few bounded e = store_ok count op tokens whole e
-form_ok count places Swap tokens whole few bounded e = swap_ok count tokens whole e
-form_ok count places (Branch op) tokens whole few bounded e = branch_ok count places op tokens whole few bounded e
-form_ok count places Jump tokens whole few bounded e = jump_ok count places tokens whole few bounded e
-form_ok count places Invoke tokens whole few bounded e = invoke_ok count tokens whole e
-form_ok count places Alone tokens whole few bounded e = alone_ok count tokens whole e
+form_ok count labels (Three op) tokens whole few bounded e = three_ok count op tokens whole e
+form_ok count labels (Two op) tokens whole few bounded e = two_ok count op tokens whole e
+form_ok count labels (Immediate op) tokens whole few bounded e = immediate_ok count op tokens whole e
+form_ok count labels (Shift op) tokens whole few bounded e = shift_ok count op tokens whole e
+form_ok count labels (WordShift op) tokens whole few bounded e = word_shift_ok count op tokens whole e
+form_ok count labels SetBoundsImm tokens whole few bounded e = set_bounds_ok count tokens whole e
+form_ok count labels (Upper op) tokens whole few bounded e = upper_ok count op tokens whole e
+form_ok count labels (Load op) tokens whole few bounded e = load_ok count op tokens whole e
+form_ok count labels (Store op) tokens whole few bounded e = store_ok count op tokens whole e
+form_ok count labels Swap tokens whole few bounded e = swap_ok count tokens whole e
+form_ok count labels (Branch op) tokens whole few bounded e = branch_ok count labels op tokens whole few bounded e
+form_ok count labels Jump tokens whole few bounded e = jump_ok count labels tokens whole few bounded e
+form_ok count labels Invoke tokens whole few bounded e = invoke_ok count tokens whole e
+form_ok count labels Alone tokens whole few bounded e = alone_ok count tokens whole e

@@ -18,7 +18,7 @@ use Rattle.cheri_model.specs.declared.names.Mnemonic.TheVariants as mnemonic
 use Rattle.canonical.specs.Listable.{Is12Bits, IsReadable}
 use Rattle.cheri_model.specs.declared.operands.TheConstants.{MAX_SHIFT, MAX_WORD_SHIFT, MAX_IMMEDIATE_LENGTH, MAX_UPPER_IMMEDIATE}
 use Rattle.grammar.specs.Tokens.{token_at}
-use Rattle.grammar.specs.Labels.{PlaceParts}
+use Rattle.grammar.specs.Labels.{LabelParts}
 use Rattle.grammar.specs.Forms.{counted, three_form, two_form, immediate_form, shift_form, word_shift_form, set_bounds_form, upper_form, load_form, store_form, swap_form, branch_form, jump_form, invoke_form, alone_form, form_from}
 use Rattle.cheri_model.specs.instructions.Names.{name_of}
 use Rattle.notation.specs.Instructions.{form_text}
@@ -34,7 +34,7 @@ pub record ReadsAs (count : ℕ) (text : List ℕ) (whole : Form) : Type 0 where
   pub operands : List (List ℕ)
   pub named : IsName name mnemonic
   pub line : IsLine text (name ∷ operands)
-  pub read : (places : PlaceParts) → count ≤ places.instructions → form_from places mnemonic (name ∷ operands) ≡ Ok whole
+  pub read : (labels : LabelParts) → count ≤ labels.instructions → form_from labels mnemonic (name ∷ operands) ≡ Ok whole
 
 -- the operands of each form read back after any name
 module _ (name : List ℕ) where
@@ -78,14 +78,14 @@ module _ (name : List ℕ) where
   unfolding swap_form counted token_at
   swap_back cd c2 c1 p q r = rw (register_reads cd p, register_reads c2 q, register_reads c1 r) refl
 
-  branch_back : (places : PlaceParts) (op : BranchOp) (c1 c2 target : ℕ) → c1 < 32 → c2 < 32 → target < 2 ^ 128 → target ≤ places.instructions
-      → branch_form places op (name ∷ reg_text c1 ∷ reg_text c2 ∷ target_text target ∷ []) ≡ Ok (Branch op c1 c2 target)
+  branch_back : (labels : LabelParts) (op : BranchOp) (c1 c2 target : ℕ) → c1 < 32 → c2 < 32 → target < 2 ^ 128 → target ≤ labels.instructions
+      → branch_form labels op (name ∷ reg_text c1 ∷ reg_text c2 ∷ target_text target ∷ []) ≡ Ok (Branch op c1 c2 target)
   unfolding branch_form counted token_at
-  branch_back places op c1 c2 target p q low r = rw (register_reads c1 p, register_reads c2 q, target_reads places target low, target_in_range places target r) refl
+  branch_back labels op c1 c2 target p q low r = rw (register_reads c1 p, register_reads c2 q, target_reads labels target low, target_in_range labels target r) refl
 
-  jump_back : (places : PlaceParts) (cd target : ℕ) → cd < 32 → target < 2 ^ 128 → target ≤ places.instructions → jump_form places (name ∷ reg_text cd ∷ target_text target ∷ []) ≡ Ok (Jump cd target)
+  jump_back : (labels : LabelParts) (cd target : ℕ) → cd < 32 → target < 2 ^ 128 → target ≤ labels.instructions → jump_form labels (name ∷ reg_text cd ∷ target_text target ∷ []) ≡ Ok (Jump cd target)
   unfolding jump_form counted token_at
-  jump_back places cd target p low q = rw (register_reads cd p, target_reads places target low, target_in_range places target q) refl
+  jump_back labels cd target p low q = rw (register_reads cd p, target_reads labels target low, target_in_range labels target q) refl
 
   invoke_back : (c1 c2 : ℕ) → c1 < 32 → c2 < 32 → invoke_form (name ∷ reg_text c1 ∷ reg_text c2 ∷ []) ≡ Ok (Invoke c1 c2)
   unfolding invoke_form counted token_at
@@ -105,7 +105,7 @@ form_reads count (Three op cd c1 c2) few h =
       operands = reg_text cd ∷ reg_text c1 ∷ reg_text c2 ∷ [];
       named = named (mnemonic.Three op);
       line = then_space (name_of (mnemonic.Three op)) _ _ (named (mnemonic.Three op)).word (then_comma (reg_text cd) _ _ (register_word cd h.0) (then_comma (reg_text c1) _ _ (register_word c1 h.1) (last_word (reg_text c2) (register_word c2 h.2))));
-      read = λ places enough. three_back (name_of (mnemonic.Three op)) op cd c1 c2 h.0 h.1 h.2;
+      read = λ labels enough. three_back (name_of (mnemonic.Three op)) op cd c1 c2 h.0 h.1 h.2;
     }
 form_reads count (Two op cd c1) few h =
     record {
@@ -114,7 +114,7 @@ form_reads count (Two op cd c1) few h =
       operands = reg_text cd ∷ reg_text c1 ∷ [];
       named = named (mnemonic.Two op);
       line = then_space (name_of (mnemonic.Two op)) _ _ (named (mnemonic.Two op)).word (then_comma (reg_text cd) _ _ (register_word cd h.0) (last_word (reg_text c1) (register_word c1 h.1)));
-      read = λ places enough. two_back (name_of (mnemonic.Two op)) op cd c1 h.0 h.1;
+      read = λ labels enough. two_back (name_of (mnemonic.Two op)) op cd c1 h.0 h.1;
     }
 form_reads count (Immediate op cd c1 imm) few h =
     record {
@@ -123,7 +123,7 @@ form_reads count (Immediate op cd c1 imm) few h =
       operands = reg_text cd ∷ reg_text c1 ∷ signed_decimal imm ∷ [];
       named = named (mnemonic.Immediate op);
       line = then_space (name_of (mnemonic.Immediate op)) _ _ (named (mnemonic.Immediate op)).word (then_comma (reg_text cd) _ _ (register_word cd h.0) (then_comma (reg_text c1) _ _ (register_word c1 h.1) (last_word (signed_decimal imm) (signed_word imm h.2))));
-      read = λ places enough. immediate_back (name_of (mnemonic.Immediate op)) op cd c1 imm h.0 h.1 h.2;
+      read = λ labels enough. immediate_back (name_of (mnemonic.Immediate op)) op cd c1 imm h.0 h.1 h.2;
     }
 form_reads count (Shift op cd c1 amount) few h =
     record {
@@ -132,7 +132,7 @@ form_reads count (Shift op cd c1 amount) few h =
       operands = reg_text cd ∷ reg_text c1 ∷ decimal amount ∷ [];
       named = named (mnemonic.Shift op);
       line = then_space (name_of (mnemonic.Shift op)) _ _ (named (mnemonic.Shift op)).word (then_comma (reg_text cd) _ _ (register_word cd h.0) (then_comma (reg_text c1) _ _ (register_word c1 h.1) (last_word (decimal amount) (decimal_word amount (omega (arith, h.2))))));
-      read = λ places enough. shift_back (name_of (mnemonic.Shift op)) op cd c1 amount h.0 h.1 h.2;
+      read = λ labels enough. shift_back (name_of (mnemonic.Shift op)) op cd c1 amount h.0 h.1 h.2;
     }
 form_reads count (WordShift op cd c1 amount) few h =
     record {
@@ -141,7 +141,7 @@ form_reads count (WordShift op cd c1 amount) few h =
       operands = reg_text cd ∷ reg_text c1 ∷ decimal amount ∷ [];
       named = named (mnemonic.WordShift op);
       line = then_space (name_of (mnemonic.WordShift op)) _ _ (named (mnemonic.WordShift op)).word (then_comma (reg_text cd) _ _ (register_word cd h.0) (then_comma (reg_text c1) _ _ (register_word c1 h.1) (last_word (decimal amount) (decimal_word amount (omega (arith, h.2))))));
-      read = λ places enough. word_shift_back (name_of (mnemonic.WordShift op)) op cd c1 amount h.0 h.1 h.2;
+      read = λ labels enough. word_shift_back (name_of (mnemonic.WordShift op)) op cd c1 amount h.0 h.1 h.2;
     }
 form_reads count (SetBoundsImm cd c1 len) few h =
     record {
@@ -150,7 +150,7 @@ form_reads count (SetBoundsImm cd c1 len) few h =
       operands = reg_text cd ∷ reg_text c1 ∷ decimal len ∷ [];
       named = named mnemonic.SetBoundsImm;
       line = then_space (name_of mnemonic.SetBoundsImm) _ _ (named mnemonic.SetBoundsImm).word (then_comma (reg_text cd) _ _ (register_word cd h.0) (then_comma (reg_text c1) _ _ (register_word c1 h.1) (last_word (decimal len) (decimal_word len (omega (arith, h.2))))));
-      read = λ places enough. set_bounds_back (name_of mnemonic.SetBoundsImm) cd c1 len h.0 h.1 h.2;
+      read = λ labels enough. set_bounds_back (name_of mnemonic.SetBoundsImm) cd c1 len h.0 h.1 h.2;
     }
 form_reads count (Upper op cd imm) few h =
     record {
@@ -159,7 +159,7 @@ form_reads count (Upper op cd imm) few h =
       operands = reg_text cd ∷ decimal imm ∷ [];
       named = named (mnemonic.Upper op);
       line = then_space (name_of (mnemonic.Upper op)) _ _ (named (mnemonic.Upper op)).word (then_comma (reg_text cd) _ _ (register_word cd h.0) (last_word (decimal imm) (decimal_word imm (omega (arith, h.1)))));
-      read = λ places enough. upper_back (name_of (mnemonic.Upper op)) op cd imm h.0 h.1;
+      read = λ labels enough. upper_back (name_of (mnemonic.Upper op)) op cd imm h.0 h.1;
     }
 form_reads count (Load op cd c1 imm) few h =
     record {
@@ -168,7 +168,7 @@ form_reads count (Load op cd c1 imm) few h =
       operands = reg_text cd ∷ memory_text imm c1 ∷ [];
       named = named (mnemonic.Load op);
       line = then_space (name_of (mnemonic.Load op)) _ _ (named (mnemonic.Load op)).word (then_comma (reg_text cd) _ _ (register_word cd h.0) (last_word (memory_text imm c1) (memory_word imm c1 h.2 h.1)));
-      read = λ places enough. load_back (name_of (mnemonic.Load op)) op cd c1 imm h.0 h.1 h.2;
+      read = λ labels enough. load_back (name_of (mnemonic.Load op)) op cd c1 imm h.0 h.1 h.2;
     }
 form_reads count (Store op c2 c1 imm) few h =
     record {
@@ -177,7 +177,7 @@ form_reads count (Store op c2 c1 imm) few h =
       operands = reg_text c2 ∷ memory_text imm c1 ∷ [];
       named = named (mnemonic.Store op);
       line = then_space (name_of (mnemonic.Store op)) _ _ (named (mnemonic.Store op)).word (then_comma (reg_text c2) _ _ (register_word c2 h.0) (last_word (memory_text imm c1) (memory_word imm c1 h.2 h.1)));
-      read = λ places enough. store_back (name_of (mnemonic.Store op)) op c2 c1 imm h.0 h.1 h.2;
+      read = λ labels enough. store_back (name_of (mnemonic.Store op)) op c2 c1 imm h.0 h.1 h.2;
     }
 form_reads count (Swap cd c2 c1) few h =
     record {
@@ -186,7 +186,7 @@ form_reads count (Swap cd c2 c1) few h =
       operands = reg_text cd ∷ reg_text c2 ∷ reg_text c1 ∷ [];
       named = named mnemonic.Swap;
       line = then_space (name_of mnemonic.Swap) _ _ (named mnemonic.Swap).word (then_comma (reg_text cd) _ _ (register_word cd h.0) (then_comma (reg_text c2) _ _ (register_word c2 h.1) (last_word (reg_text c1) (register_word c1 h.2))));
-      read = λ places enough. swap_back (name_of mnemonic.Swap) cd c2 c1 h.0 h.1 h.2;
+      read = λ labels enough. swap_back (name_of mnemonic.Swap) cd c2 c1 h.0 h.1 h.2;
     }
 form_reads count (Branch op c1 c2 target) few h =
     record {
@@ -195,7 +195,7 @@ form_reads count (Branch op c1 c2 target) few h =
       operands = reg_text c1 ∷ reg_text c2 ∷ target_text target ∷ [];
       named = named (mnemonic.Branch op);
       line = then_space (name_of (mnemonic.Branch op)) _ _ (named (mnemonic.Branch op)).word (then_comma (reg_text c1) _ _ (register_word c1 h.0) (then_comma (reg_text c2) _ _ (register_word c2 h.1) (last_word (target_text target) (target_word target (omega (arith, h.2))))));
-      read = λ places enough. branch_back (name_of (mnemonic.Branch op)) places op c1 c2 target h.0 h.1 (omega (arith, h.2)) (omega (arith, h.2));
+      read = λ labels enough. branch_back (name_of (mnemonic.Branch op)) labels op c1 c2 target h.0 h.1 (omega (arith, h.2)) (omega (arith, h.2));
     }
 form_reads count (Jump cd target) few h =
     record {
@@ -204,7 +204,7 @@ form_reads count (Jump cd target) few h =
       operands = reg_text cd ∷ target_text target ∷ [];
       named = named mnemonic.Jump;
       line = then_space (name_of mnemonic.Jump) _ _ (named mnemonic.Jump).word (then_comma (reg_text cd) _ _ (register_word cd h.0) (last_word (target_text target) (target_word target (omega (arith, h.1)))));
-      read = λ places enough. jump_back (name_of mnemonic.Jump) places cd target h.0 (omega (arith, h.1)) (omega (arith, h.1));
+      read = λ labels enough. jump_back (name_of mnemonic.Jump) labels cd target h.0 (omega (arith, h.1)) (omega (arith, h.1));
     }
 form_reads count (Invoke c1 c2) few h =
     record {
@@ -213,7 +213,7 @@ form_reads count (Invoke c1 c2) few h =
       operands = reg_text c1 ∷ reg_text c2 ∷ [];
       named = named mnemonic.Invoke;
       line = then_space (name_of mnemonic.Invoke) _ _ (named mnemonic.Invoke).word (then_comma (reg_text c1) _ _ (register_word c1 h.0) (last_word (reg_text c2) (register_word c2 h.1)));
-      read = λ places enough. invoke_back (name_of mnemonic.Invoke) c1 c2 h.0 h.1;
+      read = λ labels enough. invoke_back (name_of mnemonic.Invoke) c1 c2 h.0 h.1;
     }
 form_reads count Alone few h =
-    record { name = name_of mnemonic.Alone; mnemonic = mnemonic.Alone; operands = []; named = named mnemonic.Alone; line = last_word (name_of mnemonic.Alone) (named mnemonic.Alone).word; read = λ places enough. alone_back (name_of mnemonic.Alone) }
+    record { name = name_of mnemonic.Alone; mnemonic = mnemonic.Alone; operands = []; named = named mnemonic.Alone; line = last_word (name_of mnemonic.Alone) (named mnemonic.Alone).word; read = λ labels enough. alone_back (name_of mnemonic.Alone) }

@@ -26,7 +26,7 @@ use Rattle.grammar.specs.declared.fault.ListingFaultKind.TheVariants as kind
 use Rattle.grammar.specs.declared.directives.Directive.{Directive}
 use Rattle.grammar.specs.declared.directives.Directive.TheVariants as directive
 use Rattle.cheri_model.specs.declared.names.Mnemonic.{Mnemonic}
-use Rattle.grammar.specs.declared.labels.Place.{Place}
+use Rattle.grammar.specs.declared.labels.LabelLine.{LabelLine}
 use Rattle.grammar.specs.declared.operands.TypeOperand.TheVariants.{Unsealed}
 use Rattle.grammar.specs.declared.operands.TypeOperand.{TypeOperand}
 use Rattle.grammar.specs.declared.capability.CapOperands.{CapOperands}
@@ -42,8 +42,8 @@ use Rattle.cheri_model.specs.instructions.Tables.{found_at}
 use Rattle.grammar.specs.Directives.{directive_of, directive_table}
 use Rattle.cheri_model.specs.instructions.Names.{mnemonic_of, mnemonic_table, is_instruction}
 use Rattle.grammar.specs.Forms.{counted, form_from}
-use Rattle.grammar.specs.Labels.{PlaceParts, is_label_token, label_name, label_of, label_fault, count_of, labels_from, instruction_lines, places_of}
-use Rattle.grammar.specs.Places.{first_place}
+use Rattle.grammar.specs.Labels.{LabelParts, is_label_token, label_name, label_of, label_fault, count_of, labels_from, instruction_lines, labels_of}
+use Rattle.grammar.specs.LabelMap.{first_line}
 use Rattle.listings.specs.Statement.{ram_line, hart_line, settable_register_of, word_setting, capability_setting, setting_of, set_line, hex_bytes, bytes_line, cap_line, directive_line, instruction_line, label_line, other_line, line_from, tokens_meaning}
 use Rattle.listings.specs.Draft.{DraftParts, empty_draft, with_ram, with_hart, value_of, with_set, set_register, with_bytes, with_capability, with_instruction}
 use Rattle.listings.specs.Meaning.{line_meaning, at_line, lines_meaning, whole_fault, listed_from, finished, listing_limit, listing_meaning}
@@ -180,18 +180,18 @@ module _ (count : ℕ) (draft : DraftParts) (d : IsDraft count draft) (tokens : 
       let s3 = then_ok (cap_parts_of s1.0) (λ parts. with_capability draft s2.0 parts) after s2.2 in
       granule_ok count draft d s1.0.otype s2.0 s3.0 after (parts_ok s1.0 s3.0 s3.1) s3.2
 
-  instruction_line_ok : (places : PlaceParts) (mnemonic : Mnemonic) → places.instructions ≤ count → IsBounded places → instruction_line places draft mnemonic tokens ≡ Ok after → Goes count draft after 1
+  instruction_line_ok : (labels : LabelParts) (mnemonic : Mnemonic) → labels.instructions ≤ count → IsBounded labels → instruction_line labels draft mnemonic tokens ≡ Ok after → Goes count draft after 1
   unfolding instruction_line
-  instruction_line_ok places mnemonic few bounded e =
-      let s0 = then_ok (form_from places mnemonic tokens) (λ whole. with_instruction draft (instr_of whole)) after e in
-      let readable : IsReadable count (form_of (instr_of s0.0)) = subst (IsReadable count) (sym (form_back s0.0)) (form_ok count places mnemonic tokens s0.0 few bounded s0.1) in
+  instruction_line_ok labels mnemonic few bounded e =
+      let s0 = then_ok (form_from labels mnemonic tokens) (λ whole. with_instruction draft (instr_of whole)) after e in
+      let readable : IsReadable count (form_of (instr_of s0.0)) = subst (IsReadable count) (sym (form_back s0.0)) (form_ok count labels mnemonic tokens s0.0 few bounded s0.1) in
       instruction_ok count draft d (instr_of s0.0) after readable s0.2
 
-  label_line_ok : (places : PlaceParts) (number : ℕ) → label_line places number draft tokens ≡ Ok after → Goes count draft after 0
+  label_line_ok : (labels : LabelParts) (number : ℕ) → label_line labels number draft tokens ≡ Ok after → Goes count draft after 0
   unfolding label_line
-  label_line_ok places number e =
-      let s0 = then_ok (counted 1 tokens) (λ c. label_fault places number (label_name (token_at tokens 0)) >>= (λ fault. Ok draft)) after e in
-      let s1 = then_ok (label_fault places number (label_name (token_at tokens 0))) (λ fault. Ok draft) after s0.2 in
+  label_line_ok labels number e =
+      let s0 = then_ok (counted 1 tokens) (λ c. label_fault labels number (label_name (token_at tokens 0)) >>= (λ fault. Ok draft)) after e in
+      let s1 = then_ok (label_fault labels number (label_name (token_at tokens 0))) (λ fault. Ok draft) after s0.2 in
       same_ok count draft d after (let h = s1.2 in cc)
 
   directive_line_ok : (which : Directive) → directive_line draft which tokens ≡ Ok after → Goes count draft after 0
@@ -240,16 +240,16 @@ directive_counts_none token which e =
 some_words : (n : ℕ) → (suc n == 0) ≡ false
 some_words n = grind (arith, nat_tests)
 
-module _ (count : ℕ) (places : PlaceParts) (few : places.instructions ≤ count) (bounded : IsBounded places) where
+module _ (count : ℕ) (labels : LabelParts) (few : labels.instructions ≤ count) (bounded : IsBounded labels) where
   other_ok : (number : ℕ) (draft after : DraftParts) (found : Option Mnemonic) (label : Bool) (tokens : List (List ℕ)) → IsDraft count draft → mnemonic_of (token_at tokens 0) ≡ found → is_label_token (token_at tokens 0) ≡ label
-      → other_line places number draft found tokens ≡ Ok after → Goes count draft after (count_of (token_at tokens 0))
+      → other_line labels number draft found tokens ≡ Ok after → Goes count draft after (count_of (token_at tokens 0))
   unfolding other_line count_of is_instruction
-  other_ok number draft after (Some mnemonic) label tokens d m l e = rw m (instruction_line_ok count draft d tokens after places mnemonic few bounded e)
-  other_ok number draft after None true tokens d m l e = rw m (label_line_ok count draft d tokens after places number (rw l at e))
+  other_ok number draft after (Some mnemonic) label tokens d m l e = rw m (instruction_line_ok count draft d tokens after labels mnemonic few bounded e)
+  other_ok number draft after None true tokens d m l e = rw m (label_line_ok count draft d tokens after labels number (rw l at e))
   other_ok number draft after None false tokens d m l e = absurd (let clash = rw l at e in cc)
 
   line_from_ok : (number : ℕ) (draft after : DraftParts) (which : Option Directive) (tokens : List (List ℕ)) → IsDraft count draft → directive_of (token_at tokens 0) ≡ which
-      → line_from places number draft which tokens ≡ Ok after → Goes count draft after (count_of (token_at tokens 0))
+      → line_from labels number draft which tokens ≡ Ok after → Goes count draft after (count_of (token_at tokens 0))
   unfolding line_from
   line_from_ok number draft after (Some which) tokens d n e =
       subst (Goes count draft after) (sym (directive_counts_none (token_at tokens 0) which n)) (directive_line_ok count draft d tokens after which e)
@@ -259,34 +259,34 @@ module _ (count : ℕ) (places : PlaceParts) (few : places.instructions ≤ coun
   unfolding token_at count_of is_instruction mnemonic_of mnemonic_table found_at
   no_words = refl
 
-  tokens_ok : (number : ℕ) (draft after : DraftParts) (tokens : List (List ℕ)) → IsDraft count draft → tokens_meaning places number draft tokens ≡ Ok after → Goes count draft after (count_of (token_at tokens 0))
+  tokens_ok : (number : ℕ) (draft after : DraftParts) (tokens : List (List ℕ)) → IsDraft count draft → tokens_meaning labels number draft tokens ≡ Ok after → Goes count draft after (count_of (token_at tokens 0))
   unfolding tokens_meaning
   tokens_ok number draft after [] d e = subst (Goes count draft after) (sym no_words) (same_ok count draft d after (cc))
   tokens_ok number draft after (word ∷ words) d e = line_from_ok number draft after _ (word ∷ words) d refl (rw (some_words (length words)) at e)
 
-  line_ok : (number : ℕ) (draft after : DraftParts) (line : List ℕ) → IsDraft count draft → line_meaning places number draft line ≡ Ok after → Goes count draft after (count_of (token_at (tokens_of line) 0))
+  line_ok : (number : ℕ) (draft after : DraftParts) (line : List ℕ) → IsDraft count draft → line_meaning labels number draft line ≡ Ok after → Goes count draft after (count_of (token_at (tokens_of line) 0))
   unfolding line_meaning
   line_ok number draft after line d e =
-      let plain = test_true (list_all is_plain line) (tokens_meaning places number draft (tokens_of line)) kind.NotAscii after e in
+      let plain = test_true (list_all is_plain line) (tokens_meaning labels number draft (tokens_of line)) kind.NotAscii after e in
       tokens_ok number draft after (tokens_of line) d plain.1
 
   at_line_ok : (number : ℕ) (made : Result DraftParts ListingFaultKind) (next : DraftParts) → at_line number made ≡ Ok next → made ≡ Ok next
   at_line_ok number (Ok draft) next e = let same : draft ≡ next = cc in ap (λ x. Ok x) same
   at_line_ok number (Err f) next e = absurd (cc)
 
-  lines_ok : (lines : List (List ℕ)) (number : ℕ) (draft after : DraftParts) → IsDraft count draft → lines_meaning places number draft lines ≡ Ok after → Goes count draft after (instruction_lines lines)
+  lines_ok : (lines : List (List ℕ)) (number : ℕ) (draft after : DraftParts) → IsDraft count draft → lines_meaning labels number draft lines ≡ Ok after → Goes count draft after (instruction_lines lines)
   unfolding lines_meaning instruction_lines
   lines_ok [] number draft after d e = same_ok count draft d after (cc)
   lines_ok (line ∷ lines) number draft after d e =
-      let s0 = then_ok (at_line number (line_meaning places number draft line)) (λ next. lines_meaning places (number + 1) next lines) after e in
-      let one = line_ok number draft s0.0 line d (at_line_ok number (line_meaning places number draft line) s0.0 s0.1) in
+      let s0 = then_ok (at_line number (line_meaning labels number draft line)) (λ next. lines_meaning labels (number + 1) next lines) after e in
+      let one = line_ok number draft s0.0 line d (at_line_ok number (line_meaning labels number draft line) s0.0 s0.1) in
       let rest = lines_ok lines (number + 1) s0.0 after one.good s0.2 in
       let a = one.counted in
       let b = rest.counted in
       record { good = rest.good; counted = omega (arith, a, b) }
 
 -- a label is at or before the end of the instruction lines
-place_step : (instruction label same : Bool) (token name : List ℕ) (place found : Place) → is_instruction token ≡ instruction → is_label_token token ≡ label → bytes_eq (label_name token) name ≡ same
+place_step : (instruction label same : Bool) (token name : List ℕ) (place found : LabelLine) → is_instruction token ≡ instruction → is_label_token token ≡ label → bytes_eq (label_name token) name ≡ same
     → found_at (label_of token place) name ≡ Some found → place ≡ found
 unfolding label_of found_at
 place_step true label same token name place found i l s e = absurd (let clash = rw i at e in cc)
@@ -294,25 +294,25 @@ place_step false true true token name place found i l s e = let h = rw (i, l, s)
 place_step false true false token name place found i l s e = absurd (let clash = rw (i, l, s) at e in cc)
 place_step false false same token name place found i l s e = absurd (let clash = rw (i, l) at e in cc)
 
-either_place : (here later : Option Place) (limit : ℕ) (found : Place) → ((place : Place) → here ≡ Some place → place.instructions ≤ limit) → ((place : Place) → later ≡ Some place → place.instructions ≤ limit)
-    → first_place here later ≡ Some found → found.instructions ≤ limit
+either_place : (here later : Option LabelLine) (limit : ℕ) (found : LabelLine) → ((place : LabelLine) → here ≡ Some place → place.instructions ≤ limit) → ((place : LabelLine) → later ≡ Some place → place.instructions ≤ limit)
+    → first_line here later ≡ Some found → found.instructions ≤ limit
 either_place (Some place) later limit found h k e = h found e
 either_place None later limit found h k e = k found e
 
-labels_bounded : (lines : List (List ℕ)) (number instructions : ℕ) (name : List ℕ) (found : Place) → found_at (labels_from number instructions lines) name ≡ Some found → found.instructions ≤ instructions + instruction_lines lines
+labels_bounded : (lines : List (List ℕ)) (number instructions : ℕ) (name : List ℕ) (found : LabelLine) → found_at (labels_from number instructions lines) name ≡ Some found → found.instructions ≤ instructions + instruction_lines lines
 unfolding labels_from instruction_lines found_at
 labels_bounded [] number instructions name found e = absurd (cc)
 labels_bounded (line ∷ lines) number instructions name found e =
     let token = token_at (tokens_of line) 0 in
-    let place : Place = record { line = number; instructions = instructions } in
+    let place : LabelLine = record { line = number; instructions = instructions } in
     let later = labels_from (number + 1) (instructions + count_of token) lines in
-    let split : first_place (found_at (label_of token place) name) (found_at later name) ≡ Some found = sym (found-append (label_of token place) later name) ∙ e in
+    let split : first_line (found_at (label_of token place) name) (found_at later name) ≡ Some found = sym (found-append (label_of token place) later name) ∙ e in
     either_place (found_at (label_of token place) name) (found_at later name) (instructions + (count_of token + instruction_lines lines)) found
-    (λ p h. (let same : place ≡ p = place_step _ _ _ token name place p refl refl refl h in let at : instructions ≡ p.instructions = ap (λ (q : Place). q.instructions) same in omega (arith, at)))
+    (λ p h. (let same : place ≡ p = place_step _ _ _ token name place p refl refl refl h in let at : instructions ≡ p.instructions = ap (λ (q : LabelLine). q.instructions) same in omega (arith, at)))
     (λ p h. (let rest = labels_bounded lines (number + 1) (instructions + count_of token) name p h in omega (arith, rest))) split
 
-places_bounded : (text : List ℕ) → IsBounded (places_of text)
-unfolding places_of
+places_bounded : (text : List ℕ) → IsBounded (labels_of text)
+unfolding labels_of
 places_bounded text name place e = let h = labels_bounded (lines_of text) 1 0 name place e in omega (arith, h)
 
 opening_draft : (count : ℕ) → IsDraft count empty_draft
@@ -332,8 +332,8 @@ abbrev OnImage : Result ImageParts ListingFault → Type 0
 OnImage (Ok image) = IsListable image
 OnImage (Err f) = Unit {0}
 
-places_count : (text : List ℕ) → (places_of text).instructions ≤ instruction_lines (lines_of text)
-unfolding places_of
+places_count : (text : List ℕ) → (labels_of text).instructions ≤ instruction_lines (lines_of text)
+unfolding labels_of
 places_count text = omega arith
 
 -- what a whole draft is finished to
@@ -361,8 +361,8 @@ pub meant_is_listable : (text : List ℕ) (image : ImageParts) → listing_meani
 unfolding listing_meaning
 meant_is_listable text image e =
     let count = instruction_lines (lines_of text) in
-    let s0 = test_false (nat_lt listing_limit (length text)) (lines_meaning (places_of text) 1 empty_draft (lines_of text) >>= (λ draft. finished draft)) (whole_fault kind.Size) image e in
-    let s1 = then_ok (lines_meaning (places_of text) 1 empty_draft (lines_of text)) (λ draft. finished draft) image s0.1 in
-    let read = lines_ok count (places_of text) (places_count text) (places_bounded text) (lines_of text) 1 empty_draft s1.0 (opening_draft count) s1.1 in
+    let s0 = test_false (nat_lt listing_limit (length text)) (lines_meaning (labels_of text) 1 empty_draft (lines_of text) >>= (λ draft. finished draft)) (whole_fault kind.Size) image e in
+    let s1 = then_ok (lines_meaning (labels_of text) 1 empty_draft (lines_of text)) (λ draft. finished draft) image s0.1 in
+    let read = lines_ok count (labels_of text) (places_count text) (places_bounded text) (lines_of text) 1 empty_draft s1.0 (opening_draft count) s1.1 in
     let all : length s1.0.program ≡ instruction_lines (lines_of text) = (let c = read.counted in omega (arith, c)) in
     finished_ok s1.0 image (subst (λ n. IsDraft n s1.0) (sym all) read.good) s1.2

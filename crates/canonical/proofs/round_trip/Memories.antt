@@ -69,7 +69,7 @@ module _ (enough : ℕ) (done rest : List CapValue) (room : ram_base + 16 * (len
       subst (λ text. Reads enough text (sized_draft (done ++ raw 0 ∷ rest)) (sized_draft (done ++ raw word ∷ rest)) 0)
       (line_end (codes ".bytes ") (hex_number addr) (codes " " ++ memory_text word))
       (reads_line enough (codes ".bytes" ++ 0x20 ∷ (hex_number addr ++ 0x20 ∷ memory_text word)) _ _ _ 0 (word_line word low) (omega arith)
-      (λ places h number. bytes_mean places number (sized_draft (done ++ raw 0 ∷ rest)) addr word low (done ++ raw word ∷ rest) address_low in_ram (word_stored done rest word low)))
+      (λ labels h number. bytes_mean labels number (sized_draft (done ++ raw 0 ∷ rest)) addr word low (done ++ raw word ∷ rest) address_low in_ram (word_stored done rest word low)))
 
   capability_line : (c : Capability) (h : IsLawful c) → IsLine (codes ".cap" ++ 0x20 ∷ (hex_number addr ++ 0x20 ∷ cap_text c)) (codes ".cap" ∷ hex_number addr ∷ cap_words c h)
   capability_line c h = then_space (codes ".cap") _ _ cap_name (then_space (hex_number addr) _ _ (hex_word addr (omega (arith, address_low))) (cap_line c h))
@@ -80,7 +80,7 @@ module _ (enough : ℕ) (done rest : List CapValue) (room : ram_base + 16 * (len
       subst (λ text. Reads enough text (sized_draft (done ++ raw 0 ∷ rest)) (sized_draft (done ++ valid c ∷ rest)) 0)
       (line_end (codes ".cap ") (hex_number addr) (codes " " ++ cap_text c))
       (reads_line enough (codes ".cap" ++ 0x20 ∷ (hex_number addr ++ 0x20 ∷ cap_text c)) _ _ _ 0 (capability_line c h) (omega arith)
-      (λ places k number. cap_means c h plain places number (sized_draft (done ++ raw 0 ∷ rest)) addr (done ++ valid c ∷ rest) address_low fitting (capability_stored done rest (raw 0) (valid c))))
+      (λ labels k number. cap_means c h plain labels number (sized_draft (done ++ raw 0 ∷ rest)) addr (done ++ valid c ∷ rest) address_low fitting (capability_stored done rest (raw 0) (valid c))))
 
 module _ (enough : ℕ) where
   abbrev Leads : List ℕ → List CapValue → List CapValue → Type 0

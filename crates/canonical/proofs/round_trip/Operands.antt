@@ -16,7 +16,7 @@ use Rattle.canonical.specs.Listable.{Is12Bits}
 use Rattle.grammar.specs.Tokens.{is_blank}
 use Rattle.grammar.specs.Numerals.{number_of, at_most}
 use Rattle.grammar.specs.Operands.{register_of, immediate_of, immediate_of_12_bits, immediate_up_to, begins_minus, is_bracketed, between_brackets, before_bracket, memory_operand_from, memory_operand_of}
-use Rattle.grammar.specs.Labels.{PlaceParts, begins_at_sign, target_operand_of, target_of}
+use Rattle.grammar.specs.Labels.{LabelParts, begins_at_sign, target_operand_of, target_of}
 use Rattle.grammar.proofs.PermissionTexts.{first, second}
 use Rattle.canonical.proofs.round_trip.Words.{is_open, is_word_byte, IsWord, both, filled_cons, all_joined, word_cons, longer}
 use Rattle.canonical.proofs.round_trip.Lines.{before_at, dropped_start}
@@ -173,15 +173,15 @@ target_text n = 0x40 ∷ decimal n
 at_begins : (ds : List ℕ) → begins_at_sign (0x40 ∷ ds) ≡ true
 at_begins ds = both _ true (one_or_more (length ds)) refl
 
-pub target_reads : (places : PlaceParts) (n : ℕ) → n < 2 ^ 128 → target_operand_of places (target_text n) ≡ Ok (Number (Some n))
+pub target_reads : (labels : LabelParts) (n : ℕ) → n < 2 ^ 128 → target_operand_of labels (target_text n) ≡ Ok (Number (Some n))
 unfolding target_operand_of
-target_reads places n low =
+target_reads labels n low =
     let shape = decimal_is_IsNumeral_wide n (omega arith) in
     rw (at_begins (decimal n), number_where 10 (decimal n) n shape.0 shape.1 low) refl
 
-pub target_in_range : (places : PlaceParts) (n : ℕ) → n ≤ places.instructions → target_of places (Number (Some n)) ≡ Ok n
+pub target_in_range : (labels : LabelParts) (n : ℕ) → n ≤ labels.instructions → target_of labels (Number (Some n)) ≡ Ok n
 unfolding target_of
-target_in_range places n h = in_range n places.instructions h
+target_in_range labels n h = in_range n labels.instructions h
 
 pub target_word : (n : ℕ) → n < 2 ^ 128 → IsWord (target_text n)
 unfolding is_word_byte is_open is_blank

@@ -52,7 +52,7 @@ module _ (enough : ℕ) (memory : List CapValue) where
   pcc_line before set c h plain unsealed room =
       reads_line enough (codes ".hart" ++ 0x20 ∷ cap_text c) (codes ".hart" ∷ cap_words c h) (hart_draft memory before set) (hart_draft memory (before ++ hart_from (valid c) ∷ []) no_registers) 0
       (then_space (codes ".hart") _ _ hart_name (cap_line c h)) (omega arith)
-      (λ places k number. hart_means c h plain places number (hart_draft memory before set) unsealed (room_test (length before) room))
+      (λ labels k number. hart_means c h plain labels number (hart_draft memory before set) unsealed (room_test (length before) room))
 
   -- a hart whose PCC is this capability
   capability_hart : (before : List HartImage) (set : List Bool) (c : capability.Capability) (regs : List CapValue) (h : IsLawful c) → c.flag ≡ 0 → c.otype ≡ unsealed_type → length before < 8
@@ -107,8 +107,8 @@ module _ (enough : ℕ) (small : enough < 2 ^ 128) (memory : List CapValue) (har
       let same : instr_of (form_of instr) ≡ instr = instr_of-form_of instr in
       reads_line enough (form_text (form_of instr)) (back.name ∷ back.operands) (program_draft memory harts set before) (program_draft memory harts set (before ++ instr ∷ [])) 1 back.line
       (counted_line back.name back.mnemonic back.operands back.named)
-      (λ places h number.
-      instruction_means places number (program_draft memory harts set before) back.name back.mnemonic back.operands (form_of instr) back.named (back.read places h) (program_room (length before) room)
+      (λ labels h number.
+      instruction_means labels number (program_draft memory harts set before) back.name back.mnemonic back.operands (form_of instr) back.named (back.read labels h) (program_room (length before) room)
       ∙ ap (λ i. Ok (program_draft memory harts set (before ++ i ∷ []))) same)
 
   -- all instructions from one on

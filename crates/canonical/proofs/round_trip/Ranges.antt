@@ -10,13 +10,13 @@ use Rattle.grammar.specs.declared.operands.Immediate.{Immediate}
 use Rattle.grammar.specs.declared.operands.MemoryOperand.{MemoryOperand}
 use Rattle.grammar.specs.declared.operands.TypeOperand.{TypeOperand}
 use Rattle.grammar.specs.declared.operands.TypeOperand.TheVariants.{Unsealed, Sentry, Number}
-use Rattle.grammar.specs.declared.labels.Place.{Place}
+use Rattle.grammar.specs.declared.labels.LabelLine.{LabelLine}
 use Rattle.grammar.specs.declared.labels.TargetOperand.{TargetOperand}
 use Rattle.grammar.specs.declared.labels.TargetOperand.TheVariants as target
 use Rattle.grammar.specs.Faults.{◌>>=◌}
 use Rattle.grammar.specs.Numerals.{number_of_digits, at_most}
 use Rattle.grammar.specs.Operands.{register_of, is_short_register, is_long_register, is_bracketed, immediate_of, immediate_of_12_bits, immediate_up_to, before_bracket, from_bracket, between_brackets, memory_operand_from, memory_operand_of, type_in_range}
-use Rattle.grammar.specs.Labels.{PlaceParts, begins_at_sign, is_label_name, target_operand_of, target_of}
+use Rattle.grammar.specs.Labels.{LabelParts, begins_at_sign, is_label_name, target_operand_of, target_of}
 use Rattle.canonical.specs.Listable.{Is12Bits}
 
 -- a chain of steps that ends well: each of its steps did
@@ -101,30 +101,30 @@ memory_ok token operand e =
     subst C1Low reg.2 low
 
 -- each label is at or before the end of the instruction lines
-abbrev pub IsBounded : PlaceParts → Type 0
-IsBounded places = (name : List ℕ) (place : Place) → places.label name ≡ Some place → place.instructions ≤ places.instructions
+abbrev pub IsBounded : LabelParts → Type 0
+IsBounded labels = (name : List ℕ) (place : LabelLine) → labels.label name ≡ Some place → place.instructions ≤ labels.instructions
 
-named_ok : (places : PlaceParts) (o : Option Place) (n : ℕ) → ((place : Place) → o ≡ Some place → place.instructions ≤ places.instructions)
-    → target_of places (target.Named (option_map (λ place. place.instructions) o)) ≡ Ok n → n ≤ places.instructions
+named_ok : (labels : LabelParts) (o : Option LabelLine) (n : ℕ) → ((place : LabelLine) → o ≡ Some place → place.instructions ≤ labels.instructions)
+    → target_of labels (target.Named (option_map (λ place. place.instructions) o)) ≡ Ok n → n ≤ labels.instructions
 unfolding target_of
-named_ok places (Some place) n bounded e = let same : place.instructions ≡ n = cc in let h = bounded place refl in omega arith
-named_ok places None n bounded e = absurd (cc)
+named_ok labels (Some place) n bounded e = let same : place.instructions ≡ n = cc in let h = bounded place refl in omega arith
+named_ok labels None n bounded e = absurd (cc)
 
-target_step : (numbered named : Bool) (places : PlaceParts) (token : List ℕ) (operand : TargetOperand) (n : ℕ) → IsBounded places → begins_at_sign token ≡ numbered → is_label_name token ≡ named
-    → target_operand_of places token ≡ Ok operand → target_of places operand ≡ Ok n → n ≤ places.instructions
+target_step : (numbered named : Bool) (labels : LabelParts) (token : List ℕ) (operand : TargetOperand) (n : ℕ) → IsBounded labels → begins_at_sign token ≡ numbered → is_label_name token ≡ named
+    → target_operand_of labels token ≡ Ok operand → target_of labels operand ≡ Ok n → n ≤ labels.instructions
 unfolding target_operand_of target_of
-target_step true named places token operand n bounded a l e f =
+target_step true named labels token operand n bounded a l e f =
     let number = then_ok (number_of_digits 10 (drop 1 token)) (λ m. Ok (target.Number m)) operand (rw a at e) in
     let same : target.Number number.0 ≡ operand = (let h = number.2 in cc) in
-    at_most_ok places.instructions number.0 n (ap (target_of places) same ∙ f)
-target_step false true places token operand n bounded a l e f =
-    let same : target.Named (option_map (λ place. place.instructions) (places.label token)) ≡ operand = (let h = rw (a, l) at e in cc) in
-    named_ok places (places.label token) n (λ place h. bounded token place h) (ap (target_of places) same ∙ f)
-target_step false false places token operand n bounded a l e f = absurd (let clash = rw (a, l) at e in cc)
+    at_most_ok labels.instructions number.0 n (ap (target_of labels) same ∙ f)
+target_step false true labels token operand n bounded a l e f =
+    let same : target.Named (option_map (λ place. place.instructions) (labels.label token)) ≡ operand = (let h = rw (a, l) at e in cc) in
+    named_ok labels (labels.label token) n (λ place h. bounded token place h) (ap (target_of labels) same ∙ f)
+target_step false false labels token operand n bounded a l e f = absurd (let clash = rw (a, l) at e in cc)
 
-pub target_ok : (places : PlaceParts) (token : List ℕ) (operand : TargetOperand) (n : ℕ) → IsBounded places
-    → target_operand_of places token ≡ Ok operand → target_of places operand ≡ Ok n → n ≤ places.instructions
-target_ok places token operand n bounded e f = target_step _ _ places token operand n bounded refl refl e f
+pub target_ok : (labels : LabelParts) (token : List ℕ) (operand : TargetOperand) (n : ℕ) → IsBounded labels
+    → target_operand_of labels token ≡ Ok operand → target_of labels operand ≡ Ok n → n ≤ labels.instructions
+target_ok labels token operand n bounded e f = target_step _ _ labels token operand n bounded refl refl e f
 
 -- object types
 pub type_ok : (operand : TypeOperand) (otype : ℕ) → type_in_range operand ≡ Ok otype → IsLawfulType otype

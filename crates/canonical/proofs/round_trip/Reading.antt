@@ -4,7 +4,7 @@ use Rattle.std.proofs.lemmas.Bool.Decides.{nat_tests}
 use Rattle.grammar.specs.declared.directives.Directive.{Directive}
 use Rattle.grammar.specs.Lines.{lines_of}
 use Rattle.grammar.specs.Tokens.{token_at}
-use Rattle.grammar.specs.Labels.{PlaceParts, count_of, instruction_lines}
+use Rattle.grammar.specs.Labels.{LabelParts, count_of, instruction_lines}
 use Rattle.grammar.specs.Directives.{directive_of}
 use Rattle.listings.specs.Statement.{tokens_meaning, line_from}
 use Rattle.listings.specs.Draft.{DraftParts}
@@ -15,31 +15,31 @@ use Rattle.canonical.proofs.round_trip.Lines.{IsLine, tokens_of_line, plain_line
 -- `count` of its lines are instruction lines.
 pub record Reads (enough : ℕ) (text : List ℕ) (before after : DraftParts) (count : ℕ) : Type 0 where
   pub ends : ℕ → ℕ
-  pub leads : (places : PlaceParts) → enough ≤ places.instructions → (number : ℕ) (tail : List ℕ)
-      → lines_meaning places number before (lines_of (text ++ tail)) ≡ lines_meaning places (ends number) after (lines_of tail)
+  pub leads : (labels : LabelParts) → enough ≤ labels.instructions → (number : ℕ) (tail : List ℕ)
+      → lines_meaning labels number before (lines_of (text ++ tail)) ≡ lines_meaning labels (ends number) after (lines_of tail)
   pub counts : (tail : List ℕ) → count + instruction_lines (lines_of tail) ≤ instruction_lines (lines_of (text ++ tail))
 
 module _ (enough : ℕ) where
   pub reads_none : (draft : DraftParts) → Reads enough [] draft draft 0
-  reads_none draft = record { ends = λ number. number; leads = λ places h number tail. refl; counts = λ tail. omega arith }
+  reads_none draft = record { ends = λ number. number; leads = λ labels h number tail. refl; counts = λ tail. omega arith }
 
   pub reads_both : (first second : List ℕ) (before between after : DraftParts) (m n : ℕ) → Reads enough first before between m → Reads enough second between after n
       → Reads enough (first ++ second) before after (m + n)
   reads_both first second before between after m n r s = record {
     ends = λ number. s.ends (r.ends number);
-    leads = λ places h number tail. ap (λ text. lines_meaning places number before (lines_of text)) (append_assoc first second tail) ∙ r.leads places h number (second ++ tail) ∙ s.leads places h (r.ends number) tail;
+    leads = λ labels h number tail. ap (λ text. lines_meaning labels number before (lines_of text)) (append_assoc first second tail) ∙ r.leads labels h number (second ++ tail) ∙ s.leads labels h (r.ends number) tail;
     counts = λ tail. (let one = r.counts (second ++ tail) in let two = s.counts tail in rw append_assoc (omega (arith, one, two)));
   }
 
-  line_reads : (places : PlaceParts) (number : ℕ) (before after : DraftParts) (line : List ℕ) (words : List (List ℕ)) → IsLine line words
-      → tokens_meaning places number before words ≡ Ok after → line_meaning places number before line ≡ Ok after
+  line_reads : (labels : LabelParts) (number : ℕ) (before after : DraftParts) (line : List ℕ) (words : List (List ℕ)) → IsLine line words
+      → tokens_meaning labels number before words ≡ Ok after → line_meaning labels number before line ≡ Ok after
   unfolding line_meaning
-  line_reads places number before after line words l e = rw (plain_line line words l, tokens_of_line line words l) e
+  line_reads labels number before after line words l e = rw (plain_line line words l, tokens_of_line line words l) e
 
-  then_lines : (places : PlaceParts) (number : ℕ) (before after : DraftParts) (line : List ℕ) (lines : List (List ℕ)) → line_meaning places number before line ≡ Ok after
-      → lines_meaning places number before (line ∷ lines) ≡ lines_meaning places (number + 1) after lines
+  then_lines : (labels : LabelParts) (number : ℕ) (before after : DraftParts) (line : List ℕ) (lines : List (List ℕ)) → line_meaning labels number before line ≡ Ok after
+      → lines_meaning labels number before (line ∷ lines) ≡ lines_meaning labels (number + 1) after lines
   unfolding lines_meaning
-  then_lines places number before after line lines e = rw e refl
+  then_lines labels number before after line lines e = rw e refl
 
   then_count : (line : List ℕ) (lines : List (List ℕ)) (words : List (List ℕ)) (count : ℕ) → IsLine line words → count ≤ count_of (token_at words 0)
       → count + instruction_lines lines ≤ instruction_lines (line ∷ lines)
@@ -48,11 +48,11 @@ module _ (enough : ℕ) where
 
   -- one line
   pub reads_line : (line : List ℕ) (words : List (List ℕ)) (before after : DraftParts) (count : ℕ) → IsLine line words → count ≤ count_of (token_at words 0)
-      → ((places : PlaceParts) → enough ≤ places.instructions → (number : ℕ) → tokens_meaning places number before words ≡ Ok after)
+      → ((labels : LabelParts) → enough ≤ labels.instructions → (number : ℕ) → tokens_meaning labels number before words ≡ Ok after)
       → Reads enough (line ++ 0x0A ∷ []) before after count
   reads_line line words before after count l few meaning = record {
     ends = λ number. number + 1;
-    leads = λ places h number tail. ap (lines_meaning places number before) (split tail) ∙ then_lines places number before after line (lines_of tail) (line_reads places number before after line words l (meaning places h number));
+    leads = λ labels h number tail. ap (lines_meaning labels number before) (split tail) ∙ then_lines labels number before after line (lines_of tail) (line_reads labels number before after line words l (meaning labels h number));
     counts = λ tail. rw (split tail) (then_count line (lines_of tail) words count l few);
   }
     where
@@ -63,7 +63,7 @@ some_words : (n : ℕ) → (suc n == 0) ≡ false
 some_words n = grind (arith, nat_tests)
 
 -- a line of a directive, and one that begins with no directive
-pub words_mean : (places : PlaceParts) (number : ℕ) (draft : DraftParts) (word : List ℕ) (words : List (List ℕ)) (directive : Option Directive) → directive_of word ≡ directive
-    → tokens_meaning places number draft (word ∷ words) ≡ line_from places number draft directive (word ∷ words)
+pub words_mean : (labels : LabelParts) (number : ℕ) (draft : DraftParts) (word : List ℕ) (words : List (List ℕ)) (directive : Option Directive) → directive_of word ≡ directive
+    → tokens_meaning labels number draft (word ∷ words) ≡ line_from labels number draft directive (word ∷ words)
 unfolding tokens_meaning token_at
-words_mean places number draft word words directive e = rw (some_words (length words), e) refl
+words_mean labels number draft word words directive e = rw (some_words (length words), e) refl

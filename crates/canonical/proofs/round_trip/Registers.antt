@@ -8,7 +8,7 @@ use Rattle.cheri_model.specs.declared.image.HartImage.{HartImage}
 use Rattle.cap_model.specs.values.Capability as capability
 use Rattle.cap_model.specs.values.Capability.{IsLawful}
 use Rattle.cap_model.specs.values.CapValue.{CapValue, valid, raw}
-use Rattle.cheri_model.specs.runs.ImageForm.{is_listed}
+use Rattle.cheri_model.specs.runs.ImageRules.{is_listed}
 use Rattle.listings.specs.declared.draft.Setting.{Setting}
 use Rattle.listings.specs.declared.draft.Setting.TheVariants.{Word}
 use Rattle.grammar.specs.Tokens.{is_blank}
@@ -149,7 +149,7 @@ module _ (enough : ℕ) (memory : List CapValue) (before : List HartImage) (pcc 
       (line_end (codes ".set c") (decimal (length done + 1)) (codes " " ++ setting_text v))
       (reads_line enough (codes ".set" ++ 0x20 ∷ (reg_text (length done + 1) ++ 0x20 ∷ setting_text v)) (codes ".set" ∷ reg_text (length done + 1) ∷ s.words) (state (done ++ raw 0 ∷ rest) set) (state (done ++ v ∷ rest) (slice_set set (length done + 1) true)) 0
       (then_space (codes ".set") _ _ set_name (then_space (reg_text (length done + 1)) _ _ (register_word (length done + 1) low) s.line)) (omega arith)
-      (λ places h number. set_means places number (state (done ++ raw 0 ∷ rest) set) (length done + 1) s.words s.setting v (omega arith) low (s.read (reg_text (length done + 1))) s.value (fresh (length done + 1) (omega arith)) (no_harts_not before (hart_with pcc (done ++ raw 0 ∷ rest)))
+      (λ labels h number. set_means labels number (state (done ++ raw 0 ∷ rest) set) (length done + 1) s.words s.setting v (omega arith) low (s.read (reg_text (length done + 1))) s.value (fresh (length done + 1) (omega arith)) (no_harts_not before (hart_with pcc (done ++ raw 0 ∷ rest)))
       ∙ ap (λ harts. Ok (hart_draft memory harts (slice_set set (length done + 1) true))) (harts_after before pcc done rest v)))
 
   -- the registers from one on: what was set after them is left open

@@ -16,7 +16,7 @@ use Rattle.cheri_model.specs.declared.names.Mnemonic.{Mnemonic}
 use Rattle.grammar.specs.Tokens.{token_at}
 use Rattle.cheri_model.specs.instructions.Tables.{found_at}
 use Rattle.grammar.specs.Directives.{directive_of}
-use Rattle.grammar.specs.Labels.{PlaceParts}
+use Rattle.grammar.specs.Labels.{LabelParts}
 use Rattle.grammar.specs.Operands.{type_operand_of, type_in_range}
 use Rattle.grammar.specs.Capability.{cap_operands_of, optional_type, cap_tokens, cap_parts_of}
 use Rattle.grammar.specs.Forms.{counted, form_from}
@@ -52,30 +52,30 @@ set_named : directive_of (codes ".set") ≡ Some directive.Set
 unfolding directive_of found_at
 set_named = refl
 
-module _ (places : PlaceParts) (number : ℕ) (draft : DraftParts) where
+module _ (labels : LabelParts) (number : ℕ) (draft : DraftParts) where
   ram_read : (ram : ℕ) → ram < 2 ^ 128 → is_ram_size ram ≡ true → draft.sized ≡ false
-      → line_from places number draft (Some directive.Ram) (codes ".ram" ∷ decimal ram ∷ []) ≡ Ok (record draft { memory = cleared_memory ram; sized = true })
+      → line_from labels number draft (Some directive.Ram) (codes ".ram" ∷ decimal ram ∷ []) ≡ Ok (record draft { memory = cleared_memory ram; sized = true })
   unfolding line_from directive_line ram_line counted token_at with_ram
   ram_read ram low size fresh = rw (decimal_reads ram low, fresh, size) refl
 
   -- `.ram N`
   pub ram_means : (ram : ℕ) → ram < 2 ^ 128 → is_ram_size ram ≡ true → draft.sized ≡ false
-      → tokens_meaning places number draft (codes ".ram" ∷ decimal ram ∷ []) ≡ Ok (record draft { memory = cleared_memory ram; sized = true })
-  ram_means ram low size fresh = words_mean places number draft (codes ".ram") (decimal ram ∷ []) (Some directive.Ram) ram_named ∙ ram_read ram low size fresh
+      → tokens_meaning labels number draft (codes ".ram" ∷ decimal ram ∷ []) ≡ Ok (record draft { memory = cleared_memory ram; sized = true })
+  ram_means ram low size fresh = words_mean labels number draft (codes ".ram") (decimal ram ∷ []) (Some directive.Ram) ram_named ∙ ram_read ram low size fresh
 
   decoded : (word : ℕ) (low : word < 2 ^ 128) → hex_bytes (memory_text word) ≡ Ok (granule_bytes word low)
   unfolding hex_bytes
   decoded word low = let some = negated _ (memory_word word low).filled in rw (some, memory_decodes word low) refl
 
   bytes_read : (addr word : ℕ) (low : word < 2 ^ 128) (memory : List CapValue) → addr < 2 ^ 64 → is_in_ram draft.memory addr 16 ≡ true → stored_bytes draft.memory addr (granule_bytes word low) ≡ memory
-      → line_from places number draft (Some directive.Bytes) (codes ".bytes" ∷ hex_number addr ∷ memory_text word ∷ []) ≡ Ok (record draft { memory = memory; sized = true })
+      → line_from labels number draft (Some directive.Bytes) (codes ".bytes" ∷ hex_number addr ∷ memory_text word ∷ []) ≡ Ok (record draft { memory = memory; sized = true })
   unfolding line_from directive_line bytes_line counted token_at with_bytes
   bytes_read addr word low memory below inside stored = rw (hex_reads addr (omega arith), decoded word low, in_range addr (2 ^ 64 - 1) (omega arith), inside, stored) refl
 
   -- `.bytes A HEX`
   pub bytes_mean : (addr word : ℕ) (low : word < 2 ^ 128) (memory : List CapValue) → addr < 2 ^ 64 → is_in_ram draft.memory addr 16 ≡ true → stored_bytes draft.memory addr (granule_bytes word low) ≡ memory
-      → tokens_meaning places number draft (codes ".bytes" ∷ hex_number addr ∷ memory_text word ∷ []) ≡ Ok (record draft { memory = memory; sized = true })
-  bytes_mean addr word low memory below inside stored = words_mean places number draft (codes ".bytes") (hex_number addr ∷ memory_text word ∷ []) (Some directive.Bytes) bytes_named ∙ bytes_read addr word low memory below inside stored
+      → tokens_meaning labels number draft (codes ".bytes" ∷ hex_number addr ∷ memory_text word ∷ []) ≡ Ok (record draft { memory = memory; sized = true })
+  bytes_mean addr word low memory below inside stored = words_mean labels number draft (codes ".bytes") (hex_number addr ∷ memory_text word ∷ []) (Some directive.Bytes) bytes_named ∙ bytes_read addr word low memory below inside stored
 
 -- the type after six or seven words
 type_step_6 : (unsealed sentry : Bool) (a b c d e f : List ℕ) (otype : ℕ) → otype < 2 ^ 128 → (otype == unsealed_type) ≡ unsealed → (otype == sentry_type) ≡ sentry
@@ -117,17 +117,17 @@ module _ (c : capability.Capability) (h : IsLawful c) (plain : c.flag ≡ 0) whe
   ranges : cap_parts_of (operands_with c h (type_operand c.otype)) ≡ Ok (parts_with c h c.otype)
   ranges = in_ranges c h (type_operand c.otype) c.otype (type_reads c.otype h.otype)
 
-  cap_read : (places : PlaceParts) (number : ℕ) (draft : DraftParts) (addr : ℕ) (memory : List CapValue) → addr < 2 ^ 64 → fits draft.memory addr 16 ≡ true → store_capability draft.memory addr (valid c) ≡ memory
-      → line_from places number draft (Some directive.Cap) (codes ".cap" ∷ hex_number addr ∷ cap_words c h) ≡ Ok (record draft { memory = memory; sized = true })
+  cap_read : (labels : LabelParts) (number : ℕ) (draft : DraftParts) (addr : ℕ) (memory : List CapValue) → addr < 2 ^ 64 → fits draft.memory addr 16 ≡ true → store_capability draft.memory addr (valid c) ≡ memory
+      → line_from labels number draft (Some directive.Cap) (codes ".cap" ∷ hex_number addr ∷ cap_words c h) ≡ Ok (record draft { memory = memory; sized = true })
   unfolding line_from directive_line cap_line token_at with_capability
-  cap_read places number draft addr memory below inside stored =
+  cap_read labels number draft addr memory below inside stored =
       rw (hex_reads addr (omega arith), after_two (codes ".cap") (hex_number addr), in_range addr (2 ^ 64 - 1) (omega arith), ranges, inside, made_of_parts c h plain, stored) refl
 
   -- `.cap A BASE LEN ADDR PERMS [TYPE]`
-  pub cap_means : (places : PlaceParts) (number : ℕ) (draft : DraftParts) (addr : ℕ) (memory : List CapValue) → addr < 2 ^ 64 → fits draft.memory addr 16 ≡ true → store_capability draft.memory addr (valid c) ≡ memory
-      → tokens_meaning places number draft (codes ".cap" ∷ hex_number addr ∷ cap_words c h) ≡ Ok (record draft { memory = memory; sized = true })
-  cap_means places number draft addr memory below inside stored =
-      words_mean places number draft (codes ".cap") (hex_number addr ∷ cap_words c h) (Some directive.Cap) cap_named ∙ cap_read places number draft addr memory below inside stored
+  pub cap_means : (labels : LabelParts) (number : ℕ) (draft : DraftParts) (addr : ℕ) (memory : List CapValue) → addr < 2 ^ 64 → fits draft.memory addr 16 ≡ true → store_capability draft.memory addr (valid c) ≡ memory
+      → tokens_meaning labels number draft (codes ".cap" ∷ hex_number addr ∷ cap_words c h) ≡ Ok (record draft { memory = memory; sized = true })
+  cap_means labels number draft addr memory below inside stored =
+      words_mean labels number draft (codes ".cap") (hex_number addr ∷ cap_words c h) (Some directive.Cap) cap_named ∙ cap_read labels number draft addr memory below inside stored
 
   no_type_word : c.otype ≡ unsealed_type → type_words c.otype ≡ []
   unfolding type_words
@@ -145,15 +145,15 @@ module _ (c : capability.Capability) (h : IsLawful c) (plain : c.flag ≡ 0) whe
   unfolding type_in_range
   pcc_parts unsealed = in_ranges c h Unsealed c.otype (ap (λ n. Ok n) (sym unsealed))
 
-  hart_read : (places : PlaceParts) (number : ℕ) (draft : DraftParts) → c.otype ≡ unsealed_type → nat_lt (length draft.harts) 8 ≡ true
-      → line_from places number draft (Some directive.Hart) (codes ".hart" ∷ cap_words c h) ≡ Ok (record draft { harts = draft.harts ++ hart_from (valid c) ∷ []; set = no_registers })
+  hart_read : (labels : LabelParts) (number : ℕ) (draft : DraftParts) → c.otype ≡ unsealed_type → nat_lt (length draft.harts) 8 ≡ true
+      → line_from labels number draft (Some directive.Hart) (codes ".hart" ∷ cap_words c h) ≡ Ok (record draft { harts = draft.harts ++ hart_from (valid c) ∷ []; set = no_registers })
   unfolding line_from directive_line hart_line with_hart add_hart
-  hart_read places number draft unsealed room = rw (pcc_count unsealed, pcc_operands, pcc_parts unsealed, made_of_parts c h plain, room) refl
+  hart_read labels number draft unsealed room = rw (pcc_count unsealed, pcc_operands, pcc_parts unsealed, made_of_parts c h plain, room) refl
 
   -- `.hart BASE LEN ADDR PERMS`
-  pub hart_means : (places : PlaceParts) (number : ℕ) (draft : DraftParts) → c.otype ≡ unsealed_type → nat_lt (length draft.harts) 8 ≡ true
-      → tokens_meaning places number draft (codes ".hart" ∷ cap_words c h) ≡ Ok (record draft { harts = draft.harts ++ hart_from (valid c) ∷ []; set = no_registers })
-  hart_means places number draft unsealed room = words_mean places number draft (codes ".hart") (cap_words c h) (Some directive.Hart) hart_named ∙ hart_read places number draft unsealed room
+  pub hart_means : (labels : LabelParts) (number : ℕ) (draft : DraftParts) → c.otype ≡ unsealed_type → nat_lt (length draft.harts) 8 ≡ true
+      → tokens_meaning labels number draft (codes ".hart" ∷ cap_words c h) ≡ Ok (record draft { harts = draft.harts ++ hart_from (valid c) ∷ []; set = no_registers })
+  hart_means labels number draft unsealed room = words_mean labels number draft (codes ".hart") (cap_words c h) (Some directive.Hart) hart_named ∙ hart_read labels number draft unsealed room
 
   -- `cap BASE LEN ADDR PERMS [TYPE]`
   pub cap_setting : (reg : List ℕ) → setting_of (codes ".set" ∷ reg ∷ codes "cap" ∷ cap_words c h) ≡ Ok (Capability (parts_with c h c.otype))
@@ -180,30 +180,30 @@ set_register_read : (reg : ℕ) → 0 < reg → reg < 32 → settable_register_o
 unfolding settable_register_of
 set_register_read reg some low = rw (register_reads reg low, not_zero reg some) refl
 
-set_read : (places : PlaceParts) (number : ℕ) (draft : DraftParts) (reg : ℕ) (words : List (List ℕ)) (setting : Setting) (v : CapValue) → 0 < reg → reg < 32
+set_read : (labels : LabelParts) (number : ℕ) (draft : DraftParts) (reg : ℕ) (words : List (List ℕ)) (setting : Setting) (v : CapValue) → 0 < reg → reg < 32
     → setting_of (codes ".set" ∷ reg_text reg ∷ words) ≡ Ok setting → value_of setting ≡ Ok v → slice_index_or draft.set reg false ≡ false → (length draft.harts == 0) ≡ false
-    → line_from places number draft (Some directive.Set) (codes ".set" ∷ reg_text reg ∷ words)
+    → line_from labels number draft (Some directive.Set) (codes ".set" ∷ reg_text reg ∷ words)
     ≡ Ok (record draft { harts = with_latest draft.harts (with_register (latest draft.harts) reg v); set = slice_set draft.set reg true })
 unfolding line_from directive_line set_line token_at with_set set_register
-set_read places number draft reg words setting v some low read value fresh harts = rw (set_register_read reg some low, read, fresh, value, harts) refl
+set_read labels number draft reg words setting v some low read value fresh harts = rw (set_register_read reg some low, read, fresh, value, harts) refl
 
 -- `.set` of a register that was not set, c1 to c31
-pub set_means : (places : PlaceParts) (number : ℕ) (draft : DraftParts) (reg : ℕ) (words : List (List ℕ)) (setting : Setting) (v : CapValue) → 0 < reg → reg < 32
+pub set_means : (labels : LabelParts) (number : ℕ) (draft : DraftParts) (reg : ℕ) (words : List (List ℕ)) (setting : Setting) (v : CapValue) → 0 < reg → reg < 32
     → setting_of (codes ".set" ∷ reg_text reg ∷ words) ≡ Ok setting → value_of setting ≡ Ok v → slice_index_or draft.set reg false ≡ false → (length draft.harts == 0) ≡ false
-    → tokens_meaning places number draft (codes ".set" ∷ reg_text reg ∷ words)
+    → tokens_meaning labels number draft (codes ".set" ∷ reg_text reg ∷ words)
     ≡ Ok (record draft { harts = with_latest draft.harts (with_register (latest draft.harts) reg v); set = slice_set draft.set reg true })
-set_means places number draft reg words setting v some low read value fresh harts =
-    words_mean places number draft (codes ".set") (reg_text reg ∷ words) (Some directive.Set) set_named ∙ set_read places number draft reg words setting v some low read value fresh harts
+set_means labels number draft reg words setting v some low read value fresh harts =
+    words_mean labels number draft (codes ".set") (reg_text reg ∷ words) (Some directive.Set) set_named ∙ set_read labels number draft reg words setting v some low read value fresh harts
 
-instruction_read : (places : PlaceParts) (number : ℕ) (draft : DraftParts) (name : List ℕ) (mnemonic : Mnemonic) (operands : List (List ℕ)) (whole : Form) → IsName name mnemonic
-    → form_from places mnemonic (name ∷ operands) ≡ Ok whole → nat_lt (length draft.program) 16384 ≡ true
-    → line_from places number draft None (name ∷ operands) ≡ Ok (record draft { program = draft.program ++ instr_of whole ∷ [] })
+instruction_read : (labels : LabelParts) (number : ℕ) (draft : DraftParts) (name : List ℕ) (mnemonic : Mnemonic) (operands : List (List ℕ)) (whole : Form) → IsName name mnemonic
+    → form_from labels mnemonic (name ∷ operands) ≡ Ok whole → nat_lt (length draft.program) 16384 ≡ true
+    → line_from labels number draft None (name ∷ operands) ≡ Ok (record draft { program = draft.program ++ instr_of whole ∷ [] })
 unfolding line_from other_line instruction_line token_at with_instruction
-instruction_read places number draft name mnemonic operands whole named read room = rw (named.found, read, room) refl
+instruction_read labels number draft name mnemonic operands whole named read room = rw (named.found, read, room) refl
 
 -- an instruction
-pub instruction_means : (places : PlaceParts) (number : ℕ) (draft : DraftParts) (name : List ℕ) (mnemonic : Mnemonic) (operands : List (List ℕ)) (whole : Form) → IsName name mnemonic
-    → form_from places mnemonic (name ∷ operands) ≡ Ok whole → nat_lt (length draft.program) 16384 ≡ true
-    → tokens_meaning places number draft (name ∷ operands) ≡ Ok (record draft { program = draft.program ++ instr_of whole ∷ [] })
-instruction_means places number draft name mnemonic operands whole named read room =
-    words_mean places number draft name operands None named.undirected ∙ instruction_read places number draft name mnemonic operands whole named read room
+pub instruction_means : (labels : LabelParts) (number : ℕ) (draft : DraftParts) (name : List ℕ) (mnemonic : Mnemonic) (operands : List (List ℕ)) (whole : Form) → IsName name mnemonic
+    → form_from labels mnemonic (name ∷ operands) ≡ Ok whole → nat_lt (length draft.program) 16384 ≡ true
+    → tokens_meaning labels number draft (name ∷ operands) ≡ Ok (record draft { program = draft.program ++ instr_of whole ∷ [] })
+instruction_means labels number draft name mnemonic operands whole named read room =
+    words_mean labels number draft name operands None named.undirected ∙ instruction_read labels number draft name mnemonic operands whole named read room

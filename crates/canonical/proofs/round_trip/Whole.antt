@@ -8,7 +8,7 @@ use Rattle.cheri_model.specs.steps.Memory.{ram_base, cleared_memory, is_ram_size
 use Rattle.cheri_model.specs.runs.Image.{ImageParts}
 use Rattle.grammar.specs.Tokens.{is_blank, tokens_of}
 use Rattle.grammar.specs.Lines.{lines_of}
-use Rattle.grammar.specs.Labels.{PlaceParts, places_of, instruction_lines}
+use Rattle.grammar.specs.Labels.{LabelParts, labels_of, instruction_lines}
 use Rattle.listings.specs.Statement.{tokens_meaning}
 use Rattle.listings.specs.Draft.{DraftParts, empty_draft, no_registers}
 use Rattle.listings.specs.Meaning.{line_meaning, lines_meaning, listed_from, finished, listing_limit, listing_meaning}
@@ -32,9 +32,9 @@ ram_limit : (ram : ℕ) → is_ram_size ram ≡ true → ram ≤ 1048576
 ram_limit ram e = let most : nat_le ram 1048576 ≡ true = second (nat_le 16 ram) _ (first _ _ e) in grind (arith, nat_tests)
 
 -- an empty line changes nothing
-last_line : (places : PlaceParts) (number : ℕ) (draft : DraftParts) → lines_meaning places number draft (lines_of []) ≡ Ok draft
+last_line : (labels : LabelParts) (number : ℕ) (draft : DraftParts) → lines_meaning labels number draft (lines_of []) ≡ Ok draft
 unfolding lines_meaning line_meaning tokens_meaning tokens_of
-last_line places number draft = refl
+last_line labels number draft = refl
 
 module _ (image : ImageParts) (h : IsListable image) where
   abbrev enough : ℕ
@@ -56,7 +56,7 @@ module _ (image : ImageParts) (h : IsListable image) where
   ram_reads =
       reads_line enough (codes ".ram" ++ 0x20 ∷ decimal image.ram) (codes ".ram" ∷ decimal image.ram ∷ []) empty_draft (sized_draft (replicate (length h.memory) (raw 0))) 0
       (then_space (codes ".ram") _ _ ram_name (last_word (decimal image.ram) (decimal_word image.ram (omega (arith, ram_low))))) (omega arith)
-      (λ places k number. ram_means places number empty_draft image.ram (omega (arith, ram_low)) h.size refl ∙ ap (λ memory. Ok (sized_draft memory)) cleared)
+      (λ labels k number. ram_means labels number empty_draft image.ram (omega (arith, ram_low)) h.size refl ∙ ap (λ memory. Ok (sized_draft memory)) cleared)
 
   granules : Reads enough (each granule_line image.granules) (sized_draft (replicate (length h.memory) (raw 0))) (sized_draft h.memory) 0
   granules =
@@ -82,19 +82,19 @@ module _ (image : ImageParts) (h : IsListable image) where
             (append_assoc (codes ".ram " ++ decimal image.ram) (0x0A ∷ []) (each granule_line image.granules ++ (each hart_lines image.harts ++ each program_line image.program))) whole,
       )
 
-  enough_lines : enough ≤ (places_of (canon image)).instructions
-  unfolding places_of
+  enough_lines : enough ≤ (labels_of (canon image)).instructions
+  unfolding labels_of
   enough_lines =
       let counted : (0 + (0 + (0 + enough))) + instruction_lines (lines_of []) ≤ instruction_lines (lines_of (canon image ++ [])) = all_lines.1.counts [] in
       let whole : canon image ++ [] ≡ canon image = append-nil (canon image) in
       let counted_here : (0 + (0 + (0 + enough))) + instruction_lines (lines_of []) ≤ instruction_lines (lines_of (canon image)) = subst (λ text. (0 + (0 + (0 + enough))) + instruction_lines (lines_of []) ≤ instruction_lines (lines_of text)) whole counted in
       omega arith
 
-  lines_read : lines_meaning (places_of (canon image)) 1 empty_draft (lines_of (canon image)) ≡ Ok (program_draft h.memory image.harts all_lines.0 image.program)
+  lines_read : lines_meaning (labels_of (canon image)) 1 empty_draft (lines_of (canon image)) ≡ Ok (program_draft h.memory image.harts all_lines.0 image.program)
   lines_read =
-      let places = places_of (canon image) in
-      let read = all_lines.1.leads places enough_lines 1 [] in
-      ap (λ text. lines_meaning places 1 empty_draft (lines_of text)) (sym (append-nil (canon image))) ∙ read ∙ last_line places (all_lines.1.ends 1) (program_draft h.memory image.harts all_lines.0 image.program)
+      let labels = labels_of (canon image) in
+      let read = all_lines.1.leads labels enough_lines 1 [] in
+      ap (λ text. lines_meaning labels 1 empty_draft (lines_of text)) (sym (append-nil (canon image))) ∙ read ∙ last_line labels (all_lines.1.ends 1) (program_draft h.memory image.harts all_lines.0 image.program)
 
   not_none : (n : ℕ) → 0 < n → (n == 0) ≡ false
   not_none n some = grind (arith, nat_tests)

@@ -1,13 +1,13 @@
 -- Bounds that any word says are multiples of their length's alignment, where the base is at most the top and the top
 -- at most 2^64. Over 2^E the base is x and the top l steps further on.
-use Rattle.std.specs.Prelude.{◌≡◌, ℕ, ◌+◌, ◌-◌, ◌*◌, ◌/◌, ◌%◌, ◌^◌, ◌<◌, ◌≤◌, ◌==◌, nat_lt, if◌then◌else◌, true}
+use Rattle.std.specs.Prelude.{◌≡◌, ℕ, ◌+◌, ◌-◌, ◌*◌, ◌/◌, ◌%◌, ◌^◌, ◌<◌, ◌≤◌, ◌==◌, ◌&&◌, nat_lt, if◌then◌else◌, true}
 use Rattle.std.proofs.Common.{arith, inl, inr, ap, refl, mul-le-mul_right}
 use Rattle.std.proofs.Math.Nat.{mul-mod_left}
 use Rattle.std.proofs.lemmas.Nat.{pow_pos, pow-add, div-add-mod'}
 use Rattle.std.proofs.lemmas.Bool.{cases_lt, cond_both, lt-ltb, le-ltb}
 use Rattle.cap_model.specs.bounds.Lengths.{exponent}
 use Rattle.cap_model.specs.words.Fields.{word_ie, stored_t, stored_b, word_exponent, word_b, word_t, word_t14}
-use Rattle.cap_model.specs.words.RawBounds.{region_floor, region_start, region_offset, raw_base, uncorrected_top, corrected_top, raw_top}
+use Rattle.cap_model.specs.words.RawBounds.{region_floor, region_start, region_offset, raw_base, uncorrected_top, corrected_top, raw_top, halves_above, other_top}
 use Rattle.cap_model.specs.results.Rebuilt.{are_aligned}
 use Rattle.cap_model.proofs.Bounds.RegionStarts.{region_start_greatest}
 use Rattle.cap_model.proofs.Bounds.BoundsBack.{powers}
@@ -113,9 +113,7 @@ unfolding corrected_top
 corrected_multiple i e base top fits multiple =
     let power = multiple_of_lower_power i 64 (2 ^ 64) fits refl in
     let inverted = multiple_round i 65 (top + 2 ^ 64) (omega arith) (multiple_sum (2 ^ i) top (2 ^ 64) multiple power) in
-    cond_both (nat_lt e 51) _ top (λ x. x % 2 ^ i ≡ 0)
-    (λ _. cond_both (nat_lt 1 ((top / 2 ^ 63 + 4 - base / 2 ^ 63) % 4)) _ top (λ x. x % 2 ^ i ≡ 0) (λ _. inverted) (λ _. multiple))
-    (λ _. multiple)
+    cond_both (nat_lt e 51 && nat_lt 1 (halves_above base top)) (other_top top) top (λ x. x % 2 ^ i ≡ 0) (λ _. inverted) (λ _. multiple)
 
 equal : (a b : ℕ) → a ≡ b → (a == b) ≡ true
 equal a b e = rw e (grind arith)

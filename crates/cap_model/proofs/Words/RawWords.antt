@@ -1,9 +1,9 @@
 -- How large the parts of any word are, whether or not a capability has this word.
-use Rattle.std.specs.Prelude.{ℕ, ◌+◌, ◌-◌, ◌/◌, ◌%◌, ◌^◌, ◌<◌, ◌≤◌, ◌==◌, nat_lt, if◌then◌else◌}
+use Rattle.std.specs.Prelude.{ℕ, ◌+◌, ◌-◌, ◌/◌, ◌%◌, ◌^◌, ◌<◌, ◌≤◌, ◌==◌, ◌&&◌, nat_lt, if◌then◌else◌}
 use Rattle.std.proofs.Common.{arith}
 use Rattle.std.proofs.lemmas.Bool.{cond_both}
 use Rattle.cap_model.specs.words.Fields.{word_ie, stored_t, stored_b, word_exponent, word_b, word_t, word_t14}
-use Rattle.cap_model.specs.words.RawBounds.{raw_base, uncorrected_top, corrected_top, raw_top}
+use Rattle.cap_model.specs.words.RawBounds.{raw_base, uncorrected_top, corrected_top, raw_top, halves_above, other_top}
 
 -- the exponent of a word is at most 52
 pub word_exponent_at_most : (upper : ℕ) → word_exponent upper ≤ 52
@@ -33,9 +33,7 @@ raw_base_lt upper a = omega arith
 corrected_top_lt : (e base top : ℕ) → top < 2 ^ 65 → corrected_top e base top < 2 ^ 65
 unfolding corrected_top
 corrected_top_lt e base top h =
-    let inverted : (if nat_lt 1 ((top / 2 ^ 63 + 4 - base / 2 ^ 63) % 4) then (top + 2 ^ 64) % 2 ^ 65 else top) < 2 ^ 65 =
-    cond_both (nat_lt 1 ((top / 2 ^ 63 + 4 - base / 2 ^ 63) % 4)) ((top + 2 ^ 64) % 2 ^ 65) top (λ x. x < 2 ^ 65) (λ _. omega arith) (λ _. h) in
-    cond_both (nat_lt e 51) _ top (λ x. x < 2 ^ 65) (λ _. inverted) (λ _. h)
+    cond_both (nat_lt e 51 && nat_lt 1 (halves_above base top)) (other_top top) top (λ x. x < 2 ^ 65) (λ _. omega arith) (λ _. h)
 
 pub raw_top_lt : (upper a : ℕ) → raw_top upper a < 2 ^ 65
 unfolding raw_top uncorrected_top

@@ -1,7 +1,7 @@
 -- The bounds of any 128-bit word, tagged or not (CHERI Concentrate, "decoding of bounds"; CHERI ISA
 -- v9, "capability encoding"; the cap of the exponent and the last step are this project's own
 -- profile for words that no instruction makes).
-use Rattle.std.specs.Prelude.{ℕ, ◌+◌, ◌-◌, ◌*◌, ◌/◌, ◌%◌, ◌^◌, nat_lt, if◌then◌else◌}
+use Rattle.std.specs.Prelude.{ℕ, ◌+◌, ◌-◌, ◌*◌, ◌/◌, ◌%◌, ◌^◌, ◌&&◌, nat_lt, if◌then◌else◌}
 use Rattle.cap_model.specs.bounds.Numbers.{congruent_below}
 use Rattle.cap_model.specs.words.Fields.{word_exponent, word_b, word_t14}
 
@@ -33,12 +33,19 @@ uncorrected_top upper addr =
     let b = word_b upper in
     (region_start e b addr + region_offset e b (word_t14 upper)) % 2 ^ 65
 
--- The last correction: bit 64 of the top is inverted where E is below 51 and the top's two bits
--- from bit 63 on are more than one step above the base's bit 63, modulo 4.
+-- how many steps of 2^63 a top of 65 bits lies above a base, modulo 4
+abbrev pub halves_above : ℕ → ℕ → ℕ
+halves_above base top = (top / 2 ^ 63 + 4 - base / 2 ^ 63) % 4
+
+-- the other number of 65 bits that is equal to it modulo 2^64
+abbrev pub other_top : ℕ → ℕ
+other_top top = (top + 2 ^ 64) % 2 ^ 65
+
+-- The last correction. Two tops are equal modulo 2^64: below E = 51 the right one lies 0 or 1 steps
+-- of 2^63 above the base, and the wrong one 2 or 3.
 unfoldable pub corrected_top : ℕ → ℕ → ℕ → ℕ
 corrected_top e base top =
-    let apart = (top / 2 ^ 63 + 4 - base / 2 ^ 63) % 4 in
-    if nat_lt e 51 then (if nat_lt 1 apart then (top + 2 ^ 64) % 2 ^ 65 else top) else top
+    if nat_lt e 51 && nat_lt 1 (halves_above base top) then other_top top else top
 
 unfoldable pub raw_top : ℕ → ℕ → ℕ
 raw_top upper addr =

@@ -61,7 +61,7 @@ fn is_encoding(upper: u64, addr: u64) -> bool
 }
 
 /// The exponent as the fields have it, which may be above the greatest.
-#[tactic(auto, unfolding(crate::proofs::Open::stored))]
+#[tactic(auto, unfolding(crate::proofs::Unfold::stored))]
 fn stored_exponent(upper: u64) -> u8
     ensures { result ≡ stored_exponent upper }
 {
@@ -73,7 +73,7 @@ fn stored_exponent(upper: u64) -> u8
 }
 
 /// B, in which the bits of the exponent count as 0.
-#[tactic(auto, unfolding(crate::proofs::Open::base_digits))]
+#[tactic(auto, unfolding(crate::proofs::Unfold::base_digits))]
 fn base_digits(upper: u64) -> u64
     ensures value { result ≡ word_b upper }
     ensures below { result < 2 ^ 14 }
@@ -88,7 +88,7 @@ fn base_digits(upper: u64) -> u64
 }
 
 /// The twelve stored bits of T, in which the bits of the exponent count as 0.
-#[tactic(auto, unfolding(crate::proofs::Open::top_digits))]
+#[tactic(auto, unfolding(crate::proofs::Unfold::top_digits))]
 fn top_digits(upper: u64) -> u64
     ensures value { result ≡ word_t upper }
     ensures below { result < 2 ^ 12 }

@@ -43,7 +43,7 @@ struct Folder<'a> {
 }
 
 /// The first bytes of a text, up to `most`.
-fn beginning_of(alloc: Global, text: &str, most: u64) -> Result<Vec<u8>, FileFault>
+fn prefix_of(alloc: Global, text: &str, most: u64) -> Result<Vec<u8>, FileFault>
     ensures { IfOk result (λ bytes. length bytes.items ≤ most) }
 {
     let size = text.len().min(most as usize);
@@ -57,7 +57,7 @@ impl Files for Folder<'_> {
     fn read(&mut self, name: &str, most: u64) -> Result<Vec<u8>, FileFault> {
         for (known, text) in self.files {
             if *known == name {
-                return beginning_of(self.alloc, text, most);
+                return prefix_of(self.alloc, text, most);
             }
         }
         Err(FileFault::CannotRead)
@@ -95,13 +95,13 @@ impl Write for Unflushed {
 /// The status of a run whose standard output is `out`, and what it reports.
 fn finish<O: Write>(
     alloc: Global,
-    words: &[&str],
+    args: &[&str],
     files: &[(&str, &str)],
     out: &mut O,
 ) -> Result<(u8, Vec<u8>), Fail> {
     let mut all = Vec::new(alloc);
-    for word in words {
-        all.push(word.to_string(alloc)?)?;
+    for arg in args {
+        all.push(arg.to_string(alloc)?)?;
     }
     let mut err = Vec::new(alloc);
     let mut folder = Folder { alloc, files };
@@ -112,15 +112,15 @@ fn finish<O: Write>(
 /// Compares a run with its status and with what it writes to standard output and standard error.
 fn compare<R: Abort + AllocGlobal>(
     rt: &R,
-    words: &[&str],
+    args: &[&str],
     files: &[(&str, &str)],
     wanted: (u8, &str, &str),
 ) -> Result<(), Fail> {
     let (status, printed, reported) = wanted;
     let mut out = Vec::new(rt.alloc());
-    let (given, err) = finish(rt.alloc(), words, files, &mut out)?;
-    assert_eq!(rt; str::from_utf8(err.as_slice())?, reported, "{words:?}");
-    assert_eq!(rt; str::from_utf8(out.as_slice())?, printed, "{words:?}");
-    assert_eq!(rt; given, status, "{words:?}");
+    let (given, err) = finish(rt.alloc(), args, files, &mut out)?;
+    assert_eq!(rt; str::from_utf8(err.as_slice())?, reported, "{args:?}");
+    assert_eq!(rt; str::from_utf8(out.as_slice())?, printed, "{args:?}");
+    assert_eq!(rt; given, status, "{args:?}");
     Ok(())
 }

@@ -61,7 +61,7 @@ struct OneFile<'a> {
 }
 
 /// The first bytes of a text, up to `most`.
-fn beginning_of(alloc: Global, text: &str, most: u64) -> Result<Vec<u8>, FileFault>
+fn prefix_of(alloc: Global, text: &str, most: u64) -> Result<Vec<u8>, FileFault>
     ensures { IfOk result (λ bytes. length bytes.items ≤ most) }
 {
     let size = text.len().min(most as usize);
@@ -74,7 +74,7 @@ fn beginning_of(alloc: Global, text: &str, most: u64) -> Result<Vec<u8>, FileFau
 impl Files for OneFile<'_> {
     fn read(&mut self, name: &str, most: u64) -> Result<Vec<u8>, FileFault> {
         if name == "listing" {
-            beginning_of(self.alloc, self.text, most)
+            prefix_of(self.alloc, self.text, most)
         } else {
             Err(FileFault::CannotRead)
         }
@@ -96,10 +96,10 @@ impl Write for Full {
 }
 
 /// Words as a command line has them.
-fn owned(alloc: Global, words: &[&str]) -> Result<Vec<String>, Fail> {
+fn owned(alloc: Global, args: &[&str]) -> Result<Vec<String>, Fail> {
     let mut all = Vec::new(alloc);
-    for word in words {
-        all.push(word.to_string(alloc)?)?;
+    for arg in args {
+        all.push(arg.to_string(alloc)?)?;
     }
     Ok(all)
 }
@@ -108,12 +108,12 @@ fn owned(alloc: Global, words: &[&str]) -> Result<Vec<String>, Fail> {
 /// standard error.
 fn compare<R: Abort + AllocGlobal>(
     rt: &R,
-    words: &[&str],
+    args: &[&str],
     text: &str,
     wanted: (u8, &str, &str),
 ) -> Result<(), Fail> {
     let alloc = rt.alloc();
-    let given = owned(alloc, words)?;
+    let given = owned(alloc, args)?;
     let mut files = OneFile { alloc, text };
     let (mut printed, mut reported) = (Vec::new(alloc), Vec::new(alloc));
     let status = perform(
@@ -125,16 +125,16 @@ fn compare<R: Abort + AllocGlobal>(
         &mut reported,
     );
     let (wanted_status, answer, fault) = wanted;
-    assert_eq!(rt; str::from_utf8(reported.as_slice())?, fault, "{words:?}");
-    assert_eq!(rt; str::from_utf8(printed.as_slice())?, answer, "{words:?}");
-    assert_eq!(rt; status, wanted_status, "{words:?}");
+    assert_eq!(rt; str::from_utf8(reported.as_slice())?, fault, "{args:?}");
+    assert_eq!(rt; str::from_utf8(printed.as_slice())?, answer, "{args:?}");
+    assert_eq!(rt; status, wanted_status, "{args:?}");
     Ok(())
 }
 
 /// States are found, or are not there, or are not found in time.
 #[test]
 fn states_are_found(rt: HostRuntime) -> Result<(), Fail> {
-    for (words, status, answer) in [
+    for (args, status, answer) in [
         (
             ["find", "listing", "0.c5 = 1 and 1.c5 = 1", "--states", "9"].as_slice(),
             0,
@@ -176,7 +176,7 @@ fn states_are_found(rt: HostRuntime) -> Result<(), Fail> {
             SWEPT_JSON,
         ),
     ] {
-        compare(&rt, words, COUNTING, (status, answer, ""))?;
+        compare(&rt, args, COUNTING, (status, answer, ""))?;
     }
     Ok(())
 }
@@ -184,7 +184,7 @@ fn states_are_found(rt: HostRuntime) -> Result<(), Fail> {
 /// Command line, file, listing and condition are judged in this order.
 #[test]
 fn faults_are_reported(rt: HostRuntime) -> Result<(), Fail> {
-    for (words, text, status, fault) in [
+    for (args, text, status, fault) in [
         ([].as_slice(), COUNTING, 2, "usage\n"),
         (
             &["find", "nothing", "x", "--states", "0"],
@@ -211,7 +211,7 @@ fn faults_are_reported(rt: HostRuntime) -> Result<(), Fail> {
             "bad condition at byte 5\n",
         ),
     ] {
-        compare(&rt, words, text, (status, "", fault))?;
+        compare(&rt, args, text, (status, "", fault))?;
     }
     Ok(())
 }
@@ -220,7 +220,7 @@ fn faults_are_reported(rt: HostRuntime) -> Result<(), Fail> {
 #[test]
 fn full_writers(rt: HostRuntime) -> Result<(), Fail> {
     let alloc = rt.alloc();
-    let words = owned(alloc, &["find", "listing", "0.c5 = 1"])?;
+    let args = owned(alloc, &["find", "listing", "0.c5 = 1"])?;
     let mut files = OneFile {
         alloc,
         text: COUNTING,
@@ -228,7 +228,7 @@ fn full_writers(rt: HostRuntime) -> Result<(), Fail> {
     let mut reported = Vec::new(alloc);
     let status = perform(
         alloc,
-        words.as_slice(),
+        args.as_slice(),
         &mut files,
         &mut NoProgress,
         &mut Full,

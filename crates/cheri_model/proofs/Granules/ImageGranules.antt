@@ -7,7 +7,7 @@ use Rattle.std.proofs.lemmas.List.Elements.{All-nil, All-cons}
 use Rattle.cap_model.specs.values.CapValue.{CapValue}
 use Rattle.cheri_model.specs.steps.Memory.{ram_base, fits}
 use Rattle.cheri_model.specs.runs.Image.{ImageParts}
-use Rattle.cheri_model.specs.runs.ImageForm.{is_granule, are_granules, are_sizes, is_image}
+use Rattle.cheri_model.specs.runs.ImageRules.{is_granule, are_granules, are_sizes, is_image}
 
 pub record IsPlaced (ram : ℕ) (entry : ℕ × CapValue) : Type 0 where
   pub aligned : entry.0 % 16 ≡ 0

@@ -9,7 +9,7 @@ use Rattle.cheri_model.specs.declared.operation.Event.{Event}
 use Rattle.cheri_model.specs.declared.operation.Event.TheVariants as event
 use Rattle.cheri_model.specs.runs.Image.{ImageParts}
 use Rattle.cheri_model.specs.runs.Machine.{MachineState, opening_state, may_take, state_after_step, entry_of, state_after_one, event_of}
-use Rattle.cheri_model.specs.runs.Replay.{state_after, events_of, is_legal, operation_of, operations_of, replayed_state, replayed_events, IsReplay, IsBeginning, state_after_steps, entries_of_steps}
+use Rattle.cheri_model.specs.runs.Replay.{state_after, events_of, is_legal, operation_of, operations_of, replayed_state, replayed_events, IsReplay, IsPrefixOf, state_after_steps, entries_of_steps}
 
 module _ (image : ImageParts) where
   pub state_after-append : (state : MachineState) (first later : List Op) →
@@ -32,15 +32,15 @@ module _ (image : ImageParts) where
   is_legal-append state (op ∷ first) later =
       let rest = is_legal-append (state_after_one image state op) first later in grind (arith, common_steps)
 
-  -- a beginning of a legal order is legal, and its events are a beginning of the whole's
-  pub legal_beginning : (state : MachineState) (first order : List Op) → IsBeginning first order →
+  -- a prefix of a legal order is legal, and its events are a prefix of the whole's
+  pub legal_prefix : (state : MachineState) (first order : List Op) → IsPrefixOf first order →
       is_legal image state order ≡ true → is_legal image state first ≡ true
-  legal_beginning state first order (later, is) legal =
+  legal_prefix state first order (later, is) legal =
       (and_parts (is_legal image state first) _ (rw (is, is_legal-append) at legal)).0
 
-  pub events_beginning : (state : MachineState) (first order : List Op) → IsBeginning first order →
-      IsBeginning (events_of image state first) (events_of image state order)
-  events_beginning state first order (later, is) =
+  pub events_prefix : (state : MachineState) (first order : List Op) → IsPrefixOf first order →
+      IsPrefixOf (events_of image state first) (events_of image state order)
+  events_prefix state first order (later, is) =
       (events_of image (state_after image state first) later, ap (events_of image state) is ∙ events_of-append state first later)
 
   pub state_after_push : (state : MachineState) (order : List Op) (op : Op) →

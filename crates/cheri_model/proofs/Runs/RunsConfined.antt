@@ -174,7 +174,7 @@ unfolding state_after
 state_after_both image state [] later = refl
 state_after_both image state (op ∷ before) later = state_after_both image (state_after_one image state op) before later
 
--- the same of the values that any beginning of the order left
+-- the same of the values that any prefix of the order left
 pub run_monotone : (image : ImageParts) (before later : List Op) → IsLawfulState (opening_state image) →
     IsConfinedTo (replayed_state image before) (replayed_state image (before ++ later))
 unfolding replayed_state
@@ -184,7 +184,7 @@ run_monotone image before later lawful =
     subst (EachOfState (IsGrantedValue (values_of_state middle))) (sym (state_after_both image (opening_state image) before later))
     (later_confined image middle later middle_lawful)
 
--- and of a replay, for every beginning of its trace
+-- and of a replay, for every prefix of its trace
 pub replay_monotone : (image : ImageParts) (trace : List Event) (state : MachineState) → IsReplay image trace state →
     IsLawfulState (opening_state image) → IsMonotone image trace state
 unfolding operations_of

@@ -80,7 +80,7 @@ IsConfinedTo before state = EachOfState (IsGrantedValue (values_of_state before)
 abbrev pub alone : HartState → List CapValue → MachineState
 alone hart memory = record { harts = hart ∷ []; memory = memory }
 
--- for every beginning of a trace, every tagged value of a state is granted by the values that its
+-- for every prefix of a trace, every tagged value of a state is granted by the values that its
 -- replay left
 abbrev pub IsMonotone : ImageParts → List Event → MachineState → Type 0
 IsMonotone image trace state =

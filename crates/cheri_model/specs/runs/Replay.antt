@@ -68,7 +68,7 @@ pub record IsReplay (image : ImageParts) (trace : List Event) (now : MachineStat
   pub events : trace ≡ replayed_events image (operations_of trace)
   pub legal : IsTrue (is_legal image (opening_state image) (operations_of trace))
 
--- one list of events, or of operations, is a beginning of another: the other is this one followed
+-- one list of events, or of operations, is a prefix of another: the other is this one followed
 -- by some list
-abbrev pub IsBeginning : {A : Type 0} → List A → List A → Type 0
-IsBeginning {A} before after = (later : List A) × (after ≡ before ++ later)
+abbrev pub IsPrefixOf : {A : Type 0} → List A → List A → Type 0
+IsPrefixOf {A} before after = (later : List A) × (after ≡ before ++ later)

@@ -6,7 +6,7 @@ ghost use Rattle.cheri_model.specs.declared.operation.Op.{Op};
 ghost use Rattle.cheri_model.specs.declared.operation.Op.TheVariants as operation;
 ghost use Rattle.cheri_model.specs.declared.operation.Event.TheVariants as event;
 ghost use Rattle.cheri_model.specs.runs.Machine.{MachineState};
-ghost use Rattle.cheri_model.specs.runs.Replay.{state_after, events_of, is_legal, IsBeginning};
+ghost use Rattle.cheri_model.specs.runs.Replay.{state_after, events_of, is_legal, IsPrefixOf};
 ghost use Rattle.cheri_model.specs.runs.Replay.{state_after_steps, entries_of_steps};
 
 /// An order followed by another runs the second from where the first has ended: its state, its
@@ -24,14 +24,14 @@ pub fn orders_follow_one_another()
         ≡ (is_legal image state first && is_legal image (state_after image state first) later) }
 {}
 
-/// A beginning of a legal order is legal, and its events are a beginning of the whole order's.
-pub fn beginnings_of_runs()
+/// A prefix of a legal order is legal, and its events are a prefix of the whole order's.
+pub fn prefixes_of_runs()
     ensures legal { (image : ImageParts) (state : MachineState) (first order : List Op)
-        → IsBeginning first order → is_legal image state order ≡ true
+        → IsPrefixOf first order → is_legal image state order ≡ true
         → is_legal image state first ≡ true }
     ensures events { (image : ImageParts) (state : MachineState) (first order : List Op)
-        → IsBeginning first order
-        → IsBeginning (events_of image state first) (events_of image state order) }
+        → IsPrefixOf first order
+        → IsPrefixOf (events_of image state first) (events_of image state order) }
 {}
 
 /// An order without sweeps is what it says of its harts alone: one step after another, each with

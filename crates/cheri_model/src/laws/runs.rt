@@ -38,7 +38,7 @@ pub fn steps_are_confined()
 
 /// Where the opening state's values are lawful, every value of each state of a run is lawful, and
 /// every tagged one is granted by an initial capability: authority is never made (CHERI ISA v9,
-/// "capability monotonicity"). The same holds of the values after any beginning of the run.
+/// "capability monotonicity"). The same holds of the values after any prefix of the run.
 pub fn runs_are_confined()
     ensures lawful { (image : ImageParts) (order : List Op)
         → IsLawfulState (opening_state image) → IsLawfulState (replayed_state image order) }

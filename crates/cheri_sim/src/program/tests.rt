@@ -60,7 +60,7 @@ struct Folder<'a> {
 }
 
 /// The first bytes of a text, up to `most`.
-fn beginning_of(alloc: Global, text: &str, most: u64) -> Result<Vec<u8>, FileFault>
+fn prefix_of(alloc: Global, text: &str, most: u64) -> Result<Vec<u8>, FileFault>
     ensures { IfOk result (λ bytes. length bytes.items ≤ most) }
 {
     let size = text.len().min(most as usize);
@@ -77,7 +77,7 @@ impl Files for Folder<'_> {
         }
         for (known, text) in self.files {
             if *known == name {
-                return beginning_of(self.alloc, text, most);
+                return prefix_of(self.alloc, text, most);
             }
         }
         Err(FileFault::CannotRead)
@@ -113,10 +113,10 @@ impl Write for Unflushed {
 }
 
 /// Words as a command line has them.
-fn owned(alloc: Global, words: &[&str]) -> Result<Vec<String>, Fail> {
+fn owned(alloc: Global, args: &[&str]) -> Result<Vec<String>, Fail> {
     let mut all = Vec::new(alloc);
-    for word in words {
-        all.push(word.to_string(alloc)?)?;
+    for arg in args {
+        all.push(arg.to_string(alloc)?)?;
     }
     Ok(all)
 }
@@ -129,15 +129,15 @@ struct Finished {
     reported: Vec<u8>,
 }
 
-/// Runs words over files, of which one, where it is named, takes more memory than there is.
+/// Runs arguments over files, of which one, where it is named, takes more memory than there is.
 fn answer<R: AllocGlobal + Threads + Wait + Sync>(
     rt: &R,
-    words: &[&str],
+    args: &[&str],
     files: &[(&str, &str)],
     too_large: &str,
 ) -> Result<Finished, Fail> {
     let alloc = rt.alloc();
-    let words = owned(alloc, words)?;
+    let args = owned(alloc, args)?;
     let mut folder = Folder {
         alloc,
         files,
@@ -147,7 +147,7 @@ fn answer<R: AllocGlobal + Threads + Wait + Sync>(
     let status = perform(
         rt,
         alloc,
-        words.as_slice(),
+        args.as_slice(),
         &mut folder,
         &mut printed,
         &mut reported,
@@ -162,22 +162,22 @@ fn answer<R: AllocGlobal + Threads + Wait + Sync>(
 /// Compares a run with its status and with what it writes to standard output and standard error.
 fn compare<R: Abort + AllocGlobal + Threads + Wait + Sync>(
     rt: &R,
-    words: &[&str],
+    args: &[&str],
     files: &[(&str, &str)],
     wanted: (u8, &str, &str),
 ) -> Result<(), Fail> {
     let (status, printed, reported) = wanted;
-    let given = answer(rt, words, files, "")?;
+    let given = answer(rt, args, files, "")?;
     assert_eq!(rt;
         str::from_utf8(given.reported.as_slice())?,
         reported,
-        "{words:?}"
+        "{args:?}"
     );
     assert_eq!(rt;
         str::from_utf8(given.printed.as_slice())?,
         printed,
-        "{words:?}"
+        "{args:?}"
     );
-    assert_eq!(rt; given.status, status, "{words:?}");
+    assert_eq!(rt; given.status, status, "{args:?}");
     Ok(())
 }

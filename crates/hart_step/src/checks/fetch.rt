@@ -1,5 +1,5 @@
 //! The check of a fetch: whether the instruction at PCC may run.
-#![tactic(auto, unfolding(crate::proofs::Open::fetches))]
+#![tactic(auto, unfolding(crate::proofs::Unfold::fetches))]
 
 ghost use Rattle.std.specs.Prelude.{
   ◌≡◌,

@@ -1,6 +1,6 @@
 //! The checks of jumps. A jump that passes its check has four bytes at its target in the bounds of
 //! what becomes PCC.
-#![tactic(auto, unfolding(crate::proofs::Open::jump_checks))]
+#![tactic(auto, unfolding(crate::proofs::Unfold::jump_checks))]
 
 ghost use Rattle.std.specs.Prelude.{◌≡◌, ◌&&◌, ◌||◌, not, OnOk, true};
 ghost use Rattle.cap_model.specs.values.Capability.{unsealed_type, sentry_type};

@@ -1,5 +1,5 @@
 //! The instructions with an immediate or a shift amount.
-#![tactic(auto, using(crate::proofs::Open::back), unfolding(crate::proofs::Open::immediates))]
+#![tactic(auto, using(crate::proofs::Unfold::back), unfolding(crate::proofs::Unfold::immediates))]
 
 ghost use Rattle.std.specs.Prelude.{◌≡◌};
 ghost use Rattle.cheri_model.specs.steps.Actions.{action};

@@ -1,5 +1,5 @@
 //! The branches and CInvoke, and the addresses of targets.
-#![tactic(auto, unfolding(crate::proofs::Open::jumps))]
+#![tactic(auto, unfolding(crate::proofs::Unfold::jumps))]
 
 ghost use Rattle.std.specs.Prelude.{◌≡◌};
 ghost use Rattle.cheri_model.specs.steps.Actions.{action, address_of_target};

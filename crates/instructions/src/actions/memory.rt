@@ -1,5 +1,5 @@
 //! The loads and stores, and CJALR, which has a load's operands.
-#![tactic(auto, unfolding(crate::proofs::Open::accesses))]
+#![tactic(auto, unfolding(crate::proofs::Unfold::accesses))]
 
 ghost use Rattle.std.specs.Prelude.{◌≡◌};
 ghost use Rattle.cheri_model.specs.steps.Actions.{action, even};

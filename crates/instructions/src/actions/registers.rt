@@ -1,5 +1,5 @@
 //! The instructions on two and three registers.
-#![tactic(auto, unfolding(crate::proofs::Open::registers))]
+#![tactic(auto, unfolding(crate::proofs::Unfold::registers))]
 
 ghost use Rattle.std.specs.Prelude.{◌≡◌, ◌%◌, ◌^◌};
 ghost use Rattle.cheri_model.specs.steps.Actions.{action, Put};

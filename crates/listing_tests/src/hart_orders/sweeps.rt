@@ -194,7 +194,7 @@ fn the_first_of_two_faults(rt: HostRuntime) -> Result<(), Fail> {
     Ok(())
 }
 
-/// A text with a sweep as its last operation, cut at each byte. A beginning of the header is of
+/// A text with a sweep as its last operation, cut at each byte. A prefix of the header is of
 /// version 1.
 #[test]
 fn texts_cut_at_each_byte(rt: HostRuntime) -> Result<(), Fail> {

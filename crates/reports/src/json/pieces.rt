@@ -1,6 +1,6 @@
 //! The JSON report in pieces, so that no value of it is ever whole.
 
-#![tactic(auto, using(crate::proofs::JsonLemmas::floatless), unfolding(crate::proofs::Open::json_parts))]
+#![tactic(auto, using(crate::proofs::JsonLemmas::floatless), unfolding(crate::proofs::Unfold::json_parts))]
 
 ghost use Rattle.std.specs.Prelude.{◌≡◌, ◌+◌, ◌++◌, OnOk, string_bytes};
 ghost use Rattle.std.specs.Io.KnownBytes.{Appends};
@@ -11,7 +11,7 @@ ghost use Rattle.reports.specs.Json.{events_data, json_report};
 ghost use Rattle.reports.specs.JsonText.{events_part, harts_part, image_part, json_parts};
 ghost use Rattle.reports.specs.JsonText.{last_part, memory_part};
 ghost use Rattle.serde_json.specs.Written.{compact_text};
-ghost use Rattle.sinks.specs.Sinks.{TakesAllBut, TakesBeginning};
+ghost use Rattle.sinks.specs.Sinks.{TakesAllBut, TakesPrefix};
 ghost use Rattle.sinks.specs.WriteFaults.{failures_of};
 
 use super::state::{put_granules_json, put_harts_json};
@@ -44,13 +44,13 @@ fn put_events<S: Sink>(
     sink: &mut S,
     events: &[Event],
 ) -> Result<(), WriteFault>
-    ensures whole { OnOk result (TakesAllBut (S.taken sink.old) (S.taken sink.new)
+    ensures whole { OnOk result (TakesAllBut (S.written sink.old) (S.written sink.new)
         (string_bytes out.new)
         (string_bytes out.old ++ compact_text (events_data events.now))) }
-    ensures beginning { TakesBeginning (S.taken sink.old) (S.taken sink.new)
+    ensures prefix { TakesPrefix (S.written sink.old) (S.written sink.new)
         (string_bytes out.old ++ compact_text (events_data events.now)) }
     ensures failures { S.failures sink.new ≡ S.failures sink.old + failures_of result }
-    ensures place { S.place sink.new ≡ S.place sink.old }
+    ensures identity { S.identity sink.new ≡ S.identity sink.old }
 {
     out.push_str("[")?;
     for (number, event) in events.iter().enumerate() {
@@ -61,19 +61,19 @@ fn put_events<S: Sink>(
     Ok(())
 }
 
-/// Writes the object's beginning, with the events.
+/// Writes the object's first part, with the events.
 fn put_events_part<S: Sink>(
     alloc: Global,
     out: &mut String,
     sink: &mut S,
     events: &[Event],
 ) -> Result<(), WriteFault>
-    ensures whole { OnOk result (TakesAllBut (S.taken sink.old) (S.taken sink.new)
+    ensures whole { OnOk result (TakesAllBut (S.written sink.old) (S.written sink.new)
         (string_bytes out.new) (string_bytes out.old ++ events_part events.now)) }
-    ensures beginning { TakesBeginning (S.taken sink.old) (S.taken sink.new)
+    ensures prefix { TakesPrefix (S.written sink.old) (S.written sink.new)
         (string_bytes out.old ++ events_part events.now) }
     ensures failures { S.failures sink.new ≡ S.failures sink.old + failures_of result }
-    ensures place { S.place sink.new ≡ S.place sink.old }
+    ensures identity { S.identity sink.new ≡ S.identity sink.old }
 {
     out.push_str("{\"entries\":")?;
     put_events(alloc, out, sink, events)
@@ -86,12 +86,12 @@ fn put_harts_part<S: Sink>(
     sink: &mut S,
     harts: &[Hart],
 ) -> Result<(), WriteFault>
-    ensures whole { OnOk result (TakesAllBut (S.taken sink.old) (S.taken sink.new)
+    ensures whole { OnOk result (TakesAllBut (S.written sink.old) (S.written sink.new)
         (string_bytes out.new) (string_bytes out.old ++ harts_part harts.now)) }
-    ensures beginning { TakesBeginning (S.taken sink.old) (S.taken sink.new)
+    ensures prefix { TakesPrefix (S.written sink.old) (S.written sink.new)
         (string_bytes out.old ++ harts_part harts.now) }
     ensures failures { S.failures sink.new ≡ S.failures sink.old + failures_of result }
-    ensures place { S.place sink.new ≡ S.place sink.old }
+    ensures identity { S.identity sink.new ≡ S.identity sink.old }
 {
     out.push_str(",\"harts\":")?;
     put_harts_json(alloc, out, sink, harts)
@@ -113,13 +113,13 @@ fn put_memory_part<S: Sink>(
     sink: &mut S,
     view: View<'_>,
 ) -> Result<(), WriteFault>
-    ensures whole { OnOk result (TakesAllBut (S.taken sink.old) (S.taken sink.new)
+    ensures whole { OnOk result (TakesAllBut (S.written sink.old) (S.written sink.new)
         (string_bytes out.new)
         (string_bytes out.old ++ memory_part view.entry.image.now (state_of view.entry).memory)) }
-    ensures beginning { TakesBeginning (S.taken sink.old) (S.taken sink.new)
+    ensures prefix { TakesPrefix (S.written sink.old) (S.written sink.new)
         (string_bytes out.old ++ memory_part view.entry.image.now (state_of view.entry).memory) }
     ensures failures { S.failures sink.new ≡ S.failures sink.old + failures_of result }
-    ensures place { S.place sink.new ≡ S.place sink.old }
+    ensures identity { S.identity sink.new ≡ S.identity sink.old }
 {
     write_image(alloc, out, view.image)?;
     put_granules_json(alloc, out, sink, view.ram)
@@ -145,13 +145,13 @@ fn put_parts<S: Sink>(
     sink: &mut S,
     view: View<'_>,
 ) -> Result<(), WriteFault>
-    ensures whole { OnOk result (TakesAllBut (S.taken sink.old) (S.taken sink.new)
+    ensures whole { OnOk result (TakesAllBut (S.written sink.old) (S.written sink.new)
         (string_bytes out.new) (string_bytes out.old
         ++ json_parts view.entry.image.now view.entry.entries.now (state_of view.entry))) }
-    ensures beginning { TakesBeginning (S.taken sink.old) (S.taken sink.new) (string_bytes out.old
+    ensures prefix { TakesPrefix (S.written sink.old) (S.written sink.new) (string_bytes out.old
         ++ json_parts view.entry.image.now view.entry.entries.now (state_of view.entry)) }
     ensures failures { S.failures sink.new ≡ S.failures sink.old + failures_of result }
-    ensures place { S.place sink.new ≡ S.place sink.old }
+    ensures identity { S.identity sink.new ≡ S.identity sink.old }
 {
     put_events_part(alloc, out, sink, view.entries)?;
     put_harts_part(alloc, out, sink, view.harts)?;
@@ -159,14 +159,14 @@ fn put_parts<S: Sink>(
 }
 
 /// Writes the JSON report of what a view shows, compact, with its keys in byte order, in pieces of
-/// at most 64 KiB. After a fault the sink took a beginning of it.
+/// at most 64 KiB. After a fault the sink took a prefix of it.
 pub fn write_json<S: Sink>(alloc: Global, view: View<'_>, sink: &mut S) -> Result<(), WriteFault>
-    ensures whole { OnOk result (Appends (S.taken sink.old) (S.taken sink.new) (compact_text
+    ensures whole { OnOk result (Appends (S.written sink.old) (S.written sink.new) (compact_text
         (json_report view.entry.image.now view.entry.entries.now (state_of view.entry)))) }
-    ensures beginning { TakesBeginning (S.taken sink.old) (S.taken sink.new) (compact_text
+    ensures prefix { TakesPrefix (S.written sink.old) (S.written sink.new) (compact_text
         (json_report view.entry.image.now view.entry.entries.now (state_of view.entry))) }
     ensures failures { S.failures sink.new ≡ S.failures sink.old + failures_of result }
-    ensures place { S.place sink.new ≡ S.place sink.old }
+    ensures identity { S.identity sink.new ≡ S.identity sink.old }
 {
     let mut out = String::with_capacity(alloc, PIECE)?;
     put_parts(alloc, &mut out, sink, view)?;

@@ -1,15 +1,15 @@
 //! The harts and the granules of a state in JSON, in pieces. They need no trace.
 
-#![tactic(auto, using(crate::proofs::JsonLemmas::floatless), unfolding(crate::proofs::Open::json_parts))]
+#![tactic(auto, using(crate::proofs::JsonLemmas::floatless), unfolding(crate::proofs::Unfold::json_parts))]
 
 ghost use Rattle.std.specs.Prelude.{◌≡◌, ◌+◌, ◌||◌, ◌++◌, IfOk, OnOk, string_bytes};
-ghost use Rattle.cheri_model.specs.runs.ImageForm.{is_listed};
+ghost use Rattle.cheri_model.specs.runs.ImageRules.{is_listed};
 ghost use Rattle.cheri_model.specs.steps.Memory.{IsMemory};
 ghost use Rattle.report_lines.specs.JsonText.{item_text};
 ghost use Rattle.reports.specs.Json.{hart_data, harts_data, memory_data};
 ghost use Rattle.reports.specs.JsonText.{granule_member};
 ghost use Rattle.serde_json.specs.Written.{compact_text};
-ghost use Rattle.sinks.specs.Sinks.{TakesAllBut, TakesBeginning};
+ghost use Rattle.sinks.specs.Sinks.{TakesAllBut, TakesPrefix};
 ghost use Rattle.sinks.specs.WriteFaults.{failures_of};
 
 use super::hart_json;
@@ -39,13 +39,13 @@ pub fn put_harts_json<S: Sink>(
     sink: &mut S,
     harts: &[Hart],
 ) -> Result<(), WriteFault>
-    ensures whole { OnOk result (TakesAllBut (S.taken sink.old) (S.taken sink.new)
+    ensures whole { OnOk result (TakesAllBut (S.written sink.old) (S.written sink.new)
         (string_bytes out.new)
         (string_bytes out.old ++ compact_text (harts_data harts.now))) }
-    ensures beginning { TakesBeginning (S.taken sink.old) (S.taken sink.new)
+    ensures prefix { TakesPrefix (S.written sink.old) (S.written sink.new)
         (string_bytes out.old ++ compact_text (harts_data harts.now)) }
     ensures failures { S.failures sink.new ≡ S.failures sink.old + failures_of result }
-    ensures place { S.place sink.new ≡ S.place sink.old }
+    ensures identity { S.identity sink.new ≡ S.identity sink.old }
 {
     out.push_str("[")?;
     for (number, hart) in harts.iter().enumerate() {
@@ -88,13 +88,13 @@ pub fn put_granules_json<S: Sink>(
     sink: &mut S,
     ram: &Ram,
 ) -> Result<(), WriteFault>
-    ensures whole { OnOk result (TakesAllBut (S.taken sink.old) (S.taken sink.new)
+    ensures whole { OnOk result (TakesAllBut (S.written sink.old) (S.written sink.new)
         (string_bytes out.new)
         (string_bytes out.old ++ compact_text (memory_data ram.now))) }
-    ensures beginning { TakesBeginning (S.taken sink.old) (S.taken sink.new)
+    ensures prefix { TakesPrefix (S.written sink.old) (S.written sink.new)
         (string_bytes out.old ++ compact_text (memory_data ram.now)) }
     ensures failures { S.failures sink.new ≡ S.failures sink.old + failures_of result }
-    ensures place { S.place sink.new ≡ S.place sink.old }
+    ensures identity { S.identity sink.new ≡ S.identity sink.old }
 {
     out.push_str("{")?;
     let mut later = false;

@@ -70,8 +70,8 @@ pub fn publish<J: Naming, R: Wait>(copies: Copies<J>, rt: &R) -> (Copies<J>, ())
     (copies, ())
 }
 
-/// Lets both copies know what was seen of the order, right after an operation was appended. The
-/// queue makes room for four tickets when it first grows, and never holds more: the two that one
+/// Queues the new order for both copies, right after an operation was appended. The queue
+/// makes room for four tickets when it first grows, and never holds more: the two that one
 /// copy lacks, and two that are pending. So the operation's ticket has made the room for this one,
 /// and the first try succeeds. Were it refused, it would wait for memory: a copy that is shown
 /// always knows its order.

@@ -1,7 +1,7 @@
 //! Watches: who looks at a machine takes no lock, and never sees its time go back.
 
 ghost use Rattle.std.specs.Prelude.{◌≡◌, ◌<◌, ◌⊎◌, None, length, IfOk, IfErr, IfSome};
-ghost use Rattle.cheri_model.specs.runs.Replay.{IsBeginning, operations_of};
+ghost use Rattle.cheri_model.specs.runs.Replay.{IsPrefixOf, operations_of};
 ghost use Rattle.shared_machine.specs.Copies.{IsShown};
 ghost use Rattle.shared_machine.specs.Names.{order_named};
 ghost use Rattle.shared_machine.specs.Watches.{watch_of};
@@ -60,8 +60,8 @@ impl<J: Naming> Receipt<J> {
     /// The longer of two, which the other begins.
     fn longer(self, other: Receipt<J>) -> Receipt<J>
         ensures one { (result ≡ self) ⊎ (result ≡ other) }
-        ensures this { IsBeginning self result }
-        ensures that { IsBeginning other result }
+        ensures this { IsPrefixOf self result }
+        ensures that { IsPrefixOf other result }
     {
         self.seen.meet(&other.seen);
         other.seen.meet(&self.seen);
@@ -76,7 +76,7 @@ impl<J: Naming> Receipt<J> {
     fn followed(&self, shown: &Shown) -> Option<Receipt<J>>
         requires { IsShown J.image (order_named J.names) shown.now }
         ensures trace { IfSome result (λ now. now ≡ shown.now.core.trace) }
-        ensures later { IfSome result (λ now. IsBeginning self.now now) }
+        ensures later { IfSome result (λ now. IsPrefixOf self.now now) }
         ensures older { result ≡ None → length shown.now.core.trace < length self.now }
     {
         let now = Receipt::of_core(&shown.core, shown.token.tied::<OrderOf<J>>());
@@ -111,13 +111,12 @@ impl<J: Naming> Watch<J> {
         Watch { reader, seen }
     }
 
-    /// The watch, which now has seen what it saw and what the receipt tells of: the longer of the
-    /// two, of which the other is a beginning.
+    /// Adds the receipt's trace: the longer of the two is kept, and the shorter is its prefix.
     pub fn learn(self, receipt: Receipt<J>) -> Watch<J>
         ensures image { result.image ≡ self.image }
         ensures one { (result.trace ≡ self.trace) ⊎ (result.trace ≡ receipt) }
-        ensures seen { IsBeginning self.trace result.trace }
-        ensures told { IsBeginning receipt result.trace }
+        ensures seen { IsPrefixOf self.trace result.trace }
+        ensures told { IsPrefixOf receipt result.trace }
     {
         let Watch { reader, seen } = self;
         Watch {
@@ -132,7 +131,7 @@ impl<J: Naming> Watch<J> {
     /// nobody.
     pub fn look(self) -> Result<Look<J>, Watch<J>>
         ensures image { IfOk result (λ look. look.image ≡ self.image) }
-        ensures later { IfOk result (λ look. IsBeginning self.trace look.trace) }
+        ensures later { IfOk result (λ look. IsPrefixOf self.trace look.trace) }
         ensures same { IfErr result (λ watch. watch ≡ self) }
     {
         let Watch { reader, seen } = self;

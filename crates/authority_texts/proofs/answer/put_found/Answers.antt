@@ -42,4 +42,4 @@ returns-in_err-put_said-clause-begun g c =
     (subst (λ (xs : List (Vec Authority Global)). AreAllTold kept xs c.in_ok-harts.harts.items) c.as_slice.ensures.value c.in_ok-harts.ensures))
     (subst (λ (ts : List Told). AreTold kept memory ts) (sym c.as_slice-4.ensures.value)
     (subst (λ (xs : List Authority). AreTold kept xs c.in_ok-memory.memory.items) c.as_slice-2.ensures.value c.in_ok-memory.ensures)))
-    c.put_said.ensures.beginning)
+    c.put_said.ensures.prefix)

@@ -1,5 +1,5 @@
 use Rattle.std.proofs.lemmas.Result.{err_from_is_err_and}
-use Rattle.command_line.specs.ExplainWords.{explain_asked_by}
+use Rattle.command_line.specs.ExplainRequests.{explain_asked_by}
 use Rattle.cheri_explain.proofs.ProgramLemmas.{explained_fails}
 use Rattle.cheri_explain.proofs.program.explain.Goals as goal
 

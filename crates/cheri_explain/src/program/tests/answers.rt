@@ -64,7 +64,7 @@ top\":\"00000000080000010\",\"type\":\"unsealed\",\"word\":\"003d000004058004_00
 fn lost_tags_are_explained(rt: HostRuntime) -> Result<(), Fail> {
     let files = [("listing", TAGS), ("order", "0000")];
     compare(&rt, &EXPLAIN, &files, (0, TAGS_TEXT, ""))?;
-    let words = [
+    let args = [
         "listing",
         "--order=order",
         "--json",
@@ -74,7 +74,7 @@ fn lost_tags_are_explained(rt: HostRuntime) -> Result<(), Fail> {
         "01",
         "--to=1",
     ];
-    compare(&rt, &words, &files, (0, TAGS_JSON, ""))
+    compare(&rt, &args, &files, (0, TAGS_JSON, ""))
 }
 
 /// The last event of `FIRST`.
@@ -84,10 +84,10 @@ const HALT: &str = "3 hart=0 pc=000000001000000c halt | line 8: ecall\n";
 #[test]
 fn ranges_of_events(rt: HostRuntime) -> Result<(), Fail> {
     for (first, last, event) in [("3", "3", HALT), ("3", "99999", HALT), ("4", "5", "")] {
-        let words = ["listing", "--order", "order", "--from", first, "--to", last];
+        let args = ["listing", "--order", "order", "--from", first, "--to", last];
         let text = format!(in rt.alloc(); "{HEAD}{event}end\n")?;
         let files = [("listing", FIRST), ("order", "0000")];
-        compare(&rt, &words, &files, (0, text.as_str(), ""))?;
+        compare(&rt, &args, &files, (0, text.as_str(), ""))?;
     }
     Ok(())
 }
@@ -104,7 +104,7 @@ fn events_that_trapped_or_cleared_a_tag(rt: HostRuntime) -> Result<(), Fail> {
         let words = ["listing", "--order", "order", "--only", only];
         let mut out = Vec::new(rt.alloc());
         let files = [("listing", TAGS), ("order", "0000")];
-        let (status, _) = finish(rt.alloc(), &words, &files, &mut out)?;
+        let (status, _) = finish(rt.alloc(), &args, &files, &mut out)?;
         let mut shown = String::new(rt.alloc());
         for line in str::from_utf8(out.as_slice())?.lines().skip(3) {
             if let Some((number, _)) = line.split_once(" hart=") {
@@ -141,19 +141,19 @@ end
 /// A sweep has the places that it cleared.
 #[test]
 fn sweeps_are_explained(rt: HostRuntime) -> Result<(), Fail> {
-    let words = ["--from=1", "--order", "order", "--", "listing"];
+    let args = ["--from=1", "--order", "order", "--", "listing"];
     let order = "order 2\n0[0x80000000,0x80000010]0";
     let files = [("listing", SWEPT), ("order", order)];
-    compare(&rt, &words, &files, (0, SWEPT_TEXT, ""))
+    compare(&rt, &args, &files, (0, SWEPT_TEXT, ""))
 }
 
 /// A page has the explanation, the state and the listing.
 #[test]
 fn pages_are_printed(rt: HostRuntime) -> Result<(), Fail> {
-    let words = ["listing", "--order", "order", "--html", "--from", "3"];
+    let args = ["listing", "--order", "order", "--html", "--from", "3"];
     let mut out = Vec::new(rt.alloc());
     let files = [("listing", TAGS), ("order", "0000")];
-    let (status, err) = finish(rt.alloc(), &words, &files, &mut out)?;
+    let (status, err) = finish(rt.alloc(), &args, &files, &mut out)?;
     let page = str::from_utf8(out.as_slice())?;
     assert!(rt; status == 0 && err.is_empty());
     assert!(rt; page.starts_with("<!doctype html>\n") && page.ends_with("</html>\n"));

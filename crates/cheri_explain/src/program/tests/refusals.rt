@@ -7,19 +7,19 @@ use std::test::Fail;
 /// A step of a stopped hart is reported after the explanation of the steps before it.
 #[test]
 fn refused_steps(rt: HostRuntime) -> Result<(), Fail> {
-    let words = ["listing", "--order", "order", "--from", "3"];
+    let args = ["listing", "--order", "order", "--from", "3"];
     let text = format!(in rt.alloc();
         "{HEAD}3 hart=0 pc=000000001000000c halt | line 8: ecall\nend\n"
     )?;
     let files = [("listing", FIRST), ("order", "000001")];
     let reported = "order step 4: 3 HartStopped\n";
-    compare(&rt, &words, &files, (1, text.as_str(), reported))
+    compare(&rt, &args, &files, (1, text.as_str(), reported))
 }
 
 /// Words that ask for nothing, before any file is read; files that cannot be read, and then texts.
 #[test]
 fn refused_words_and_texts(rt: HostRuntime) -> Result<(), Fail> {
-    for words in [
+    for args in [
         ["listing", "--order", "order", "--html", "--json"].as_slice(),
         &["listing", "--order", "order", "--html", "--only=traps"],
         &["listing", "--order", "order", "--from", "2", "--to", "1"],
@@ -27,7 +27,7 @@ fn refused_words_and_texts(rt: HostRuntime) -> Result<(), Fail> {
         &["listing", "--order", "order", "--only", "sweeps"],
         &["listing"],
     ] {
-        compare(&rt, words, &[], (2, "", "usage\n"))?;
+        compare(&rt, args, &[], (2, "", "usage\n"))?;
     }
     for (files, status, reported) in [
         (
@@ -56,14 +56,14 @@ fn refused_words_and_texts(rt: HostRuntime) -> Result<(), Fail> {
 #[test]
 fn full_writers(rt: HostRuntime) -> Result<(), Fail> {
     for html in ["--json", "--html"] {
-        let words = ["listing", "--order", "order", html];
+        let args = ["listing", "--order", "order", html];
         let files = [("listing", FIRST), ("order", "0000")];
-        let (full, err) = finish(rt.alloc(), &words, &files, &mut Full)?;
+        let (full, err) = finish(rt.alloc(), &args, &files, &mut Full)?;
         assert_eq!(rt;
             (full, str::from_utf8(err.as_slice())?),
             (3, "cannot write\n")
         );
-        let (unflushed, err) = finish(rt.alloc(), &words, &files, &mut Unflushed)?;
+        let (unflushed, err) = finish(rt.alloc(), &args, &files, &mut Unflushed)?;
         assert_eq!(rt;
             (unflushed, str::from_utf8(err.as_slice())?),
             (3, "cannot write\n")
@@ -78,17 +78,17 @@ const ENDLESS: &str = ".hart 0x10000000 4 0x10000000 execute\nagain:\ncjal c0, a
 /// A page shows at most 5,000 events, also where a step is refused later.
 #[test]
 fn pages_with_too_many_events(rt: HostRuntime) -> Result<(), Fail> {
-    let words = ["listing", "--order", "order", "--html", "--from", "2"];
+    let args = ["listing", "--order", "order", "--html", "--from", "2"];
     let mut order = String::new(rt.alloc());
     for _ in 0..5_002 {
         order.push('0')?;
     }
     let files = [("listing", ENDLESS), ("order", order.as_str())];
     let mut out = Vec::new(rt.alloc());
-    let (status, err) = finish(rt.alloc(), &words, &files, &mut out)?;
+    let (status, err) = finish(rt.alloc(), &args, &files, &mut out)?;
     assert!(rt; status == 0 && err.is_empty() && !out.is_empty());
     order.push_str("07")?;
     let files = [("listing", ENDLESS), ("order", order.as_str())];
     let reported = "too many events for a page: use --from and --to\n";
-    compare(&rt, &words, &files, (1, "", reported))
+    compare(&rt, &args, &files, (1, "", reported))
 }

@@ -1,7 +1,7 @@
 use Rattle.std.proofs.Common.{refl, ◌∙◌, ap, map}
 use Rattle.std.specs.Prelude.{option_map}
 use Rattle.std.proofs.lemmas.Result.{err_from_is_err_and}
-use Rattle.command_line.specs.ExploreWords.{explore_asked_by, question_asked_by}
+use Rattle.command_line.specs.ExploreRequests.{explore_asked_by, question_asked_by}
 use Rattle.cheri_explore.specs.Questions.{IsAuthoritySaid, IsFindSaid, IsOutcomesSaid, range_of}
 use Rattle.cheri_explore.proofs.ProgramLemmas.{listing_fails, question_printed, question_fails, find_asked, authority_asked, outcomes_asked}
 use Rattle.cheri_explore.proofs.program.answer_request.Goals as goal

@@ -7,7 +7,7 @@ returns-in-Ok g c =
       ending = c.in-Ok.ending;
       status_is = c.status.ensures;
       printed = c.in-Ok.ensures.printed;
-      quiet = refl;
+      stderr = refl;
     })
 
 pub returns-in-Err : goal.returns-in-Err

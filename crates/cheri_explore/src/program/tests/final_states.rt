@@ -173,13 +173,13 @@ end
 /// Outcomes are listed, each with its order.
 #[test]
 fn outcomes_are_listed(rt: HostRuntime) -> Result<(), Fail> {
-    for (words, status, answer) in [
+    for (args, status, answer) in [
         (["outcomes", "listing"].as_slice(), 0, LISTED),
         (&["outcomes", "listing", "--json"], 0, LISTED_JSON),
         (&["outcomes", "listing", "--states", "9"], 0, LISTED),
         (&["outcomes", "listing", "--states", "3"], 4, UNFINISHED),
     ] {
-        compare(&rt, words, COUNTING, (status, answer, ""))?;
+        compare(&rt, args, COUNTING, (status, answer, ""))?;
     }
     Ok(())
 }
@@ -197,7 +197,7 @@ fn outcomes_are_shown(rt: HostRuntime) -> Result<(), Fail> {
     ];
     compare(&rt, swept.as_slice(), COUNTING, (0, SWEPT_ROWS, ""))?;
     let twice = "0.c6,1.status,0.c6";
-    for (words, answer) in [
+    for (args, answer) in [
         (
             ["outcomes", "listing", "--show", "0.c6,mem8[0x80000000]"].as_slice(),
             ROWS,
@@ -208,7 +208,7 @@ fn outcomes_are_shown(rt: HostRuntime) -> Result<(), Fail> {
             SAME_ROWS_JSON,
         ),
     ] {
-        compare(&rt, words, ADDING, (0, answer, ""))?;
+        compare(&rt, args, ADDING, (0, answer, ""))?;
     }
     Ok(())
 }
@@ -216,7 +216,7 @@ fn outcomes_are_shown(rt: HostRuntime) -> Result<(), Fail> {
 /// Runs that can go on for ever are told with the order of their loop.
 #[test]
 fn endless_runs_are_told(rt: HostRuntime) -> Result<(), Fail> {
-    for (words, text, answer) in [
+    for (args, text, answer) in [
         (["outcomes", "listing"].as_slice(), SPINNING, ENDLESS),
         (&["outcomes", "listing", "--json"], SPINNING, ENDLESS_JSON),
         (
@@ -230,7 +230,7 @@ fn endless_runs_are_told(rt: HostRuntime) -> Result<(), Fail> {
             UNFAIR_JSON,
         ),
     ] {
-        compare(&rt, words, text, (0, answer, ""))?;
+        compare(&rt, args, text, (0, answer, ""))?;
     }
     Ok(())
 }
@@ -238,7 +238,7 @@ fn endless_runs_are_told(rt: HostRuntime) -> Result<(), Fail> {
 /// The first item that is none is told by its byte, and a second list of items is no command.
 #[test]
 fn wrong_items_are_told(rt: HostRuntime) -> Result<(), Fail> {
-    for (words, status, fault) in [
+    for (args, status, fault) in [
         (
             ["outcomes", "listing", "--show", "0.c5,,1.c5"].as_slice(),
             1,
@@ -255,7 +255,7 @@ fn wrong_items_are_told(rt: HostRuntime) -> Result<(), Fail> {
             "usage\n",
         ),
     ] {
-        compare(&rt, words, COUNTING, (status, "", fault))?;
+        compare(&rt, args, COUNTING, (status, "", fault))?;
     }
     Ok(())
 }

@@ -1,6 +1,6 @@
 -- what is left of the list decides as the whole list does
 use Rattle.std.proofs.Common.{◌≡◌, drop}
-use Rattle.cheri_model.specs.runs.ImageForm.{are_granules}
+use Rattle.cheri_model.specs.runs.ImageRules.{are_granules}
 use Rattle.cheri_model.specs.steps.Memory.{ram_base}
 use Rattle.cheri_model.proofs.image.are_granules.Given as goal
 

@@ -58,10 +58,10 @@ const REFUSED: [&[&str]; 48] = [
 /// What is no command is `usage`, a request for help too.
 #[test]
 fn usage(rt: HostRuntime) -> Result<(), Fail> {
-    for words in REFUSED {
+    for args in REFUSED {
         compare(
             &rt,
-            words,
+            args,
             &[("listing", FIRST), ("order", "")],
             (2, "", "usage\n"),
         )?;
@@ -77,10 +77,10 @@ fn spellings(rt: HostRuntime) -> Result<(), Fail> {
         &["run", "--order", "order", "listing"],
         &["run", "--order", "order", "--", "listing"],
     ];
-    for words in taken {
+    for args in taken {
         compare(
             &rt,
-            words,
+            args,
             &[("listing", FIRST), ("order", "")],
             (0, OPENING_REPORT, ""),
         )?;

@@ -41,7 +41,7 @@ fn files(rt: HostRuntime) -> Result<(), Fail> {
 #[test]
 fn full_writers(rt: HostRuntime) -> Result<(), Fail> {
     let alloc = rt.alloc();
-    let words = owned(alloc, &RUN)?;
+    let args = owned(alloc, &RUN)?;
     for (order, status) in [("0000", 3), ("02", 3), ("x", 1)] {
         let files = [("listing", FIRST), ("order", order)];
         let mut folder = Folder {
@@ -53,7 +53,7 @@ fn full_writers(rt: HostRuntime) -> Result<(), Fail> {
         let reported = perform(
             &rt,
             alloc,
-            words.as_slice(),
+            args.as_slice(),
             &mut folder,
             &mut Full,
             &mut err,
@@ -61,7 +61,7 @@ fn full_writers(rt: HostRuntime) -> Result<(), Fail> {
         let unreported = perform(
             &rt,
             alloc,
-            words.as_slice(),
+            args.as_slice(),
             &mut folder,
             &mut Full,
             &mut Full,
@@ -81,8 +81,8 @@ fn full_answers(rt: HostRuntime) -> Result<(), Fail> {
         &["check", "listing"],
         &RUN,
     ];
-    for words in asked {
-        let all = owned(alloc, words)?;
+    for args in asked {
+        let all = owned(alloc, args)?;
         let files = [("listing", FIRST), ("order", "0")];
         let mut folder = Folder {
             alloc,
@@ -99,16 +99,16 @@ fn full_answers(rt: HostRuntime) -> Result<(), Fail> {
             &mut Unflushed,
             &mut other,
         );
-        assert_eq!(rt; (full, unflushed), (3, 3), "{words:?}");
+        assert_eq!(rt; (full, unflushed), (3, 3), "{args:?}");
         assert_eq!(rt;
             str::from_utf8(err.as_slice())?,
             "cannot write\n",
-            "{words:?}"
+            "{args:?}"
         );
         assert_eq!(rt;
             str::from_utf8(other.as_slice())?,
             "cannot write\n",
-            "{words:?}"
+            "{args:?}"
         );
     }
     Ok(())

@@ -18,9 +18,9 @@ const HALTED: &str = "\
 #[test]
 fn reports(rt: HostRuntime) -> Result<(), Fail> {
     for (order, status, reported) in [("0", 0, ""), ("00", 1, "order step 1: 3 HartStopped\n")] {
-        let words = ["run", "listing", "--json", "--order", "order"];
+        let args = ["run", "listing", "--json", "--order", "order"];
         let files = [("listing", HALTING), ("order", order)];
-        compare(&rt, &words, &files, (status, HALTED, reported))?;
+        compare(&rt, &args, &files, (status, HALTED, reported))?;
     }
     Ok(())
 }
@@ -32,9 +32,9 @@ fn refused(rt: HostRuntime) -> Result<(), Fail> {
         ("walk\n", "x", "listing line 1: 2 Word\n"),
         (HALTING, "x", "order byte 0: 1 Byte\n"),
     ] {
-        let words = ["run", "--json", "listing", "--order", "order"];
+        let args = ["run", "--json", "listing", "--order", "order"];
         let files = [("listing", listing), ("order", order)];
-        compare(&rt, &words, &files, (1, "", reported))?;
+        compare(&rt, &args, &files, (1, "", reported))?;
     }
     Ok(())
 }

@@ -121,8 +121,8 @@ fn bad_numbers(rt: HostRuntime) -> Result<(), Fail> {
         &["decode", "1f"],
         &["decode", "0x100000000000000000000000000000000"],
     ];
-    for words in refused {
-        compare(&rt, words, &[], (1, "", "bad number\n"))?;
+    for args in refused {
+        compare(&rt, args, &[], (1, "", "bad number\n"))?;
     }
     Ok(())
 }

@@ -38,10 +38,10 @@ end
 /// What a race of a listing prints. Its status is 0, and it reports no fault.
 fn raced<R: Abort + AllocGlobal + Threads + Wait + Sync>(
     rt: &R,
-    words: &[&str],
+    args: &[&str],
     listing: &str,
 ) -> Result<Vec<u8>, Fail> {
-    let raced = answer(rt, words, &[("listing", listing)], "")?;
+    let raced = answer(rt, args, &[("listing", listing)], "")?;
     assert_eq!(rt; (raced.status, raced.reported.len()), (0, 0));
     Ok(raced.printed)
 }
@@ -50,8 +50,8 @@ fn raced<R: Abort + AllocGlobal + Threads + Wait + Sync>(
 #[test]
 fn both_harts_halt(rt: HostRuntime) -> Result<(), Fail> {
     for turns in ["4", "0000000000000000000000004", "100000"] {
-        let words = ["race", "listing", "--turns", turns];
-        let raced = raced(&rt, &words, FIRST)?;
+        let args = ["race", "listing", "--turns", turns];
+        let raced = raced(&rt, &args, FIRST)?;
         let printed = str::from_utf8(raced.as_slice())?;
         assert!(rt;
             printed.starts_with("cheri-sim report 1\nimage harts=2 ram=4096 code=4\nentries 8\n")
@@ -79,8 +79,8 @@ cjal c0, @0
 /// A race's trace has room for 100,000 entries, which one hart can fill alone.
 #[test]
 fn one_hart_takes_all_turns(rt: HostRuntime) -> Result<(), Fail> {
-    let words = ["race", "listing", "--turns", "100000"];
-    let raced = raced(&rt, &words, LOOP)?;
+    let args = ["race", "listing", "--turns", "100000"];
+    let raced = raced(&rt, &args, LOOP)?;
     let printed = str::from_utf8(raced.as_slice())?;
     assert!(rt; printed.contains("\nentries 100000\n"));
     assert!(rt; printed.contains("\n99999 hart=0 pc=0000000010000000 done\nhart 0 running\n"));
@@ -90,8 +90,8 @@ fn one_hart_takes_all_turns(rt: HostRuntime) -> Result<(), Fail> {
 /// Two harts that would take 100,000 turns each stop where the trace is full.
 #[test]
 fn two_harts_fill_one_trace(rt: HostRuntime) -> Result<(), Fail> {
-    let words = ["race", "listing", "--turns", "100000"];
-    let raced = raced(&rt, &words, TWO_LOOPS)?;
+    let args = ["race", "listing", "--turns", "100000"];
+    let raced = raced(&rt, &args, TWO_LOOPS)?;
     let printed = str::from_utf8(raced.as_slice())?;
     assert!(rt; printed.contains("\nentries 100000\n"));
     assert!(rt; printed.contains("\n99999 hart="));
@@ -103,8 +103,8 @@ fn two_harts_fill_one_trace(rt: HostRuntime) -> Result<(), Fail> {
 /// A hart takes at most its turns.
 #[test]
 fn turns_end(rt: HostRuntime) -> Result<(), Fail> {
-    let words = ["race", "--turns=3", "listing"];
-    let raced = raced(&rt, &words, FIRST)?;
+    let args = ["race", "--turns=3", "listing"];
+    let raced = raced(&rt, &args, FIRST)?;
     let printed = str::from_utf8(raced.as_slice())?;
     assert!(rt; printed.contains("\nentries 6\n"));
     assert!(rt; printed.contains("\nhart 0 running\n"));
@@ -115,8 +115,8 @@ fn turns_end(rt: HostRuntime) -> Result<(), Fail> {
 /// A watched race prints the same report, and then a line with a number of looks, at most 100.
 #[test]
 fn at_most_a_hundred_looks_are_told(rt: HostRuntime) -> Result<(), Fail> {
-    let words = ["race", "listing", "--watch", "--turns", "4"];
-    let raced = answer(&rt, &words, &[("listing", FIRST)], "")?;
+    let args = ["race", "listing", "--watch", "--turns", "4"];
+    let raced = answer(&rt, &args, &[("listing", FIRST)], "")?;
     let printed = str::from_utf8(raced.printed.as_slice())?;
     assert_eq!(rt; raced.status, 0);
     assert!(rt; printed.contains("\nentries 8\n"));
@@ -137,9 +137,9 @@ fn looks_told(line: &[u8]) -> Result<u32, Fail> {
 /// A race that runs for long is seen: one of eight tries tells of a look.
 #[test]
 fn long_races_are_seen(rt: HostRuntime) -> Result<(), Fail> {
-    let words = ["race", "listing", "--watch", "--turns", "50000"];
+    let args = ["race", "listing", "--watch", "--turns", "50000"];
     for _ in 0..8 {
-        let raced = answer(&rt, &words, &[("listing", TWO_LOOPS)], "")?;
+        let raced = answer(&rt, &args, &[("listing", TWO_LOOPS)], "")?;
         let printed = str::from_utf8(raced.printed.as_slice())?;
         assert_eq!(rt; raced.status, 0);
         assert!(rt; printed.contains("\nentries 100000\n"));
@@ -192,7 +192,7 @@ fn refusals(rt: HostRuntime) -> Result<(), Fail> {
         (1, "", "listing line 1: 2 Word\n"),
     )?;
     let alloc = rt.alloc();
-    let words = owned(alloc, &race)?;
+    let args = owned(alloc, &race)?;
     let files = [("listing", FIRST)];
     let mut folder = Folder {
         alloc,
@@ -203,7 +203,7 @@ fn refusals(rt: HostRuntime) -> Result<(), Fail> {
     let status = perform(
         &rt,
         alloc,
-        words.as_slice(),
+        args.as_slice(),
         &mut folder,
         &mut Full,
         &mut err,
@@ -212,7 +212,7 @@ fn refusals(rt: HostRuntime) -> Result<(), Fail> {
     let unflushed = perform(
         &rt,
         alloc,
-        words.as_slice(),
+        args.as_slice(),
         &mut folder,
         &mut Unflushed,
         &mut other,

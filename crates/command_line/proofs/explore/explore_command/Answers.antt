@@ -3,7 +3,7 @@ use Rattle.std.proofs.lemmas.Result.{IfOk-weaker}
 use Rattle.clap.specs.Words.{App, Shape, app_of, with_subcommand}
 use Rattle.clap.specs.Simple.{app_of_fields}
 use Rattle.command_line.specs.Arguments.{wanting_subcommand}
-use Rattle.command_line.specs.ExploreWords.{explore_alone}
+use Rattle.command_line.specs.ExploreRequests.{explore_alone}
 use Rattle.command_line.proofs.explore.explore_command.Goals as goal
 
 pub returns : goal.returns

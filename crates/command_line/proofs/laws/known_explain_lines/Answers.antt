@@ -1,6 +1,6 @@
 use Rattle.std.proofs.Common.{refl}
 use Rattle.clap.proofs.OnLiterals.{clap_on_literals}
-use Rattle.command_line.specs.ExplainWords.{explain_asked, explain_asked_of, filter_named}
+use Rattle.command_line.specs.ExplainRequests.{explain_asked, explain_asked_of, filter_named}
 use Rattle.command_line.specs.Numbers.{decimal_within, number_in}
 use Rattle.command_line.proofs.laws.known_explain_lines.Goals as goal
 

@@ -1,6 +1,6 @@
 use Rattle.std.proofs.Common.{refl}
 use Rattle.clap.proofs.OnLiterals.{clap_on_literals}
-use Rattle.command_line.specs.ExploreWords.{explore_asked, explore_asked_of, question_of, sweep_of, sweeps_of}
+use Rattle.command_line.specs.ExploreRequests.{explore_asked, explore_asked_of, question_of, sweep_of, sweeps_of}
 use Rattle.command_line.specs.Numbers.{decimal_within, number_in, number_of}
 use Rattle.command_line.proofs.laws.known_explore_lines.Goals as goal
 

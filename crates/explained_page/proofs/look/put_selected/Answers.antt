@@ -5,11 +5,11 @@ use Rattle.explanations.specs.Explanation.{explained_events}
 use Rattle.explained_page.proofs.LookLemmas.{none_from}
 use Rattle.explained_page.proofs.look.put_selected.Goals as goal
 
-pub returns-in_err-push_str-clause-beginning : goal.returns-in_err-push_str-clause-beginning
-returns-in_err-push_str-clause-beginning g c = (_, takes_none _ _)
+pub returns-in_err-push_str-clause-prefix : goal.returns-in_err-push_str-clause-prefix
+returns-in_err-push_str-clause-prefix g c = (_, takes_none _ _)
 
-pub returns-then-selection-clause-beginning : goal.returns-then-selection-clause-beginning
-returns-then-selection-clause-beginning g c = (_, takes_none _ _)
+pub returns-then-selection-clause-prefix : goal.returns-then-selection-clause-prefix
+returns-then-selection-clause-prefix g c = (_, takes_none _ _)
 
 pub returns-then-selection-clause-whole : goal.returns-then-selection-clause-whole
 returns-then-selection-clause-whole g c =

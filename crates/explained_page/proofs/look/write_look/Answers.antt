@@ -28,7 +28,7 @@ pub returns-in_err-put_core_look-clause-refused : goal.returns-in_err-put_core_l
 returns-in_err-put_core_look-clause-refused g c =
     let p = err_from_is_err_and c.from_residual-in_err-put_core_look.result c.from_residual-in_err-put_core_look.ensures.1 in
     let run : Run = (c.in_ok-core.core, c.in_ok-core.refused) in
-    rw (p.1, p.2) (of_run _ run _ c.in_ok-core.ensures.run c.in_ok-core.ensures.confined c.put_core_look.ensures.beginning)
+    rw (p.1, p.2) (of_run _ run _ c.in_ok-core.ensures.run c.in_ok-core.ensures.confined c.put_core_look.ensures.prefix)
 
 pub returns-clause-shown : goal.returns-clause-shown
 returns-clause-shown g c =

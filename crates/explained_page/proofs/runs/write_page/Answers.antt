@@ -30,7 +30,7 @@ returns-in_err-put_core_page-clause-refused g c =
     let p = err_from_is_err_and c.from_residual-in_err-put_core_page.result c.from_residual-in_err-put_core_page.ensures.1 in
     let run : Run = (c.in_ok-core.core, c.in_ok-core.refused) in
     let short = tested _ _ _ _ _ _ c.is_too_long.ensures c.view.ensures.entries c.if-is_too_long.false in
-    rw (p.1, p.2) (of_run _ run _ c.in_ok-core.ensures.run c.in_ok-core.ensures.confined (short, c.put_core_page.ensures.beginning))
+    rw (p.1, p.2) (of_run _ run _ c.in_ok-core.ensures.run c.in_ok-core.ensures.confined (short, c.put_core_page.ensures.prefix))
 
 pub returns-clause-shown : goal.returns-clause-shown
 returns-clause-shown g c =

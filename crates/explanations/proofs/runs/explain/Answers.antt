@@ -28,7 +28,7 @@ pub returns-in_err-write_explained-clause-refused : goal.returns-in_err-write_ex
 returns-in_err-write_explained-clause-refused g c =
     let p = err_from_is_err_and c.from_residual-in_err-write_explained.result c.from_residual-in_err-write_explained.ensures.1 in
     let run : Run = (c.in_ok-core.core, c.in_ok-core.refused) in
-    rw (p.1, p.2) (of_run _ run _ c.in_ok-core.ensures.run c.in_ok-core.ensures.confined c.write_explained.ensures.beginning)
+    rw (p.1, p.2) (of_run _ run _ c.in_ok-core.ensures.run c.in_ok-core.ensures.confined c.write_explained.ensures.prefix)
 
 pub returns-clause-shown : goal.returns-clause-shown
 returns-clause-shown g c =

@@ -1,5 +1,5 @@
 use Rattle.sinks.proofs.SinkLemmas.{takes_none}
 use Rattle.explanations.proofs.runs.write_explained.Goals as goal
 
-pub returns-in_err-lines-clause-beginning : goal.returns-in_err-lines-clause-beginning
-returns-in_err-lines-clause-beginning g c = (_, takes_none _ _)
+pub returns-in_err-lines-clause-prefix : goal.returns-in_err-lines-clause-prefix
+returns-in_err-lines-clause-prefix g c = (_, takes_none _ _)

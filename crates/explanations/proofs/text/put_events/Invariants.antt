@@ -14,10 +14,10 @@ invariant-loop-number g l =
     let events = explained_events l.core.image order in
     let text = shown_lines l.lines l.selection in
     record {
-      taken : TakesAllBut (g.S.Sink.taken l.initial.sink) (g.S.Sink.taken l.sink)
+      taken : TakesAllBut (g.S.Sink.written l.initial.sink) (g.S.Sink.written l.sink)
           (string_bytes l.out ++ numbered text l.number (drop l.number events))
           (string_bytes l.initial.out ++ numbered text 0 events);
       failures : g.S.Sink.failures l.sink ≡ g.S.Sink.failures l.initial.sink;
-      place : g.S.Sink.place l.sink ≡ g.S.Sink.place l.initial.sink;
+      identity : g.S.Sink.identity l.sink ≡ g.S.Sink.identity l.initial.sink;
       position : IsAt l.core.image l.core.limit order l.number l.follower;
     }

@@ -21,31 +21,31 @@ unfolding explanation
 parts image lines selection trace =
     ap (λ n. head_lines image n ++ (events_lines image lines selection (operations_of trace) ++ line (codes "end"))) (counted trace)
 
-pub returns-in_err-out-clause-beginning : goal.returns-in_err-out-clause-beginning
-returns-in_err-out-clause-beginning g c = (_, takes_none _ _)
+pub returns-in_err-out-clause-prefix : goal.returns-in_err-out-clause-prefix
+returns-in_err-out-clause-prefix g c = (_, takes_none _ _)
 
-pub returns-in_err-write_head-clause-beginning : goal.returns-in_err-write_head-clause-beginning
-returns-in_err-write_head-clause-beginning g c = (_, takes_none _ _)
+pub returns-in_err-write_head-clause-prefix : goal.returns-in_err-write_head-clause-prefix
+returns-in_err-write_head-clause-prefix g c = (_, takes_none _ _)
 
-pub returns-in_err-put_events-clause-beginning : goal.returns-in_err-put_events-clause-beginning
-returns-in_err-put_events-clause-beginning g c =
-    parts_begin _ _ _ _ _ _ _ (parts _ _ _ _) (rw (c.in_ok-out.ensures.bytes, c.view-view.ensures.entries, c.view-view.ensures.image) at c.in_ok-write_head.ensures) c.put_events.ensures.beginning
+pub returns-in_err-put_events-clause-prefix : goal.returns-in_err-put_events-clause-prefix
+returns-in_err-put_events-clause-prefix g c =
+    parts_begin _ _ _ _ _ _ _ (parts _ _ _ _) (rw (c.in_ok-out.ensures.bytes, c.view-view.ensures.entries, c.view-view.ensures.image) at c.in_ok-write_head.ensures) c.put_events.ensures.prefix
 
-pub returns-in_err-push_str-clause-beginning : goal.returns-in_err-push_str-clause-beginning
-returns-in_err-push_str-clause-beginning g c =
+pub returns-in_err-push_str-clause-prefix : goal.returns-in_err-push_str-clause-prefix
+returns-in_err-push_str-clause-prefix g c =
     parts_begin _ _ _ _ _ _ _ (parts _ _ _ _) (rw (c.in_ok-out.ensures.bytes, c.view-view.ensures.entries, c.view-view.ensures.image) at c.in_ok-write_head.ensures) (_, c.in_ok-put_events.ensures.whole)
 
-pub returns-in_err-put_whole-clause-beginning : goal.returns-in_err-put_whole-clause-beginning
-returns-in_err-put_whole-clause-beginning g c =
+pub returns-in_err-put_whole-clause-prefix : goal.returns-in_err-put_whole-clause-prefix
+returns-in_err-put_whole-clause-prefix g c =
     parts_stop _ _ _ _ _ _ _ _ _ _ (parts _ _ _ _) (rw (c.in_ok-out.ensures.bytes, c.view-view.ensures.entries, c.view-view.ensures.image) at c.in_ok-write_head.ensures)
-    c.in_ok-put_events.ensures.whole (c.as_bytes.ensures.value ∙ c.in_ok-push_str.ensures.bytes) c.put_whole.ensures.beginning
+    c.in_ok-put_events.ensures.whole (c.as_bytes.ensures.value ∙ c.in_ok-push_str.ensures.bytes) c.put_whole.ensures.prefix
 
 pub returns-clause-whole : goal.returns-clause-whole
 returns-clause-whole g c =
     parts_end _ _ _ _ _ _ _ _ _ _ (parts _ _ _ _) (rw (c.in_ok-out.ensures.bytes, c.view-view.ensures.entries, c.view-view.ensures.image) at c.in_ok-write_head.ensures)
     c.in_ok-put_events.ensures.whole (c.as_bytes.ensures.value ∙ c.in_ok-push_str.ensures.bytes) c.in_ok-put_whole.ensures.whole
 
-pub returns-clause-beginning : goal.returns-clause-beginning
-returns-clause-beginning g c =
+pub returns-clause-prefix : goal.returns-clause-prefix
+returns-clause-prefix g c =
     parts_stop _ _ _ _ _ _ _ _ _ _ (parts _ _ _ _) (rw (c.in_ok-out.ensures.bytes, c.view-view.ensures.entries, c.view-view.ensures.image) at c.in_ok-write_head.ensures)
-    c.in_ok-put_events.ensures.whole (c.as_bytes.ensures.value ∙ c.in_ok-push_str.ensures.bytes) c.put_whole.ensures.beginning
+    c.in_ok-put_events.ensures.whole (c.as_bytes.ensures.value ∙ c.in_ok-push_str.ensures.bytes) c.put_whole.ensures.prefix

@@ -11,7 +11,7 @@ pub loop-number-init : goal.loop-number-init
 loop-number-init g c = record {
   taken = takes_none _ _;
   failures = refl;
-  place = refl;
+  identity = refl;
   position =
       at_opening c.args.core.now.image c.args.core.now.limit (operations_of c.args.core.now.trace) c.in_ok-follower.follower
       c.in_ok-follower.ensures.opened;
@@ -30,22 +30,22 @@ loop-number-preserved g c =
           now.inside (now.explained (sweep [])) (c.in_ok-later.ensures.item now.goes) c.loop-number.invariant.taken _
           c.in_ok-make_room.ensures.whole);
       failures = no_failure _ _ _ c.in_ok-make_room.ensures.failures c.loop-number.invariant.failures;
-      place = c.make_room.ensures.place ∙ c.loop-number.invariant.place;
+      identity = c.make_room.ensures.identity ∙ c.loop-number.invariant.identity;
       position = now.next c.write_next.new.follower (c.in_ok-later.ensures.after now.goes);
     }
 
-pub returns-in_err-follower-clause-beginning : goal.returns-in_err-follower-clause-beginning
-returns-in_err-follower-clause-beginning g c = (_, takes_none _ _)
+pub returns-in_err-follower-clause-prefix : goal.returns-in_err-follower-clause-prefix
+returns-in_err-follower-clause-prefix g c = (_, takes_none _ _)
 
-pub returns-in_err-make_room-clause-beginning : goal.returns-in_err-make_room-clause-beginning
-returns-in_err-make_room-clause-beginning g c =
+pub returns-in_err-make_room-clause-prefix : goal.returns-in_err-make_room-clause-prefix
+returns-in_err-make_room-clause-prefix g c =
     let core = c.args.core.now in
     let k = c.loop-number.number in
     let now = turn core.image core.trace c.view-view.result.entries.now core.limit k _ _ core.state c.loop-number.follower
     c.view-view.ensures.entries c.loop-number-test.true refl c.view-view.ensures.replay c.follow.ensures.fits c.loop-number.invariant.position in
     event_stops c.args.lines.now c.args.selection (explained_events core.image (operations_of core.trace)) k _ _ c.loop-number.later _ _ _ _ _ _
     now.inside (now.explained (sweep [])) (c.in_ok-later.ensures.item now.goes) c.loop-number.invariant.taken
-    c.make_room.ensures.beginning
+    c.make_room.ensures.prefix
 
 pub returns-clause-whole : goal.returns-clause-whole
 returns-clause-whole g c =

@@ -13,10 +13,10 @@ invariant-loop-number g l =
     let order = operations_of l.core.trace in
     let events = explained_events l.core.image order in
     record {
-      taken : TakesAllBut (g.S.Sink.taken l.initial.sink) (g.S.Sink.taken l.sink)
+      taken : TakesAllBut (g.S.Sink.written l.initial.sink) (g.S.Sink.written l.sink)
           (string_bytes l.out ++ events_from l.lines l.selection l.later l.number (drop l.number events))
           (string_bytes l.initial.out ++ events_from l.lines l.selection false 0 events);
       failures : g.S.Sink.failures l.sink ≡ g.S.Sink.failures l.initial.sink;
-      place : g.S.Sink.place l.sink ≡ g.S.Sink.place l.initial.sink;
+      identity : g.S.Sink.identity l.sink ≡ g.S.Sink.identity l.initial.sink;
       position : IsAt l.core.image l.core.limit order l.number l.follower;
     }

@@ -1,6 +1,6 @@
 -- A table for a core before its first operation.
 use Rattle.std.proofs.Common.{◌≡◌, ◌∙◌, true, length, ap, subst, arith}
-use Rattle.cheri_model.specs.runs.ImageForm.{is_image}
+use Rattle.cheri_model.specs.runs.ImageRules.{is_image}
 use Rattle.cores.proofs.SweepLemmas.{harts_are_few}
 use Rattle.origins.specs.Table.{IsOpening}
 use Rattle.following.specs.Following.{IsFollowed}

@@ -1,6 +1,6 @@
 -- The harts of an image are few.
 use Rattle.std.proofs.Common.{◌≡◌, true, length, ap, subst, arith}
-use Rattle.cheri_model.specs.runs.ImageForm.{is_image}
+use Rattle.cheri_model.specs.runs.ImageRules.{is_image}
 use Rattle.cores.proofs.SweepLemmas.{harts_are_few}
 use Rattle.following.proofs.follower.swept_of.Goals as goal
 

@@ -9,7 +9,7 @@ returns-in_err-write_absent-clause-begun g c =
     rw p.1
     (none_begun c.args.format c.args.kept.now c.is_complete-complete.result c.image.result.now c.len.result
     p.0 _ _ c.is_complete-complete.ensures.complete c.image.ensures c.len.ensures.count
-    c.write_absent.ensures.beginning)
+    c.write_absent.ensures.prefix)
 
 pub returns-then-complete-clause-written : goal.returns-then-complete-clause-written
 returns-then-complete-clause-written g c =

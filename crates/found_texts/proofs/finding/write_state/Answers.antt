@@ -47,4 +47,4 @@ returns-clause-begun g c =
     err_begun (IsShown c.args.format c.args.kept.now c.args.number) c.write_found.result _ _ _
     (shown_is c.args.format c.args.kept.now c.args.number s.0 c.image-2.result.now c.as_slice.result.now c.in_ok-order.order.items
     c.load.new.self (c.state.ensures.state ∙ s.1) (c.in_ok-order.ensures s.0 (c.state.ensures.state ∙ s.1)) c.image-2.ensures
-    c.as_slice.ensures.value (c.load.ensures s.0 s.1)) c.write_found.ensures.beginning
+    c.as_slice.ensures.value (c.load.ensures s.0 s.1)) c.write_found.ensures.prefix

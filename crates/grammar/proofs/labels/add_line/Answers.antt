@@ -2,7 +2,7 @@ use Rattle.std.proofs.Common.{◌∙◌, sym, ap}
 use Rattle.grammar.specs.Tokens.{tokens_of, token_at}
 use Rattle.cheri_model.specs.instructions.Names.{is_instruction}
 use Rattle.grammar.specs.Labels.{is_label_token, label_name}
-use Rattle.grammar.specs.Places.{named_in}
+use Rattle.grammar.specs.LabelMap.{named_in}
 use Rattle.grammar.proofs.LabelLemmas.{instruction_defines, other_defines, label_defines, counts_one, counts_none}
 use Rattle.grammar.proofs.labels.add_line.Goals as goal
 

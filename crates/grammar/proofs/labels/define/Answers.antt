@@ -1,6 +1,6 @@
 use Rattle.std.proofs.Common.{◌∙◌, sym, refl}
 use Rattle.std.proofs.lemmas.Map.Text.{hash_map_updates_str}
-use Rattle.grammar.specs.Places.{named_in}
+use Rattle.grammar.specs.LabelMap.{named_in}
 use Rattle.grammar.proofs.LabelLemmas.{put_in, none_where}
 use Rattle.grammar.proofs.labels.define.Goals as goal
 

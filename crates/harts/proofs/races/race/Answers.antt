@@ -17,4 +17,4 @@ returns-clause-reports g c =
     let harts = length g.J.Naming.image.harts in
     let opened = c.in_ok-machine.ensures.shares ∙ ap (λ (trace : List Event). shares_of trace harts) c.requires.start in
     rw c.close-core-in-Ok.ensures.core
-    (reports_raced c.args.turns c.into_machine-in-Ok.result.core.trace harts _ _ _ opened c.in-Ok.ensures.harts c.in-Ok.ensures.counted c.close-core-in-Ok.ensures.counts c.in-Ok.ensures.turned)
+    (reports_raced c.args.turns c.into_machine-in-Ok.result.core.trace harts _ _ _ opened c.in-Ok.ensures.harts c.in-Ok.ensures.counted c.close-core-in-Ok.ensures.counts c.in-Ok.ensures.within_turns)

@@ -16,8 +16,8 @@ returns-clause-counted g c =
     shares_of_work {W = Worked g.row.J.Denot} (λ w. w.report) (λ w. w.share) c.in_ok-reports.reports.items c.in_ok-shares.shares.items c.in_ok-worked.worked.items
     made c.in_ok-shares.ensures c.in_ok-worked.ensures.counted
 
-pub returns-clause-turned : goal.returns-clause-turned
-returns-clause-turned g c =
+pub returns-clause-within_turns : goal.returns-clause-within_turns
+returns-clause-within_turns g c =
     let made = rw c.as_slice.ensures.value at c.in_ok-reports.ensures in
     turns_of_work {W = Worked g.row.J.Denot} (λ w. w.report) (λ w. w.share) c.args.turns c.in_ok-reports.reports.items c.in_ok-worked.worked.items made
-    c.in_ok-worked.ensures.turned
+    c.in_ok-worked.ensures.within_turns

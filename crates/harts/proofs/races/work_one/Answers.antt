@@ -2,6 +2,6 @@
 use Rattle.harts.specs.Reports.{KeepsTurns}
 use Rattle.harts.proofs.races.work_one.Goals as goal
 
-pub returns-clause-turned : goal.returns-clause-turned
+pub returns-clause-within_turns : goal.returns-clause-within_turns
 unfolding KeepsTurns
-returns-clause-turned g c = (c.hart_loop-share.ensures.turns, c.hart_loop-share.ensures.why)
+returns-clause-within_turns g c = (c.hart_loop-share.ensures.turns, c.hart_loop-share.ensures.why)

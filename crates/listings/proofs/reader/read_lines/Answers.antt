@@ -3,7 +3,7 @@ use Rattle.std.proofs.lemmas.List.{length_push}
 use Rattle.std.proofs.lemmas.Iterator.Consumers.{YieldsList-at}
 use Rattle.std.proofs.lemmas.Iterator.Splits.{YieldsList-from_slice_split}
 use Rattle.grammar.specs.Lines.{lines_of}
-use Rattle.grammar.specs.Places.{shown}
+use Rattle.grammar.specs.LabelMap.{label_parts}
 use Rattle.grammar.proofs.ChainLemmas.{turn_of, end_of, from_here}
 use Rattle.grammar.proofs.PlainTexts.{plain_at}
 use Rattle.listings.proofs.ReaderLemmas.{after_line, at_fault, after_last}
@@ -33,7 +33,7 @@ loop-line-preserved c =
     let more = length_push c.loop-line.yielded c.in-Some.line in
     let place : c.loop-line.number ≡ length c.loop-line.yielded + 1 = c.loop-line.invariant.0 in (
       omega (arith, more, place),
-      rw more (after_line (shown c.args.places.now) _ _ _ _ _ _ c.in-Ok.ensures (rw here at c.loop-line.invariant.1)),
+      rw more (after_line (label_parts c.args.labels.now) _ _ _ _ _ _ c.in-Ok.ensures (rw here at c.loop-line.invariant.1)),
     )
 
 pub returns : goal.returns

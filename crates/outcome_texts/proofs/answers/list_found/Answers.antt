@@ -39,7 +39,7 @@ returns-in_err-put_listed-clause-begun g c =
     (subst (λ (ts : List Outcome). AreOutcomesTold kept numbers ts) (sym c.as_slice-2.ensures.value)
     (subst (λ (ns : List ℕ). AreOutcomesTold kept ns c.in_ok-told.told.items) c.as_slice.ensures.value c.in_ok-told.ensures))
     c.head_of-head.ensures.complete c.head_of-head.ensures.image c.head_of-head.ensures.states c.head_of-head.ensures.endless)
-    c.put_listed.ensures.beginning)
+    c.put_listed.ensures.prefix)
 
 pub returns-clause-written : goal.returns-clause-written
 returns-clause-written g c =

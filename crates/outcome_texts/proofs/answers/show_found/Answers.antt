@@ -45,7 +45,7 @@ returns-in_err-put_shown-clause-begun g c =
     c.head_of-head.ensures.complete c.head_of-head.ensures.image c.head_of-head.ensures.states c.head_of-head.ensures.endless
     (ap length c.as_slice-outcomes.ensures.value)
     (ap (map (λ name. name.now)) c.as_slice-2.ensures.value))
-    c.put_shown.ensures.beginning)
+    c.put_shown.ensures.prefix)
 
 pub returns-clause-written : goal.returns-clause-written
 returns-clause-written g c =

@@ -11,14 +11,14 @@ loaded_state-requires-clause-there g c =
     rw c.index-outcomes-number.is
     (outcome_below_at _ c.args.outcomes.now c.loop-number.number _ c.requires.there c.loop-number-test.true)
 
-pub returns-in_err-state-clause-beginning : goal.returns-in_err-state-clause-beginning
-returns-in_err-state-clause-beginning g c = (_, c.loop-number.invariant.taken)
+pub returns-in_err-state-clause-prefix : goal.returns-in_err-state-clause-prefix
+returns-in_err-state-clause-prefix g c = (_, c.loop-number.invariant.taken)
 
-pub returns-in_err-put_outcome-clause-beginning : goal.returns-in_err-put_outcome-clause-beginning
-returns-in_err-put_outcome-clause-beginning g c =
+pub returns-in_err-put_outcome-clause-prefix : goal.returns-in_err-put_outcome-clause-prefix
+returns-in_err-put_outcome-clause-prefix g c =
     item_stops (kept_part c.args.format c.args.kept.now) c.args.outcomes.now c.loop-number.number _ _ _ _ _ _ _ _
     c.loop-number-test.true c.index-outcomes-number.is (part_of c.args.format c.args.kept.now c.loop-number.number _ _ _ c.in_ok-state.ensures)
-    c.loop-number.invariant.taken c.put_outcome.ensures.beginning
+    c.loop-number.invariant.taken c.put_outcome.ensures.prefix
 
 pub loop-number-preserved : goal.loop-number-preserved
 loop-number-preserved g c = record {
@@ -26,7 +26,7 @@ loop-number-preserved g c = record {
       item_takes (kept_part c.args.format c.args.kept.now) c.args.outcomes.now c.loop-number.number _ _ _ _ _ _ _ _ _
       c.loop-number-test.true c.index-outcomes-number.is (part_of c.args.format c.args.kept.now c.loop-number.number _ _ _ c.in_ok-state.ensures)
       c.loop-number.invariant.taken c.in_ok-put_outcome.ensures.whole;
-  place = c.put_outcome.ensures.place ∙ c.loop-number.invariant.place;
+  identity = c.put_outcome.ensures.identity ∙ c.loop-number.invariant.identity;
 }
 
 pub returns-clause-whole : goal.returns-clause-whole
@@ -34,8 +34,8 @@ returns-clause-whole g c =
     items_end (kept_part c.args.format c.args.kept.now) c.args.outcomes.now c.loop-number.number _ _ _ _ c.loop-number-test.false
     c.loop-number.invariant.taken
 
-pub returns-clause-beginning : goal.returns-clause-beginning
-returns-clause-beginning g c = (
+pub returns-clause-prefix : goal.returns-clause-prefix
+returns-clause-prefix g c = (
   _,
   items_end (kept_part c.args.format c.args.kept.now) c.args.outcomes.now c.loop-number.number _ _ _ _ c.loop-number-test.false
       c.loop-number.invariant.taken,

@@ -7,8 +7,8 @@ use Rattle.outcome_texts.proofs.listed.put_outcomes.Given as goal
 
 abbrev pub invariant-loop-number : goal.invariant-loop-number
 invariant-loop-number g l = record {
-  taken : TakesAllBut (g.S.Sink.taken l.initial.sink) (g.S.Sink.taken l.sink)
+  taken : TakesAllBut (g.S.Sink.written l.initial.sink) (g.S.Sink.written l.sink)
       (string_bytes l.out ++ numbered (kept_part l.format l.kept) l.number (drop l.number l.outcomes))
       (string_bytes l.initial.out ++ numbered (kept_part l.format l.kept) 0 l.outcomes);
-  place : g.S.Sink.place l.sink ≡ g.S.Sink.place l.initial.sink;
+  identity : g.S.Sink.identity l.sink ≡ g.S.Sink.identity l.initial.sink;
 }

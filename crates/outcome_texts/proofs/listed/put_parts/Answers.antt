@@ -3,13 +3,13 @@ use Rattle.reports.proofs.JsonParts.{head_begun, part_taken, part_begun}
 use Rattle.outcome_texts.specs.OutcomeParts.{listed_parts}
 use Rattle.outcome_texts.proofs.listed.put_parts.Goals as goal
 
-pub returns-in_err-write_head-clause-beginning : goal.returns-in_err-write_head-clause-beginning
-returns-in_err-write_head-clause-beginning g c = head_begun _ _
+pub returns-in_err-write_head-clause-prefix : goal.returns-in_err-write_head-clause-prefix
+returns-in_err-write_head-clause-prefix g c = head_begun _ _
 
 pub returns-clause-whole : goal.returns-clause-whole
 unfolding listed_parts
 returns-clause-whole g c = part_taken _ _ _ _ _ _ _ _ _ c.in_ok-write_head.ensures refl c.put_outcomes.ensures.whole
 
-pub returns-clause-beginning : goal.returns-clause-beginning
+pub returns-clause-prefix : goal.returns-clause-prefix
 unfolding listed_parts
-returns-clause-beginning g c = part_begun _ _ _ _ _ _ _ c.in_ok-write_head.ensures refl c.put_outcomes.ensures.beginning
+returns-clause-prefix g c = part_begun _ _ _ _ _ _ _ c.in_ok-write_head.ensures refl c.put_outcomes.ensures.prefix

@@ -6,23 +6,23 @@ use Rattle.sinks.proofs.SinkLemmas.{takes_on, stops_on, begins_on, takes_on_ok}
 use Rattle.reports.proofs.ReportParts.{three_parts}
 use Rattle.reports.proofs.report.put_parts.Goals as goal
 
-pub returns-in_err-put_events-clause-beginning : goal.returns-in_err-put_events-clause-beginning
+pub returns-in_err-put_events-clause-prefix : goal.returns-in_err-put_events-clause-prefix
 unfolding shown_lines
-returns-in_err-put_events-clause-beginning g c =
-    rw (← append_assoc) (begins_on _ _ _ _ c.put_events.ensures.beginning)
+returns-in_err-put_events-clause-prefix g c =
+    rw (← append_assoc) (begins_on _ _ _ _ c.put_events.ensures.prefix)
 
-pub returns-in_err-put_harts-clause-beginning : goal.returns-in_err-put_harts-clause-beginning
+pub returns-in_err-put_harts-clause-prefix : goal.returns-in_err-put_harts-clause-prefix
 unfolding shown_lines
-returns-in_err-put_harts-clause-beginning g c =
+returns-in_err-put_harts-clause-prefix g c =
     rw (← three_parts)
-    (begins_on _ _ _ _ (stops_on _ _ _ _ _ _ c.in_ok-put_events.ensures.whole c.put_harts.ensures.beginning))
+    (begins_on _ _ _ _ (stops_on _ _ _ _ _ _ c.in_ok-put_events.ensures.whole c.put_harts.ensures.prefix))
 
-pub returns-clause-beginning : goal.returns-clause-beginning
+pub returns-clause-prefix : goal.returns-clause-prefix
 unfolding shown_lines
-returns-clause-beginning g c =
+returns-clause-prefix g c =
     rw (← three_parts)
     (stops_on _ _ _ _ _ _ (takes_on _ _ _ _ _ _ _ c.in_ok-put_events.ensures.whole c.in_ok-put_harts.ensures.whole)
-    c.put_granules.ensures.beginning)
+    c.put_granules.ensures.prefix)
 
 pub returns-clause-whole : goal.returns-clause-whole
 unfolding shown_lines

@@ -2,13 +2,13 @@ use Rattle.std.proofs.Common.{refl}
 use Rattle.reports.proofs.JsonParts.{head_begun, part_taken, part_begun}
 use Rattle.shown_states.proofs.texts.put_harts_member.Goals as goal
 
-pub returns-in_err-push_str-clause-beginning : goal.returns-in_err-push_str-clause-beginning
-returns-in_err-push_str-clause-beginning g c = head_begun _ _
+pub returns-in_err-push_str-clause-prefix : goal.returns-in_err-push_str-clause-prefix
+returns-in_err-push_str-clause-prefix g c = head_begun _ _
 
 pub returns-clause-whole : goal.returns-clause-whole
 returns-clause-whole g c =
     part_taken _ _ _ _ _ _ _ _ _ c.in_ok-push_str.ensures.bytes refl (rw c.harts.ensures at c.put_harts_json.ensures.whole)
 
-pub returns-clause-beginning : goal.returns-clause-beginning
-returns-clause-beginning g c =
-    part_begun _ _ _ _ _ _ _ c.in_ok-push_str.ensures.bytes refl (rw c.harts.ensures at c.put_harts_json.ensures.beginning)
+pub returns-clause-prefix : goal.returns-clause-prefix
+returns-clause-prefix g c =
+    part_begun _ _ _ _ _ _ _ c.in_ok-push_str.ensures.bytes refl (rw c.harts.ensures at c.put_harts_json.ensures.prefix)

@@ -27,7 +27,7 @@ pub returns-in_err-write_json_line-clause-refused : goal.returns-in_err-write_js
 returns-in_err-write_json_line-clause-refused g c =
     let p = err_from_is_err_and c.from_residual-in_err-write_json_line.result c.from_residual-in_err-write_json_line.ensures.1 in
     let run : Run = (c.in_ok-core.core, c.in_ok-core.refused) in
-    let begun = rw (c.view.ensures.image, c.view.ensures.entries, c.view.ensures.state) at c.write_json_line.ensures.beginning in
+    let begun = rw (c.view.ensures.image, c.view.ensures.entries, c.view.ensures.state) at c.write_json_line.ensures.prefix in
     rw (p.1, p.2) (of_run _ run _ c.in_ok-core.ensures.run c.in_ok-core.ensures.confined begun)
 
 pub returns-clause-shown : goal.returns-clause-shown

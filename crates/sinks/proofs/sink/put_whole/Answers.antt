@@ -8,7 +8,7 @@ loop-left-preserved g c = record {
   taken = takes_more _ _ _ c.loop-left.left.now _ _ c.in_ok-taken.taken (grind (arith, common_steps)) c.loop-left.invariant.taken
       c.in_ok-taken.ensures.bytes;
   failures = cc (c.in_ok-taken.ensures.count, c.loop-left.invariant.failures);
-  place = cc (c.put.ensures.place, c.loop-left.invariant.place);
+  identity = cc (c.put.ensures.identity, c.loop-left.invariant.identity);
 }
 
 pub returns-clause-whole : goal.returns-clause-whole

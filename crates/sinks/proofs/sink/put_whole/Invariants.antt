@@ -5,9 +5,9 @@ use Rattle.sinks.proofs.sink.put_whole.Given as goal
 
 abbrev pub invariant-loop-left : goal.invariant-loop-left
 invariant-loop-left g l = record {
-  taken : TakesAllBut (g.S.Sink.taken l.initial.sink) (g.S.Sink.taken l.sink) l.left l.initial.left;
+  taken : TakesAllBut (g.S.Sink.written l.initial.sink) (g.S.Sink.written l.sink) l.left l.initial.left;
   failures : g.S.Sink.failures l.sink ≡ g.S.Sink.failures l.initial.sink;
-  place : g.S.Sink.place l.sink ≡ g.S.Sink.place l.initial.sink;
+  identity : g.S.Sink.identity l.sink ≡ g.S.Sink.identity l.initial.sink;
 }
 
 abbrev pub decreases-loop-left : goal.decreases-loop-left

@@ -4,7 +4,7 @@ use Rattle.tagged_mem.proofs.packed.put_bytes.Goals as goal
 
 pub loop-k-init : goal.loop-k-init
 loop-k-init c =
-    let place : c.args.place + 0 ≡ c.args.place = omega arith in
+    let place : c.args.index + 0 ≡ c.args.index = omega arith in
     let count : c.args.count - 0 ≡ c.args.count = omega arith in
     rw (place, count) refl
 

@@ -5,4 +5,4 @@ use Rattle.tagged_mem.proofs.packed.put_bytes.Given as goal
 -- what is left to write makes of the bytes what was asked for at first
 abbrev pub invariant-loop-k : goal.invariant-loop-k
 invariant-loop-k l =
-    with_number l.bytes (l.place + l.k) (l.count - l.k) l.rest ≡ with_number l.initial.bytes l.place l.count l.number
+    with_number l.bytes (l.index + l.k) (l.count - l.k) l.rest ≡ with_number l.initial.bytes l.index l.count l.number

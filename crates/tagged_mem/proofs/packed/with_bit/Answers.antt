@@ -3,13 +3,13 @@ use Rattle.std.proofs.lemmas.Nat.Bits.{bit_at_set_same, bit_at_set_other, bit_at
 use Rattle.tagged_mem.proofs.packed.with_bit.Goals as goal
 
 pub returns-then-set-clause-there : goal.returns-then-set-clause-there
-returns-then-set-clause-there c = rw c.if-set.true (bit_at_set_same w8 c.args.byte c.args.place c.requires)
+returns-then-set-clause-there c = rw c.if-set.true (bit_at_set_same w8 c.args.byte c.args.index c.requires)
 
 pub returns-then-set-clause-others : goal.returns-then-set-clause-others
-returns-then-set-clause-others c = λ k below apart. bit_at_set_other w8 c.args.byte c.args.place c.requires k apart
+returns-then-set-clause-others c = λ k below apart. bit_at_set_other w8 c.args.byte c.args.index c.requires k apart
 
 pub returns-else-set-clause-there : goal.returns-else-set-clause-there
-returns-else-set-clause-there c = rw c.if-set.false (bit_at_clear_same w8 c.args.byte c.args.place c.requires)
+returns-else-set-clause-there c = rw c.if-set.false (bit_at_clear_same w8 c.args.byte c.args.index c.requires)
 
 pub returns-else-set-clause-others : goal.returns-else-set-clause-others
-returns-else-set-clause-others c = λ k below apart. bit_at_clear_other w8 c.args.byte c.args.place c.requires k below apart
+returns-else-set-clause-others c = λ k below apart. bit_at_clear_other w8 c.args.byte c.args.index c.requires k below apart

@@ -4,23 +4,23 @@ use Rattle.sinks.proofs.SinkLemmas.{takes_on, stops_on, begins_on, takes_on_ok}
 use Rattle.reports.proofs.ReportParts.{three_parts}
 use Rattle.reports.proofs.json.pieces.put_parts.Goals as goal
 
-pub returns-in_err-put_events_part-clause-beginning : goal.returns-in_err-put_events_part-clause-beginning
+pub returns-in_err-put_events_part-clause-prefix : goal.returns-in_err-put_events_part-clause-prefix
 unfolding json_parts
-returns-in_err-put_events_part-clause-beginning g c =
-    rw (← append_assoc) (begins_on _ _ _ _ c.put_events_part.ensures.beginning)
+returns-in_err-put_events_part-clause-prefix g c =
+    rw (← append_assoc) (begins_on _ _ _ _ c.put_events_part.ensures.prefix)
 
-pub returns-in_err-put_harts_part-clause-beginning : goal.returns-in_err-put_harts_part-clause-beginning
+pub returns-in_err-put_harts_part-clause-prefix : goal.returns-in_err-put_harts_part-clause-prefix
 unfolding json_parts
-returns-in_err-put_harts_part-clause-beginning g c =
+returns-in_err-put_harts_part-clause-prefix g c =
     rw (← three_parts)
-    (begins_on _ _ _ _ (stops_on _ _ _ _ _ _ c.in_ok-put_events_part.ensures.whole c.put_harts_part.ensures.beginning))
+    (begins_on _ _ _ _ (stops_on _ _ _ _ _ _ c.in_ok-put_events_part.ensures.whole c.put_harts_part.ensures.prefix))
 
-pub returns-clause-beginning : goal.returns-clause-beginning
+pub returns-clause-prefix : goal.returns-clause-prefix
 unfolding json_parts
-returns-clause-beginning g c =
+returns-clause-prefix g c =
     rw (← three_parts)
     (stops_on _ _ _ _ _ _ (takes_on _ _ _ _ _ _ _ c.in_ok-put_events_part.ensures.whole c.in_ok-put_harts_part.ensures.whole)
-    c.put_memory_part.ensures.beginning)
+    c.put_memory_part.ensures.prefix)
 
 pub returns-clause-whole : goal.returns-clause-whole
 unfolding json_parts

@@ -6,23 +6,23 @@ use Rattle.reports.proofs.JsonParts.{head_begun, granule_takes, granule_stops, g
 use Rattle.reports.proofs.JsonTexts.{memory_text}
 use Rattle.reports.proofs.json.state.put_granules_json.Goals as goal
 
-pub returns-in_err-push_str-clause-beginning : goal.returns-in_err-push_str-clause-beginning
-returns-in_err-push_str-clause-beginning g c = head_begun _ _
+pub returns-in_err-push_str-clause-prefix : goal.returns-in_err-push_str-clause-prefix
+returns-in_err-push_str-clause-prefix g c = head_begun _ _
 
-pub returns-in_err-later-clause-beginning : goal.returns-in_err-later-clause-beginning
-returns-in_err-later-clause-beginning g c =
+pub returns-in_err-later-clause-prefix : goal.returns-in_err-later-clause-prefix
+returns-in_err-later-clause-prefix g c =
     closed_begins _ _ _ _ _ _ _ _ c.in_ok-push_str.ensures.bytes
     (memory_text c.args.ram.now (memory_fits _ c.granule_count-number-end.ensures.memory))
     (_, c.loop-number.invariant.taken)
 
-pub returns-in_err-make_room-clause-beginning : goal.returns-in_err-make_room-clause-beginning
+pub returns-in_err-make_room-clause-prefix : goal.returns-in_err-make_room-clause-prefix
 unfolding granule_at
-returns-in_err-make_room-clause-beginning g c =
+returns-in_err-make_room-clause-prefix g c =
     let room : c.loop-number.number < length c.args.ram.now = omega arith in
     closed_begins _ _ _ _ _ _ _ _ c.in_ok-push_str.ensures.bytes
     (memory_text c.args.ram.now (memory_fits _ c.granule_count-number-end.ensures.memory))
     (granule_stops c.args.ram.now _ _ _ _ _ _ _ _ _ _ room c.granule.ensures.value
-    c.in_ok-later.ensures.written c.loop-number.invariant.taken c.make_room.ensures.beginning)
+    c.in_ok-later.ensures.written c.loop-number.invariant.taken c.make_room.ensures.prefix)
 
 pub loop-number-preserved : goal.loop-number-preserved
 unfolding granule_at
@@ -34,17 +34,17 @@ loop-number-preserved g c =
           c.in_ok-later.ensures.written c.in_ok-later.ensures.later c.loop-number.invariant.taken
           c.in_ok-make_room.ensures.whole;
       failures = no_failure _ _ _ c.in_ok-make_room.ensures.failures c.loop-number.invariant.failures;
-      place = c.make_room.ensures.place ∙ c.loop-number.invariant.place;
+      identity = c.make_room.ensures.identity ∙ c.loop-number.invariant.identity;
     }
 
-pub returns-in_err-push_str-2-clause-beginning : goal.returns-in_err-push_str-2-clause-beginning
-returns-in_err-push_str-2-clause-beginning g c =
+pub returns-in_err-push_str-2-clause-prefix : goal.returns-in_err-push_str-2-clause-prefix
+returns-in_err-push_str-2-clause-prefix g c =
     closed_begins _ _ _ _ _ _ _ _ c.in_ok-push_str.ensures.bytes
     (memory_text c.args.ram.now (memory_fits _ c.granule_count-number-end.ensures.memory))
     (_, c.loop-number.invariant.taken)
 
-pub returns-clause-beginning : goal.returns-clause-beginning
-returns-clause-beginning g c =
+pub returns-clause-prefix : goal.returns-clause-prefix
+returns-clause-prefix g c =
     closed_begins _ _ _ _ _ _ _ _ c.in_ok-push_str.ensures.bytes
     (memory_text c.args.ram.now (memory_fits _ c.granule_count-number-end.ensures.memory))
     (_, c.loop-number.invariant.taken)

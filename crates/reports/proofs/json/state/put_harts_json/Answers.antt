@@ -7,19 +7,19 @@ use Rattle.sinks.proofs.SinkLemmas.{no_failure}
 use Rattle.reports.proofs.JsonParts.{head_begun}
 use Rattle.reports.proofs.json.state.put_harts_json.Goals as goal
 
-pub returns-in_err-push_str-clause-beginning : goal.returns-in_err-push_str-clause-beginning
-returns-in_err-push_str-clause-beginning g c = head_begun _ _
+pub returns-in_err-push_str-clause-prefix : goal.returns-in_err-push_str-clause-prefix
+returns-in_err-push_str-clause-prefix g c = head_begun _ _
 
-pub returns-in_err-write_hart-clause-beginning : goal.returns-in_err-write_hart-clause-beginning
-returns-in_err-write_hart-clause-beginning g c =
+pub returns-in_err-write_hart-clause-prefix : goal.returns-in_err-write_hart-clause-prefix
+returns-in_err-write_hart-clause-prefix g c =
     closed_begins _ _ _ _ _ _ _ _ c.in_ok-push_str.ensures.bytes (list_text hart_data c.args.harts.now)
     (_, c.loop-number.invariant.taken)
 
-pub returns-in_err-make_room-clause-beginning : goal.returns-in_err-make_room-clause-beginning
-returns-in_err-make_room-clause-beginning g c =
+pub returns-in_err-make_room-clause-prefix : goal.returns-in_err-make_room-clause-prefix
+returns-in_err-make_room-clause-prefix g c =
     closed_begins _ _ _ _ _ _ _ _ c.in_ok-push_str.ensures.bytes (list_text hart_data c.args.harts.now)
     (item_stops (item_text hart_data) c.args.harts.now _ _ _ _ _ _ _ _ _ c.loop-number-test.true c.index-harts-number.is
-    c.in_ok-write_hart.ensures c.loop-number.invariant.taken c.make_room.ensures.beginning)
+    c.in_ok-write_hart.ensures c.loop-number.invariant.taken c.make_room.ensures.prefix)
 
 pub loop-number-preserved : goal.loop-number-preserved
 loop-number-preserved g c = record {
@@ -27,16 +27,16 @@ loop-number-preserved g c = record {
       item_takes (item_text hart_data) c.args.harts.now _ _ _ _ _ _ _ _ _ _ c.loop-number-test.true c.index-harts-number.is
       c.in_ok-write_hart.ensures c.loop-number.invariant.taken c.in_ok-make_room.ensures.whole;
   failures = no_failure _ _ _ c.in_ok-make_room.ensures.failures c.loop-number.invariant.failures;
-  place = c.make_room.ensures.place ∙ c.loop-number.invariant.place;
+  identity = c.make_room.ensures.identity ∙ c.loop-number.invariant.identity;
 }
 
-pub returns-in_err-push_str-2-clause-beginning : goal.returns-in_err-push_str-2-clause-beginning
-returns-in_err-push_str-2-clause-beginning g c =
+pub returns-in_err-push_str-2-clause-prefix : goal.returns-in_err-push_str-2-clause-prefix
+returns-in_err-push_str-2-clause-prefix g c =
     closed_begins _ _ _ _ _ _ _ _ c.in_ok-push_str.ensures.bytes (list_text hart_data c.args.harts.now)
     (_, c.loop-number.invariant.taken)
 
-pub returns-clause-beginning : goal.returns-clause-beginning
-returns-clause-beginning g c =
+pub returns-clause-prefix : goal.returns-clause-prefix
+returns-clause-prefix g c =
     closed_begins _ _ _ _ _ _ _ _ c.in_ok-push_str.ensures.bytes (list_text hart_data c.args.harts.now)
     (_, c.loop-number.invariant.taken)
 

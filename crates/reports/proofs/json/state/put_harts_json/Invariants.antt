@@ -8,9 +8,9 @@ use Rattle.reports.proofs.json.state.put_harts_json.Given as goal
 
 abbrev pub invariant-loop-number : goal.invariant-loop-number
 invariant-loop-number g l = record {
-  taken : TakesAllBut (g.S.Sink.taken l.initial.sink) (g.S.Sink.taken l.sink)
+  taken : TakesAllBut (g.S.Sink.written l.initial.sink) (g.S.Sink.written l.sink)
       (string_bytes l.out ++ numbered (item_text hart_data) l.number (drop l.number l.harts))
       (string_bytes l.initial.out ++ numbered (item_text hart_data) 0 l.harts);
   failures : g.S.Sink.failures l.sink ≡ g.S.Sink.failures l.initial.sink;
-  place : g.S.Sink.place l.sink ≡ g.S.Sink.place l.initial.sink;
+  identity : g.S.Sink.identity l.sink ≡ g.S.Sink.identity l.initial.sink;
 }

@@ -15,8 +15,8 @@ returns-in-Some-clause-answered g c = λ other.
     refused_step_answered c.args.self.now.core c.args.share.now.hart c.in-Some.fault
     (c.in-Some.ensures.value ∙ (λ i. refused ((c.core.ensures.core ∙ (core_is c.self.view_is)) i) (operation.Step (c.hart-hart.ensures.hart i))))
 
-pub returns-in-Some-clause-there : goal.returns-in-Some-clause-there
-returns-in-Some-clause-there g c = λ missing.
+pub returns-in-Some-clause-hart_exists : goal.returns-in-Some-clause-hart_exists
+returns-in-Some-clause-hart_exists g c = λ missing.
     hart_is_there c.self.inside.watched.core c.core.result.now c.hart-hart.result _ c.in-Some.fault c.refusal.ensures.core c.core.ensures.core
     (ap (λ (image : ImageParts). length image.harts) c.self.invariant.1) c.hart-hart.ensures.below
     (c.in-Some.ensures.value ∙ ap (λ (k : CoreParts). refused k (operation.Step c.hart-hart.result)) c.core.ensures.core) (cc)

@@ -1,12 +1,12 @@
 -- What is shown goes on from what was seen, where it is no shorter.
 use Rattle.std.proofs.Common.{◌≡◌, ◌≤◌, ◌<◌, length, sym, ap, ◌∙◌, arith}
-use Rattle.shared_machine.proofs.CopyLemmas.{trace_beginning, length-replayed_events}
+use Rattle.shared_machine.proofs.CopyLemmas.{trace_prefix, length-replayed_events}
 use Rattle.shared_machine.proofs.watching.watch.Receipt.followed.Goals as goal
 
 pub returns-clause-later : goal.returns-clause-later
 returns-clause-later g c =
     let less : length c.self.inside.seen ≤ length c.now.inside.seen = omega (arith, c.self.invariant, c.now.invariant, c.if-now-self.false) in
-    rw (← c.self.view_is, ← c.now.view_is) (trace_beginning g.J.Naming.image c.self.inside.seen c.now.inside.seen (c.meet.ensures less))
+    rw (← c.self.view_is, ← c.now.view_is) (trace_prefix g.J.Naming.image c.self.inside.seen c.now.inside.seen (c.meet.ensures less))
 
 pub returns-then-now-self-clause-older : goal.returns-then-now-self-clause-older
 returns-then-now-self-clause-older g c none =

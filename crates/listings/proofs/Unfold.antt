@@ -2,7 +2,7 @@
 use Rattle.std.specs.Prelude.{ℕ, List, Result}
 use Rattle.grammar.specs.declared.fault.ListingFaultKind.{ListingFaultKind}
 use Rattle.grammar.specs.declared.capability.CapParts.{CapParts}
-use Rattle.grammar.specs.Labels.{PlaceParts}
+use Rattle.grammar.specs.Labels.{LabelParts}
 use Rattle.listings.specs.Draft.{DraftParts, value_of, with_ram, add_hart, with_hart, set_register}
 use Rattle.listings.specs.Draft.{with_set, with_bytes, with_capability, with_instruction}
 use Rattle.listings.specs.Statement.{ram_line, hart_line, settable_register_of, word_setting}
@@ -10,9 +10,9 @@ use Rattle.listings.specs.Statement.{capability_setting, setting_of, set_line, h
 use Rattle.listings.specs.Statement.{bytes_line, cap_line, instruction_line, label_line}
 use Rattle.listings.specs.Statement.{line_from, tokens_meaning}
 
-unfoldable pub line : PlaceParts → ℕ → DraftParts → List (List ℕ) → Result DraftParts ListingFaultKind
+unfoldable pub line : LabelParts → ℕ → DraftParts → List (List ℕ) → Result DraftParts ListingFaultKind
 unfolding line_from tokens_meaning
-line places number draft tokens = tokens_meaning places number draft tokens
+line labels number draft tokens = tokens_meaning labels number draft tokens
 
 unfoldable pub lines : DraftParts → List (List ℕ) → Result DraftParts ListingFaultKind
 unfolding ram_line hart_line settable_register_of word_setting capability_setting setting_of set_line hex_bytes bytes_line cap_line instruction_line label_line

@@ -4,10 +4,10 @@ use Rattle.std.proofs.lemmas.Iterator.Consumers.{YieldsList-at}
 use Rattle.std.proofs.lemmas.Iterator.Splits.{YieldsList-from_slice_split}
 use Rattle.grammar.specs.Lines.{lines_of}
 use Rattle.grammar.specs.Tokens.{token_at, tokens_of}
-use Rattle.grammar.specs.Places.{named_in}
+use Rattle.grammar.specs.LabelMap.{named_in}
 use Rattle.grammar.proofs.ChainLemmas.{turn_of, end_of, from_here}
 use Rattle.grammar.proofs.LabelLemmas.{label_first, label_last, count_first, count_last, count_at_most_one, lines_at_most, places_where}
-use Rattle.grammar.proofs.labels.places_of.Goals as goal
+use Rattle.grammar.proofs.labels.labels_of.Goals as goal
 
 pub overflow_add-instructions : goal.overflow_add-instructions
 overflow_add-instructions c =

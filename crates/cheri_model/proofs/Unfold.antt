@@ -9,7 +9,7 @@ use Rattle.cheri_model.specs.instructions.Form.{store_instr, branch_instr, instr
 use Rattle.cheri_model.specs.instructions.Names.{names_from, mnemonic_table, is_instruction}
 use Rattle.cheri_model.specs.instructions.Names.{name_among, name_in, name_of}
 use Rattle.cheri_model.specs.runs.Image.{ImageParts}
-use Rattle.cheri_model.specs.runs.ImageForm.{image_of, is_image, are_granules}
+use Rattle.cheri_model.specs.runs.ImageRules.{image_of, is_image, are_granules}
 
 unfoldable pub instr : Form → Instr
 unfolding three_instr two_instr immediate_instr shift_instr word_shift_instr upper_instr load_instr store_instr branch_instr instr_of

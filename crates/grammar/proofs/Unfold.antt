@@ -12,7 +12,7 @@ use Rattle.grammar.specs.Operands.{immediate_up_to, memory_operand_from, memory_
 use Rattle.grammar.specs.Operands.{type_operand_of, type_in_range}
 use Rattle.grammar.specs.Labels.{is_label_name, is_label_token, target_operand_of, target_of}
 use Rattle.grammar.specs.Labels.{label_fault}
-use Rattle.grammar.specs.Places.{shown}
+use Rattle.grammar.specs.LabelMap.{label_parts}
 use Rattle.grammar.specs.Capability.{optional_type, cap_operands_of, cap_tokens, cap_parts_of}
 use Rattle.grammar.specs.Capability.{capability_of}
 use Rattle.grammar.specs.Forms.{three_form, two_form, immediate_form, shift_form}
@@ -41,7 +41,7 @@ unfolding cap_operands_of optional_type cap_tokens cap_parts_of capability_of
 capabilities tokens place = optional_type tokens place
 
 unfoldable pub labels : List ℕ → Bool
-unfolding is_label_name is_label_token shown target_operand_of target_of label_fault
+unfolding is_label_name is_label_token label_parts target_operand_of target_of label_fault
 labels token = is_label_token token
 
 unfoldable pub forms : List (List ℕ) → Result Form ListingFaultKind

@@ -1,4 +1,4 @@
-//! The beginnings of a listing: what is left of it where it is cut after any of its bytes.
+//! The prefixes of a listing: what is left of it where it is cut after any of its bytes.
 
 use crate::reading::{Answer, answer_of, joined};
 use cheri_model::{Instr, Reg};
@@ -6,7 +6,7 @@ use grammar::fault::ListingFaultKind;
 use listings::read_listing;
 use std::test::Fail;
 
-/// A line of the listing; those of its beginnings, beside the empty one, that are lines by
+/// A line of the listing; those of its prefixes, beside the empty one, that are lines by
 /// themselves; and how many harts and instructions there are with it.
 type Row = (&'static str, &'static [&'static str], usize, usize);
 
@@ -58,7 +58,7 @@ const LINES: [Row; 8] = [
     ("ecall", &["ecall"], 2, 4),
 ];
 
-/// The beginnings of the listing's lines that are a first word which a line may have.
+/// The prefixes of the listing's lines that are a first word which a line may have.
 const FIRST_WORDS: [&str; 7] = [
     ".hart",
     ".set",
@@ -97,10 +97,10 @@ fn whole_lines(harts: usize, code: usize) -> Answer {
     }
 }
 
-/// Where the last line of a beginning is empty or is a line by itself, no line has a fault; else the
+/// Where the last line of a prefix is empty or is a line by itself, no line has a fault; else the
 /// last line is refused, for its first word or for what follows it.
 #[test]
-fn each_beginning_is_judged_by_its_last_line(rt: HostRuntime) -> Result<(), Fail> {
+fn each_prefix_is_judged_by_its_last_line(rt: HostRuntime) -> Result<(), Fail> {
     let alloc = rt.alloc();
     let mut before = String::new(alloc);
     let (mut harts, mut code) = (0, 0);

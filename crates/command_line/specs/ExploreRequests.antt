@@ -1,4 +1,4 @@
--- What the words of a command line of `cheri_explore` ask for.
+-- What the arguments of a command line of `cheri_explore` ask for.
 use Rattle.std.specs.Prelude.{ℕ, ◌==◌, ◌+◌, ◌^◌, nat_lt, nat_le, ◌&&◌, List, [], ◌∷◌, length, take, drop, Option, Some, None, option_and_then, option_map, codes, if◌then◌else◌}
 use Rattle.std.specs.List.{position}
 use Rattle.std.specs.Str.{bytes_eq}
@@ -6,7 +6,7 @@ use Rattle.clap.specs.Words.{App, Row, Text, all_of, fault_of, first_of, new_app
 use Rattle.command_line.specs.Arguments.{flag, repeated_option, required_word, single_option, wanting_subcommand}
 use Rattle.command_line.specs.Found.{◌>>=◌, form_of, unless_faulty}
 use Rattle.command_line.specs.Numbers.{number_of, number_or}
-use Rattle.command_line.specs.declared.found.ReportForm.{ReportForm}
+use Rattle.command_line.specs.declared.found.Format.{Format}
 use Rattle.command_line.specs.declared.sweeps.TheConstants.{MAX_SWEEPS}
 use Rattle.command_line.specs.declared.sweeps.Sweep.{Sweep}
 use Rattle.command_line.specs.declared.explore.TheConstants.{GREATEST_STATES, USUAL_STATES}
@@ -46,7 +46,7 @@ explore_program =
     with_subcommand (with_subcommand (with_subcommand explore_alone outcomes_command.top)
     find_command.top) authority_command.top
 
--- a request by the texts of its words
+-- a request by the texts of its arguments
 pub data AskedQuestion : Type 0 where
   Outcomes : Option Text → AskedQuestion
   Find : Text → AskedQuestion
@@ -56,7 +56,7 @@ pub record ExploreAsked : Type 0 where
   pub listing : Text
   pub sweeps : List Sweep
   pub states : ℕ
-  pub form : ReportForm
+  pub form : Format
   pub question : AskedQuestion
 
 abbrev pub question_asked_by : Question → AskedQuestion
@@ -79,28 +79,28 @@ sweep_within lo hi =
     if nat_le lo hi && nat_le hi (2 ^ 64) && nat_lt lo (2 ^ 64)
     then Some (record { lo = lo; hi = hi }) else None
 
--- the sweep that a word `LO,HI` writes
+-- the sweep that an argument `LO,HI` writes
 unfoldable pub sweep_of : Text → Option Sweep
-sweep_of word = do
-  comma ← position (λ b. b == 0x2C) word
-  lo ← number_of (take comma word)
-  hi ← number_of (drop (comma + 1) word)
+sweep_of arg = do
+  comma ← position (λ b. b == 0x2C) arg
+  lo ← number_of (take comma arg)
+  hi ← number_of (drop (comma + 1) arg)
   sweep_within lo hi
 
--- the sweeps that words write, in their order
+-- the sweeps that arguments write, in their order
 unfoldable pub sweeps_of : List Text → Option (List Sweep)
 sweeps_of [] = Some []
-sweeps_of (word ∷ words) =
-    sweep_of word >>= (λ sweep. option_map (λ sweeps. sweep ∷ sweeps) (sweeps_of words))
+sweeps_of (arg ∷ args) =
+    sweep_of arg >>= (λ sweep. option_map (λ sweeps. sweep ∷ sweeps) (sweeps_of args))
 
 -- which are at most eight
 abbrev pub few_sweeps_of : List Text → Option (List Sweep)
-few_sweeps_of words = if nat_le (length words) MAX_SWEEPS then sweeps_of words else None
+few_sweeps_of args = if nat_le (length args) MAX_SWEEPS then sweeps_of args else None
 
 -- the sweeps that a repeated option gives, if it is there
 abbrev pub sweeps_in : Option (List Text) → Option (List Sweep)
 sweeps_in None = Some []
-sweeps_in (Some words) = few_sweeps_of words
+sweeps_in (Some args) = few_sweeps_of args
 
 -- what the command of this name asks
 unfoldable pub question_of : Text → List Row → Option AskedQuestion
@@ -110,7 +110,7 @@ question_of name rows =
     else if bytes_eq name (codes "authority") then Some Authority
     else None
 
--- what the command of this name asks for with these words
+-- what the command of this name asks for with these arguments
 unfoldable pub explore_asked_of : Text → List Row → Option ExploreAsked
 explore_asked_of name rows = do
   question ← question_of name rows
@@ -125,9 +125,9 @@ explore_asked_of name rows = do
     question = question;
   })
 
--- what the words of a command line ask for, the first of which is the program's name
+-- what the arguments of a command line ask for, the first of which is the program's name
 unfoldable pub explore_asked : List Text → Option ExploreAsked
-explore_asked words =
-    unless_faulty (fault_of explore_program words)
+explore_asked args =
+    unless_faulty (fault_of explore_program args)
     (option_and_then (λ found. explore_asked_of found.0 found.1)
-    (subcommand_of explore_program words))
+    (subcommand_of explore_program args))

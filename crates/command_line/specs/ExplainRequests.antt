@@ -1,4 +1,4 @@
--- What the words of a command line of `cheri_explain` ask for.
+-- What the arguments of a command line of `cheri_explain` ask for.
 use Rattle.std.specs.Prelude.{ℕ, nat_le, Bool, ◌||◌, List, Option, Some, None, is_some, option_map, codes, if◌then◌else◌}
 use Rattle.std.specs.Str.{bytes_eq}
 use Rattle.clap.specs.Words.{App, Row, Text, fault_of, first_of, matches_of, new_app, with_rule}
@@ -8,8 +8,8 @@ use Rattle.command_line.specs.Numbers.{number_or}
 use Rattle.command_line.specs.declared.explain.TheConstants.{LAST_EVENT}
 use Rattle.command_line.specs.declared.explain.Filter.{Filter}
 use Rattle.command_line.specs.declared.explain.Filter.TheVariants as filters
-use Rattle.command_line.specs.declared.explain.ExplainForm.{ExplainForm}
-use Rattle.command_line.specs.declared.explain.ExplainForm.TheVariants as forms
+use Rattle.command_line.specs.declared.explain.ExplainFormat.{ExplainFormat}
+use Rattle.command_line.specs.declared.explain.ExplainFormat.TheVariants as forms
 use Rattle.command_line.specs.declared.explain.ExplainRequest.{ExplainRequest}
 
 -- `cheri_explain LISTING --order FILE [--from I] [--to J] [--only WORDS] [--json] [--html]`
@@ -25,13 +25,13 @@ explain_program =
     (flag (codes "json")))
     (flag (codes "html"))
 
--- a request by the texts of its words
+-- a request by the texts of its arguments
 pub record ExplainAsked : Type 0 where
   pub listing : Text
   pub order : Text
   pub first : ℕ
   pub last : ℕ
-  pub form : ExplainForm
+  pub form : ExplainFormat
 
 abbrev pub explain_asked_by : ExplainRequest → ExplainAsked
 explain_asked_by request = record {
@@ -61,13 +61,13 @@ filter_of (Some words) = filter_named words
 
 -- the form of an explanation, by `--html`, `--json` and `--only`: a page has neither of the other
 -- two
-abbrev pub explain_form : Bool → Bool → Option Text → Option ExplainForm
+abbrev pub explain_form : Bool → Bool → Option Text → Option ExplainFormat
 explain_form html json only =
     if html then (if json || is_some only then None else Some forms.Page)
     else option_map (λ filter. if json then forms.Json filter else forms.Text filter)
     (filter_of only)
 
--- what is asked for with these words
+-- what is asked for with these arguments
 unfoldable pub explain_asked_of : List Row → Option ExplainAsked
 explain_asked_of rows = do
   listing ← first_of (codes "listing") rows
@@ -81,8 +81,8 @@ explain_asked_of rows = do
       (record { listing = listing; order = order; first = first; last = last; form = form })
       else None
 
--- what the words of a command line ask for, the first of which is the program's name
+-- what the arguments of a command line ask for, the first of which is the program's name
 unfoldable pub explain_asked : List Text → Option ExplainAsked
-explain_asked words =
-    unless_faulty (fault_of explain_program words)
-    (explain_asked_of (matches_of explain_program words))
+explain_asked args =
+    unless_faulty (fault_of explain_program args)
+    (explain_asked_of (matches_of explain_program args))

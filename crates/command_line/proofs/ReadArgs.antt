@@ -9,8 +9,8 @@ use Rattle.clap.specs.declared.error.kind.ErrorKind.TheVariants as kinds
 use Rattle.command_line.specs.declared.faults.CommandFault.{CommandFault}
 use Rattle.command_line.specs.declared.faults.CommandFault.TheVariants.{Usage}
 use Rattle.command_line.specs.Commands.{program}
-use Rattle.command_line.specs.ExplainWords.{ExplainAsked, explain_asked, explain_asked_of, explain_program}
-use Rattle.command_line.specs.ExploreWords.{ExploreAsked, explore_asked, explore_asked_of, explore_program}
+use Rattle.command_line.specs.ExplainRequests.{ExplainAsked, explain_asked, explain_asked_of, explain_program}
+use Rattle.command_line.specs.ExploreRequests.{ExploreAsked, explore_asked, explore_asked_of, explore_program}
 use Rattle.command_line.specs.Faults.{fault_of_kind}
 use Rattle.command_line.specs.Requests.{Asked, asked, asked_of}
 
@@ -40,63 +40,63 @@ explore_is_free = refl
 
 -- what a command asks for where there is no fault
 pub record Reads {A : Type 0} (program : App) (met : List Text → Option A) (asked : List Text → Option A) : Type 0 where
-  pub without_fault : (words : List Text) → fault_of program words ≡ [] → asked words ≡ met words
-  pub with_fault : (words : List Text) (k : ErrorKind) (ks : Kinds) → fault_of program words ≡ k ∷ ks → asked words ≡ None
+  pub without_fault : (args : List Text) → fault_of program args ≡ [] → asked args ≡ met args
+  pub with_fault : (args : List Text) (k : ErrorKind) (ks : Kinds) → fault_of program args ≡ k ∷ ks → asked args ≡ None
 
 abbrev pub sim_met : List Text → Option Asked
-sim_met words = option_and_then (λ found. asked_of found.0 found.1) (subcommand_of program words)
+sim_met args = option_and_then (λ found. asked_of found.0 found.1) (subcommand_of program args)
 
 abbrev pub explain_met : List Text → Option ExplainAsked
-explain_met words = explain_asked_of (matches_of explain_program words)
+explain_met args = explain_asked_of (matches_of explain_program args)
 
 abbrev pub explore_met : List Text → Option ExploreAsked
-explore_met words = option_and_then (λ found. explore_asked_of found.0 found.1) (subcommand_of explore_program words)
+explore_met args = option_and_then (λ found. explore_asked_of found.0 found.1) (subcommand_of explore_program args)
 
 pub sim_reads : Reads program sim_met asked
 unfolding asked
 sim_reads = record {
-  without_fault = λ words none. rw none refl;
-  with_fault = λ words k ks some. rw some refl;
+  without_fault = λ args none. rw none refl;
+  with_fault = λ args k ks some. rw some refl;
 }
 
 pub explain_reads : Reads explain_program explain_met explain_asked
 unfolding explain_asked
 explain_reads = record {
-  without_fault = λ words none. rw none refl;
-  with_fault = λ words k ks some. rw some refl;
+  without_fault = λ args none. rw none refl;
+  with_fault = λ args k ks some. rw some refl;
 }
 
 pub explore_reads : Reads explore_program explore_met explore_asked
 unfolding explore_asked
 explore_reads = record {
-  without_fault = λ words none. rw none refl;
-  with_fault = λ words k ks some. rw some refl;
+  without_fault = λ args none. rw none refl;
+  with_fault = λ args k ks some. rw some refl;
 }
 
 module _ {A : Type 0} (program : App) (met asked : List Text → Option A) (reads : Reads program met asked) where
-  -- where an error other than out of memory came, words ask for nothing
-  asked_at_error : (words : List Text) (kind : ErrorKind) →
-      (kind ≡ kinds.OutOfMemory) ⊎ IsAmong kind (fault_of program words) → Usage ≡ fault_of_kind kind → asked words ≡ None
-  asked_at_error words kind (inl memory) usage = (let bad : Usage ≡ fault_of_kind kinds.OutOfMemory = usage ∙ ap fault_of_kind memory in cc)
-  asked_at_error words kind (inr among) usage = by (fault_of program words) refl among
+  -- where an error other than out of memory came, arguments ask for nothing
+  asked_at_error : (args : List Text) (kind : ErrorKind) →
+      (kind ≡ kinds.OutOfMemory) ⊎ IsAmong kind (fault_of program args) → Usage ≡ fault_of_kind kind → asked args ≡ None
+  asked_at_error args kind (inl memory) usage = (let bad : Usage ≡ fault_of_kind kinds.OutOfMemory = usage ∙ ap fault_of_kind memory in cc)
+  asked_at_error args kind (inr among) usage = by (fault_of program args) refl among
     where
-      by : (ks : Kinds) → fault_of program words ≡ ks → IsAmong kind ks → asked words ≡ None
+      by : (ks : Kinds) → fault_of program args ≡ ks → IsAmong kind ks → asked args ≡ None
       by [] e among = absurd among
-      by (k ∷ ks) e among = reads.with_fault words k ks e
+      by (k ∷ ks) e among = reads.with_fault args k ks e
 
   -- an error told as no command
-  pub usage_told : {T : Type 0} (app : App) (words : List Text) (error : Error) (result : Result T CommandFault) →
-      app ≡ program → HasKind (fault_of app words) error → IsErrAnd result (λ fault. fault ≡ fault_of_kind (kind_of error)) →
-      result ≡ Err Usage → asked words ≡ None
-  usage_told {T} app words error result is has given usage =
-      asked_at_error words (kind_of error) (subst (λ (a : App). HasKind (fault_of a words) error) is has)
+  pub usage_told : {T : Type 0} (app : App) (args : List Text) (error : Error) (result : Result T CommandFault) →
+      app ≡ program → HasKind (fault_of app args) error → IsErrAnd result (λ fault. fault ≡ fault_of_kind (kind_of error)) →
+      result ≡ Err Usage → asked args ≡ None
+  usage_told {T} app args error result is has given usage =
+      asked_at_error args (kind_of error) (subst (λ (a : App). HasKind (fault_of a args) error) is has)
       (subst (λ (r : Result T CommandFault). IsErrAnd r (λ fault. fault ≡ fault_of_kind (kind_of error))) usage given)
 
-  -- words without a fault ask for what was met of them
-  pub asked_is_met : (app : App) (words : List Text) → app ≡ program → fault_of app words ≡ [] → asked words ≡ met words
-  asked_is_met app words is none = reads.without_fault words (ap (λ a. fault_of a words) (sym is) ∙ none)
+  -- arguments without a fault ask for what was met of them
+  pub asked_is_met : (app : App) (args : List Text) → app ≡ program → fault_of app args ≡ [] → asked args ≡ met args
+  asked_is_met app args is none = reads.without_fault args (ap (λ a. fault_of a args) (sym is) ∙ none)
 
--- a request that was answered is what the words ask for
+-- a request that was answered is what the arguments ask for
 pub request_told : {A T : Type 0} (by : T → A) (asked : Option A) (request : Option T) (result : Result T CommandFault) →
     asked ≡ option_map by request → result ≡ ok_or request Usage → IfOk result (λ r. asked ≡ Some (by r))
 request_told {A} {T} by asked (Some request) result is same =
