@@ -24,9 +24,9 @@ pub struct Authorities {
     pub memory: Vec<Authority>,
 }
 
-/// The greatest rights that are held over all kept states, by tagged capabilities, sealed or not: of
-/// each hart in its registers and PCC, stopped harts too, and of memory in its granules. The states
-/// are given back. Fails only when out of memory, and then drops them.
+/// The greatest rights that are held over all kept states, by tagged capabilities, sealed or not:
+/// of each hart in its registers and PCC, stopped harts too, and of memory in its granules. The
+/// states are given back. Fails only when out of memory, and then drops them.
 pub fn authorities_of(alloc: Global, kept: Kept) -> Result<Authorities, AllocError>
     ensures kept { IfOk result (λ found. found.kept ≡ kept) }
     ensures harts { IfOk result (λ found.

@@ -118,10 +118,10 @@ fn put_found<S: Sink>(
     Ok(Ending::of_search(found.kept.is_complete()))
 }
 
-/// Searches the states that an image reaches, by steps of its harts and these sweeps, and writes the
-/// greatest rights that each hart and memory ever hold, each with the order that leads to the first
-/// state in which just these are held. At most `limit` states are kept. Nothing is written before
-/// the search has ended. After a fault of the writing the sink took a prefix of the answer.
+/// Searches the states that an image reaches, by steps of its harts and these sweeps, and writes
+/// the greatest rights that each hart and memory ever hold, each with the order that leads to the
+/// first state in which just these are held. At most `limit` states are kept. Nothing is written
+/// before the search has ended. After a fault of the writing the sink took a prefix of the answer.
 pub fn authority<P: Progress, S: Sink>(
     alloc: Global,
     image: &Image,

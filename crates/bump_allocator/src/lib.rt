@@ -39,7 +39,8 @@ impl BumpAllocator {
     /// An allocator of the whole region that a capability has, all of it free. `None` where the
     /// capability is untagged or sealed.
     pub fn new(region: Cap) -> Option<BumpAllocator>
-        ensures opened { IfSome result (λ made. made ≡ record { region = region; next = base_of region }) }
+        ensures opened { IfSome result (λ made.
+            made ≡ record { region = region; next = base_of region }) }
         ensures refused { result ≡ None → is_open region ≡ false }
     {
         if region.is_open() {

@@ -92,11 +92,11 @@ pub fn report_fault<E: Write>(err: &mut E, fault: Fault) -> u8
     fault.status()
 }
 
-/// Answers what the arguments of a command line ask for, which are those after the program's name, and
-/// gives the exit status: 0 where all was answered, 4 where not all states could be kept, 5 where
-/// no state is one that was looked for, and then `out` got the whole answer and `err` nothing. Else
-/// `err` got the line of a fault, whether it took it or not: 1 where a text was refused, 2 where the
-/// command line was, and 3 for every other fault.
+/// Answers what the arguments of a command line ask for, which are those after the program's name,
+/// and gives the exit status: 0 where all was answered, 4 where not all states could be kept, 5
+/// where no state is one that was looked for, and then `out` got the whole answer and `err`
+/// nothing. Else `err` got the line of a fault, whether it took it or not: 1 where a text was
+/// refused, 2 where the command line was, and 3 for every other fault.
 pub fn perform<F: Files, O: Write, E: Write, P: Progress>(
     alloc: Global,
     args: &[String],

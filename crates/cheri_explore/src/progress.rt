@@ -24,8 +24,8 @@ impl fmt::Display for StatesFound {
     }
 }
 
-/// Reports on a terminal how many states were found, at most once a second. Where it is no terminal,
-/// or the clock fails, it reports nothing.
+/// Reports on a terminal how many states were found, at most once a second. Where it is no
+/// terminal, or the clock fails, it reports nothing.
 #[derive(Drop)]
 pub struct TerminalProgress<'a, C, E> {
     clock: &'a C,

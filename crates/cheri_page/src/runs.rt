@@ -101,7 +101,8 @@ pub extern "C" fn cheri_explain(
     answer: &mut Answer,
 )
     ensures { Answers (IsRunTold
-        (explained formats.Text listing.now (record { first = from; last = to; filter = filters.All }))
+        (explained formats.Text listing.now
+        (record { first = from; last = to; filter = filters.All }))
         listing.now order.now) out.old out.new answer.new }
 {
     let selection = Selection {

@@ -1,6 +1,6 @@
 //! The numbers that code and definitions share, each by its numeral. Definitions take them from the
-//! code, so that a wrong one would be wrong on both sides; these laws hold them to what the documents
-//! say.
+//! code, so that a wrong one would be wrong on both sides; these laws hold them to what the
+//! documents say.
 
 ghost use Rattle.std.specs.Prelude.{◌≡◌};
 ghost use Rattle.cheri_sim.specs.declared.races.TheConstants.{LOOKS};

@@ -59,8 +59,8 @@ asked_of name rows =
     else if bytes_eq name (codes "decode") then with_one Decode (first_of (codes "word") rows)
     else None
 
--- What the arguments of a command line ask for, the first of which is the program's name: nothing where
--- `clap` finds a fault in them, or else what the command among them asks for.
+-- What the arguments of a command line ask for, the first of which is the program's name: nothing
+-- where `clap` finds a fault in them, or else what the command among them asks for.
 unfoldable pub asked : List Text → Option Asked
 asked args =
     unless_faulty (fault_of program args)

@@ -14,8 +14,8 @@ use clap::ArgMatches;
 /// The greatest number of turns of a race.
 pub const GREATEST_TURNS: u32 = 100_000;
 
-/// What a command line asks for. The numbers of `bounds` and `decode` are still the arguments of the
-/// command line.
+/// What a command line asks for. The numbers of `bounds` and `decode` are still the arguments of
+/// the command line.
 #[derive(Clone, Copy, Debug, PartialEq, Eq)]
 pub enum Request<'a> {
     /// To judge the listing in the file of this name.

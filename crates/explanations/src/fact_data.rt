@@ -211,8 +211,8 @@ fn put_instruction(
     members: &mut Map<String, Value>,
     fetched: Option<Fetched>,
 ) -> Result<(), NoMemory>
-    ensures { OnOk result (members_view members.new.entries
-        ≡ put_any (codes "instruction") instruction_data fetched (members_view members.old.entries)) }
+    ensures { OnOk result (members_view members.new.entries ≡ put_any (codes "instruction")
+        instruction_data fetched (members_view members.old.entries)) }
 {
     if let Some(Fetched { instr, .. }) = fetched {
         let text = InstructionText(instr.form()).to_string(alloc)?;

@@ -1,5 +1,5 @@
-//! Values of facts as JSON text, piece by piece: an explanation has several an event, and a value of
-//! `serde_json` takes memory for each of its texts.
+//! Values of facts as JSON text, piece by piece: an explanation has several an event, and a value
+//! of `serde_json` takes memory for each of its texts.
 #![tactic(auto, unfolding(crate::proofs::Unfold::values))]
 
 ghost use Rattle.std.specs.Prelude.{◌≡◌, ◌++◌, IfOk, OnOk, Some, codes, string_bytes};
@@ -180,7 +180,8 @@ fn write_member(
     named: &NamedValue,
 ) -> Result<(), NoMemory>
     ensures { OnOk result (string_bytes out.new ≡ string_bytes out.old
-        ++ (before.now ++ (spot_key spot ++ (codes "\":" ++ compact_text (named_data named.now))))) }
+        ++ (before.now
+        ++ (spot_key spot ++ (codes "\":" ++ compact_text (named_data named.now))))) }
 {
     out.push_str(before)?;
     write_key(out, spot)?;

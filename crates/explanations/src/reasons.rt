@@ -73,7 +73,8 @@ struct TypeOutside {
 }
 
 impl fmt::Display for TypeOutside {
-    ghost output = { λ asked. Some (type_outside asked.otype asked.base asked.top asked.authority) };
+    ghost output = { λ asked.
+        Some (type_outside asked.otype asked.base asked.top asked.authority) };
 
     fn fmt<W: fmt::Write>(&self, f: &mut fmt::Formatter<W>) -> fmt::Result {
         let (otype, base) = (Hex64(self.otype), Hex64(self.base));
@@ -93,7 +94,8 @@ struct Outside {
 }
 
 impl fmt::Display for Outside {
-    ghost output = { λ asked. Some (outside asked.bytes asked.address asked.base asked.top asked.name) };
+    ghost output = { λ asked.
+        Some (outside asked.bytes asked.address asked.base asked.top asked.name) };
 
     fn fmt<W: fmt::Write>(&self, f: &mut fmt::Formatter<W>) -> fmt::Result {
         let (address, base) = (Hex64(self.address), Hex64(self.base));

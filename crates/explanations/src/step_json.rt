@@ -209,7 +209,8 @@ fn write_from_number(
 ) -> Result<(), NoMemory>
     ensures { OnOk result (string_bytes out.new ≡ string_bytes out.old
         ++ (codes ",\"number\":" ++ (decimal number
-        ++ (codes ",\"outcome\":\"done\",\"pc\":\"" ++ (hex_text 16 facts.now.entry.pc ++ (codes "\""
+        ++ (codes ",\"outcome\":\"done\",\"pc\":\""
+        ++ (hex_text 16 facts.now.entry.pc ++ (codes "\""
         ++ (if_there (codes ",\"reads\":") (codes "") (names_data facts.now.reads)
         ++ if_there (codes ",\"sets\":") (codes "") (names_data facts.now.sets)))))))) }
 {

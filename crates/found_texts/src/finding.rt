@@ -68,7 +68,8 @@ fn write_none<S: Sink>(
     kept: &Kept,
     sink: &mut S,
 ) -> Result<Ending, WriteFault>
-    ensures written { IfOk result (λ ending. IsWritten (λ text. Says format kept.now None text ending)
+    ensures written { IfOk result (λ ending. IsWritten
+        (λ text. Says format kept.now None text ending)
         (S.written sink.old) (S.written sink.new)) }
     ensures begun { IfErr result (IsUnwritten
         (λ text. (ending : Ending) × Says format kept.now None text ending)

@@ -127,8 +127,8 @@ fn search_on<G: Graph, P: Progress>(
 /// How many nodes are expanded between two reports of progress.
 const REPORT_EVERY: u32 = 4096;
 
-/// Follows all edges from this one on. Answers the edge that led to another state where the tree was
-/// full, if one did.
+/// Follows all edges from this one on. Answers the edge that led to another state where the tree
+/// was full, if one did.
 fn expand_all<G: Graph, P: Progress>(
     graph: &mut G,
     tree: &mut Tree,

@@ -1,13 +1,13 @@
 //! The numbers that code and definitions share, each by its numeral. Definitions take them from the
-//! code, so that a wrong one would be wrong on both sides; these laws hold them to what the documents
-//! say.
+//! code, so that a wrong one would be wrong on both sides; these laws hold them to what the
+//! documents say.
 
 ghost use Rattle.std.specs.Prelude.{◌≡◌};
 ghost use Rattle.listings.specs.declared.draft.TheConstants.{BYTES_LIMIT, RAM_SIZE};
 ghost use Rattle.listings.specs.declared.reader.TheConstants.{LISTING_LIMIT};
 
-/// The most bytes of a listing and of one `.bytes` line, and the bytes of RAM where no line says how
-/// many.
+/// The most bytes of a listing and of one `.bytes` line, and the bytes of RAM where no line says
+/// how many.
 pub fn limits()
     ensures listing { LISTING_LIMIT ≡ 1048576 }
     ensures bytes { BYTES_LIMIT ≡ 4096 }

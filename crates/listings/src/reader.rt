@@ -47,7 +47,8 @@ fn read_line<'a>(
 /// What lines make one after another, up to the first fault.
 fn read_lines(alloc: Global, labels: &Labels<'_>, text: &[u8]) -> Result<Draft, ListingFault>
     requires { length text.now < 2 ^ 32 }
-    ensures { Gives result (lines_meaning (label_parts labels.now) 1 empty_draft (lines_of text.now)) }
+    ensures { Gives result
+        (lines_meaning (label_parts labels.now) 1 empty_draft (lines_of text.now)) }
 {
     let mut draft = Draft::new(alloc)?;
     let mut tokens = Vec::new(alloc);

@@ -59,8 +59,8 @@ impl Components {
 
 /// Looks for loops of the states that a search found, where labels below `actors` are those of
 /// actors: a fair one of the first state that has one, the shortest and of those the least; where
-/// the search found all states and there is none, a loop likewise. Fails only when out of memory, or
-/// of numbers.
+/// the search found all states and there is none, a loop likewise. Fails only when out of memory,
+/// or of numbers.
 pub fn search_loops<G: Graph>(
     alloc: Global,
     graph: &mut G,

@@ -123,8 +123,8 @@ fn moving_at<G: Graph>(
     Ok(moving)
 }
 
-/// The places that a search for a loop met: a node and the actors that took an edge on the way, each
-/// with the place and label from which it was met.
+/// The places that a search for a loop met: a node and the actors that took an edge on the way,
+/// each with the place and label from which it was met.
 #[derive(Drop)]
 struct Places {
     rows: Interner,

@@ -53,12 +53,13 @@ counted number outcome rows =
     then slice_set rows number (one_more (slice_index_or rows number no_row))
     else rows ++ record { first = outcome; states = 1 } ∷ []
 
--- What is known of rows of codes that were numbered, and of the rows counted by these numbers, where
--- these outcomes were.
+-- What is known of rows of codes that were numbered, and of the rows counted by these numbers,
+-- where these outcomes were.
 pub record IsTable {X : Type 0} (code : ℕ → X) (outcomes : List ℕ) (table : List X)
     (rows : List Row) : Type 0 where
   pub even : length rows ≡ length table
-  pub keyed : (k : ℕ) (r : Row) → slice_get rows k ≡ Some r → slice_get table k ≡ Some (code r.first)
+  pub keyed : (k : ℕ) (r : Row) → slice_get rows k ≡ Some r →
+      slice_get table k ≡ Some (code r.first)
   pub each : (k : ℕ) (r : Row) → slice_get rows k ≡ Some r → IsRow code outcomes r
   pub all : (j n : ℕ) → slice_get outcomes j ≡ Some n →
       (k : ℕ) × (r : Row) × (slice_get rows k ≡ Some r) × (code r.first ≡ code n)

@@ -66,8 +66,8 @@ fn row_width(
     }
 }
 
-/// Counts an outcome in the row of this number, or in a new one. Each row was counted for fewer than
-/// `most`, so that no count overflows.
+/// Counts an outcome in the row of this number, or in a new one. Each row was counted for fewer
+/// than `most`, so that no count overflows.
 #[tactic(auto, using(crate::proofs::TableLemmas::counting))]
 fn count(rows: &mut Vec<Row>, number: u32, outcome: u32, most: usize) -> Result<(), AllocError>
     requires within { number ≤ length rows.old.items }

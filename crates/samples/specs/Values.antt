@@ -25,4 +25,5 @@ given_value (Int number) = Ok (raw number)
 given_value (Word upper addr) = Ok (raw (upper * 2 ^ 64 + addr))
 given_value (Open base len addr bits) = made base len addr bits unsealed_type
 given_value (Sentry base len addr bits) = as_sentry (made base len addr bits unsealed_type)
-given_value (Sealed base len addr bits otype) = as_sealed otype (made base len addr bits unsealed_type)
+given_value (Sealed base len addr bits otype) =
+    as_sealed otype (made base len addr bits unsealed_type)

@@ -34,8 +34,8 @@ pub fn image_with(
     granules: &[(u64, Value)],
     harts: usize,
 ) -> Result<Option<Image>, NoMemory>
-    ensures { IfOk result (λ image. image
-        ≡ image_of (replicate instructions instr.Ecall) ram granules.now (replicate harts empty_hart)) }
+    ensures { IfOk result (λ image. image ≡ image_of (replicate instructions instr.Ecall)
+        ram granules.now (replicate harts empty_hart)) }
 {
     let hart = HartImage {
         pcc: Value::raw(0),

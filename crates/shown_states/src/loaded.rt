@@ -11,8 +11,8 @@ use std::alloc::{AllocError, Global};
 use std::marker::Model;
 use tagged_mem::Ram;
 
-/// A state in memory, of as many harts and granules as the states that are loaded into it. Contracts
-/// see the state.
+/// A state in memory, of as many harts and granules as the states that are loaded into it.
+/// Contracts see the state.
 #[derive(Drop)]
 pub struct Loaded {
     harts: Vec<Hart>,

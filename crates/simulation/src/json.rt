@@ -21,7 +21,8 @@ use std::alloc::Global;
 /// Writes the JSON report of what a view shows, in one line.
 #[tactic(auto, using(crate::proofs::LineLemmas::json_lines))]
 fn write_json_line<S: Sink>(alloc: Global, view: View<'_>, sink: &mut S) -> Result<(), ReportFault>
-    ensures whole { OnOk result (Appends (S.written sink.old) (S.written sink.new) (line (compact_text
+    ensures whole { OnOk result (Appends (S.written sink.old) (S.written sink.new)
+        (line (compact_text
         (json_report view.entry.image.now view.entry.entries.now (state_of view.entry))))) }
     ensures prefix { TakesPrefix (S.written sink.old) (S.written sink.new) (line (compact_text
         (json_report view.entry.image.now view.entry.entries.now (state_of view.entry)))) }

@@ -1,5 +1,5 @@
-//! States of a machine, each kept as a short row of numbers. Values, harts and memories are numbered
-//! once; a state is the number of its memory and those of its harts.
+//! States of a machine, each kept as a short row of numbers. Values, harts and memories are
+//! numbered once; a state is the number of its memory and those of its harts.
 #![tactic(auto)]
 
 mod codes;

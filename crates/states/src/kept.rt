@@ -74,8 +74,8 @@ fn operation_of_label(image: &Image, sweeps: &[SweepRange], label: u32) -> Op
 }
 
 impl Kept {
-    /// Searches a graph with the edges of an image and sweeps from a node: the first `limit` states,
-    /// or all.
+    /// Searches a graph with the edges of an image and sweeps from a node: the first `limit`
+    /// states, or all.
     pub(crate) fn search<P: Progress>(
         alloc: Global,
         image: Image,

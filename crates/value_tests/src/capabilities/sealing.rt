@@ -10,7 +10,8 @@ const UNSEAL: u32 = 0x200;
 
 const GLOBAL: u32 = 1;
 
-/// Why a row is there, an object type, and the upper half, the tag and the type of K sealed with it.
+/// Why a row is there, an object type, and the upper half, the tag and the type of K sealed with
+/// it.
 const TYPES: [(&str, u64, u64, bool, u64); 7] = [
     ("a sealable type", 5, 0xffff_1fff_d405_8004, true, 5),
     (
