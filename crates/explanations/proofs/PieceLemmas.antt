@@ -6,14 +6,12 @@ use Rattle.std.specs.Str.{IsAscii}
 use Rattle.std.proofs.lemmas.Fmt.{length-decimal-le, IsAscii-decimal}
 use Rattle.std.proofs.lemmas.Str.{IsAscii-append}
 use Rattle.std.proofs.lemmas.Str.Ascii.{IsAscii-nil, IsAscii-cons}
+use Rattle.report_lines.proofs.DoneSteps.{byte_length}
 use Rattle.explanations.specs.declared.pieces.Lead.{Lead}
 use Rattle.explanations.specs.declared.pieces.Lead.TheVariants.{Space, Comma, Bracket}
 use Rattle.explanations.specs.Pieces.{from_register_text, lead_text}
 
 -- ---- lengths
-
-pub byte_length : (n : ℕ) → n < 256 → length (decimal n) ≤ 3
-byte_length n small = length-decimal-le 3 n (omega arith) (omega arith) (omega arith)
 
 pub line_length : (n : ℕ) → n < 2 ^ 32 → length (decimal n) ≤ 10
 line_length n small = length-decimal-le 10 n (omega arith) (omega arith) (omega arith)
