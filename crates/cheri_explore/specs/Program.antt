@@ -4,7 +4,7 @@ use Rattle.std.specs.Prelude.{String}
 use Rattle.std.specs.Global.{Global}
 use Rattle.cheri_model.specs.runs.Image.{ImageParts}
 use Rattle.command_line.specs.ExploreRequests.{ExploreAsked, AskedQuestion, Find, Outcomes, Authority}
-use Rattle.command_line.specs.declared.found.Format.{Format}
+use Rattle.command_line.specs.declared.found.Format as found
 use Rattle.command_line.specs.declared.found.Format.TheVariants as forms
 use Rattle.inputs.specs.Arguments.{command_args}
 use Rattle.inputs.specs.Files.{KnownFiles}
@@ -26,7 +26,7 @@ use Rattle.cheri_explore.specs.Questions.{range_of}
 abbrev pub command_line : List (String Global) → List (List ℕ)
 command_line args = command_args (codes "cheri_explore") args
 
-abbrev pub format_of : Format → Format
+abbrev pub format_of : found.Format → Format
 format_of forms.Text = Text
 format_of forms.Json = Json
 

@@ -11,7 +11,7 @@ ghost use Rattle.cheri_explore.specs.Program.{Done, Failed, IsAnswer, command_li
 use crate::answers::{answer_authority, answer_find, answer_outcomes};
 use crate::faults::Fault;
 use crate::questions::{Search, ranges_of};
-use command_line::{ExploreRequest, Format, Question, explore_request};
+use command_line::{ExploreRequest, Question, explore_request};
 use graph_search::Progress;
 use inputs::{Files, command_args, read_image};
 use printing::write_line;
@@ -20,13 +20,13 @@ use states::MAX_SWEEPS;
 use std::alloc::Global;
 use std::io::Write;
 
-/// How an answer of this form is written.
-fn format_of(form: Format) -> Format
-    ensures { result ≡ format_of form }
+/// How an answer that is asked for in this format is written.
+fn format_of(asked: command_line::Format) -> Format
+    ensures { result ≡ format_of asked }
 {
-    match form {
-        Format::Text => Format::Text,
-        Format::Json => Format::Json,
+    match asked {
+        command_line::Format::Text => Format::Text,
+        command_line::Format::Json => Format::Json,
     }
 }
 
