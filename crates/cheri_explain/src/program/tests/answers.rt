@@ -101,7 +101,7 @@ fn events_that_trapped_or_cleared_a_tag(rt: HostRuntime) -> Result<(), Fail> {
         ("clears,traps", "123"),
         ("traps,clears", "123"),
     ] {
-        let words = ["listing", "--order", "order", "--only", only];
+        let args = ["listing", "--order", "order", "--only", only];
         let mut out = Vec::new(rt.alloc());
         let files = [("listing", TAGS), ("order", "0000")];
         let (status, _) = finish(rt.alloc(), &args, &files, &mut out)?;
