@@ -2,7 +2,7 @@
 use Rattle.std.proofs.Common.{◌≡◌, ℕ, ◌+◌, ◌<◌, ◌≤◌, Bool, true, false, List, [], ◌∷◌, ◌++◌, Option, Some, None, length, map, take, min, get_or, codes, decimal, refl, ap, sym, ◌∙◌, append_assoc, arith}
 use Rattle.std.specs.Prelude.{◌&&◌, nat_le}
 use Rattle.std.proofs.lemmas.Bool.Decides.{nat_tests}
-use Rattle.std.proofs.lemmas.List.{length-map, map-append, map_more, take_all}
+use Rattle.std.proofs.lemmas.List.{map-append, map_more, take_all}
 use Rattle.serde_json.proofs.OnLiterals.{serde_json_on_literals}
 use Rattle.serde_json.specs.Data.{Data}
 use Rattle.serde_json.specs.View.{items_of}
@@ -11,7 +11,8 @@ use Rattle.cheri_model.specs.declared.operation.Op.{Op}
 use Rattle.cheri_model.specs.declared.operation.Event.{Event}
 use Rattle.cheri_model.specs.steps.Hart.{HartState}
 use Rattle.cheri_model.specs.runs.Image.{ImageParts}
-use Rattle.cheri_model.specs.runs.Replay.{operation_of, operations_of, replayed_state}
+use Rattle.cheri_model.specs.runs.Replay.{operations_of, replayed_state}
+use Rattle.cheri_model.proofs.Runs.Replays.{length-operations_of}
 use Rattle.origins.specs.Origins.{replayed_origins}
 use Rattle.explanations.specs.declared.selection.Selection.{Selection}
 use Rattle.explanations.specs.Explanation.{Explained, explained_events, is_shown, shown_from}
@@ -86,10 +87,6 @@ look_parts image lines at selection order =
     (compact_text (next_data lines (replayed_state image (take at order)).harts))
     (compact_text (state_data (replayed_origins image (take at order)) (replayed_state image (take at order))))
 
-counted : (trace : List Event) → length (operations_of trace) ≡ length trace
-unfolding operations_of
-counted trace = length-map trace operation_of
-
 -- the same of what a core took, as a view shows it
 pub core_parts : (image : ImageParts) (lines : List ℕ) (at taken : ℕ) (selection : Selection) (trace entries : List Event)
     → entries ≡ trace → taken ≡ min at (length entries)
@@ -98,7 +95,7 @@ pub core_parts : (image : ImageParts) (lines : List ℕ) (at taken : ℕ) (selec
     ++ look_end lines (replayed_origins image (take at (operations_of trace))) (replayed_state image (take at (operations_of trace))))
 core_parts image lines at taken selection trace entries same is =
     let count : min at (length (operations_of trace)) ≡ taken =
-    ap (min at) (counted trace ∙ ap length (sym same)) ∙ sym is in
+    ap (min at) (length-operations_of trace ∙ ap length (sym same)) ∙ sym is in
     look_parts image lines at selection (operations_of trace)
     ∙ ap (λ n. look_head n ++ (events_from lines selection false 0 (explained_events image (operations_of trace))
     ++ look_end lines (replayed_origins image (take at (operations_of trace))) (replayed_state image (take at (operations_of trace))))) count

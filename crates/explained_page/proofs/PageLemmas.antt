@@ -3,14 +3,14 @@ use Rattle.std.proofs.Common.{◌≡◌, ℕ, Bool, ◌+◌, ◌<◌, ◌≤◌,
 use Rattle.std.specs.Io.KnownBytes.{Appends}
 use Rattle.std.proofs.KnownBytes.{Appends-trans}
 use Rattle.std.proofs.lemmas.List.{take_min}
-use Rattle.std.proofs.lemmas.List.{length-map}
 use Rattle.sinks.specs.Sinks.{TakesPrefix}
 use Rattle.sinks.proofs.SinkLemmas.{begins_on, stops_on, puts_all}
 use Rattle.cheri_model.specs.declared.operation.Op.{Op}
 use Rattle.cheri_model.specs.declared.operation.Event.{Event}
 use Rattle.cheri_model.specs.runs.Image.{ImageParts}
 use Rattle.cheri_model.specs.runs.Machine.{MachineState}
-use Rattle.cheri_model.specs.runs.Replay.{IsReplay, operation_of, operations_of, replayed_state}
+use Rattle.cheri_model.specs.runs.Replay.{IsReplay, operations_of, replayed_state}
+use Rattle.cheri_model.proofs.Runs.Replays.{length-operations_of}
 use Rattle.origins.specs.Origins.{replayed_origins}
 use Rattle.cores.specs.Cores.{CoreParts}
 use Rattle.following.specs.Following.{origins_now}
@@ -50,10 +50,9 @@ turn_within image trace entries some limit k last e event state core same first 
 -- the order up to a place that may lie beyond its end
 taken_up_to : (count events : ℕ) (trace : List Event) → events ≡ length trace
     → take (min count events) (operations_of trace) ≡ take count (operations_of trace)
-unfolding operations_of
 taken_up_to count events trace is =
-    let all : events ≡ length (operations_of trace) = is ∙ sym (length-map trace operation_of) in
-    ap (λ n. take (min count n) (operations_of trace)) all ∙ take_min count (operations_of trace)
+    ap (λ n. take (min count n) (operations_of trace)) (is ∙ sym (length-operations_of trace))
+    ∙ take_min count (operations_of trace)
 
 pub state_there : (image : ImageParts) (limit count events last number : ℕ) (trace : List Event) (core : CoreParts) → events ≡ length trace
     → last ≡ min count events → number ≡ last → IsAt image limit (operations_of trace) number core

@@ -15,7 +15,7 @@ use Rattle.cheri_model.specs.runs.Image.{ImageParts}
 use Rattle.cheri_model.specs.runs.Sweeps.{is_range}
 use Rattle.cheri_model.specs.runs.Machine.{MachineState, opening_state, may_take, is_running, hart_at, state_after_one, event_of}
 use Rattle.cheri_model.specs.runs.Replay.{IsReplay, state_after, is_legal, replayed_state, replayed_events, operation_of, operations_of}
-use Rattle.cheri_model.proofs.Runs.Replays.{state_after_push, operations_of_push, operation-event_of}
+use Rattle.cheri_model.proofs.Runs.Replays.{state_after_push, operations_of_push, length-operations_of, operation-event_of}
 use Rattle.origins.specs.declared.place.Place.{Place}
 use Rattle.origins.specs.Origins.{Origins, came_from, origins_after, replayed_origins}
 use Rattle.facts.specs.EventFacts.{EventFacts, step, sweep, swept_places, facts_of, facts_along, replayed_facts}
@@ -109,8 +109,7 @@ module _ (image : ImageParts) (trace : List Event) (limit k : ℕ) (e event : Ev
     length_is : length core.trace ≡ k
     unfolding operations_of
     length_is =
-        let counted : length (operations_of core.trace) ≡ length core.trace = length-map core.trace operation_of in
-        omega (arith, ap length at.taken, length-take k (operations_of trace), within, counted)
+        omega (arith, ap length at.taken, length-take k (operations_of trace), within, length-operations_of core.trace)
 
     -- its next operation is not refused
     pub goes_on : refused core (operation_of event) ≡ None

@@ -11,7 +11,8 @@ pub fn args_given<R: rt::Env + AllocGlobal>(rt: &R) -> io::Result<Vec<String>> {
     Ok(env::args(rt)?.skip(1).collect(rt.alloc())?)
 }
 
-/// The words of a command line: the program's name and then these. Fails only when out of memory.
+/// The arguments of a command line: the program's name and then these. Fails only when out of
+/// memory.
 pub fn command_args<'a>(
     alloc: Global,
     name: &'a str,

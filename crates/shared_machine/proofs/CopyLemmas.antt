@@ -2,7 +2,7 @@
 use Rattle.std.proofs.Common.{◌≡◌, ◌≢◌, ℕ, Bool, true, false, not, List, [], ◌∷◌, ◌++◌, length, fold, refl, sym, ap, subst, ◌∙◌, arith, ◌-◌, ◌<◌, length-append, get_or}
 use Rattle.std.specs.Prelude.{None, Some, Option, Result, Ok, Err, nat_lt, if◌then◌else◌}
 use Rattle.std.proofs.Math.Seq.{get_or-append_seam}
-use Rattle.std.proofs.lemmas.List.{append-nil, length-map}
+use Rattle.std.proofs.lemmas.List.{append-nil}
 use mathlib.Core.List.{IsPrefix}
 use Rattle.cheri_model.specs.declared.operation.Op.{Op}
 use Rattle.cheri_model.specs.declared.operation.Op.TheVariants as operation
@@ -35,10 +35,6 @@ pub trace_of_core : (core : CoreParts) (image : ImageParts) → IsReplay core.im
     replayed_events image (operations_of core.trace) ≡ core.trace
 trace_of_core core image is same =
     ap (λ i. replayed_events i (operations_of core.trace)) (sym same) ∙ sym is.events
-
-pub length-operations_of : (trace : List Event) → length (operations_of trace) ≡ length trace
-unfolding operations_of
-length-operations_of trace = simp length-map
 
 -- what begins the order begins the trace
 pub trace_prefix : (image : ImageParts) (xs ys : List Op) → IsPrefix xs ys → IsPrefixOf (replayed_events image xs) (replayed_events image ys)

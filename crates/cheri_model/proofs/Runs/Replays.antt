@@ -1,8 +1,9 @@
 -- What an order followed by another does, and what one more legal operation does, to the state, the events and the
 -- legality of an order.
-use Rattle.std.proofs.Common.{◌≡◌, true, ◌&&◌, List, [], ◌∷◌, ◌++◌, map, ℕ, refl, sym, ap, ◌∙◌, arith}
+use Rattle.std.proofs.Common.{◌≡◌, true, ◌&&◌, List, [], ◌∷◌, ◌++◌, length, map, ℕ, refl, sym, ap, ◌∙◌, arith}
 use Rattle.std.proofs.lemmas.Bool.{and_parts}
 use Rattle.std.proofs.lemmas.Grind.{common_steps}
+use Rattle.std.proofs.lemmas.List.{length-map}
 use Rattle.cheri_model.specs.declared.operation.Op.{Op}
 use Rattle.cheri_model.specs.declared.operation.Op.TheVariants as operation
 use Rattle.cheri_model.specs.declared.operation.Event.{Event}
@@ -81,6 +82,10 @@ pub operations_of_push : (trace : List Event) (event : Event) →
     operations_of (trace ++ event ∷ []) ≡ operations_of trace ++ operation_of event ∷ []
 unfolding operations_of
 operations_of_push trace event = grind (arith, common_steps)
+
+pub length-operations_of : (trace : List Event) → length (operations_of trace) ≡ length trace
+unfolding operations_of
+length-operations_of trace = length-map trace operation_of
 
 -- an operation's event records just this operation
 pub operation-event_of : (image : ImageParts) (state : MachineState) (op : Op) → operation_of (event_of image state op) ≡ op

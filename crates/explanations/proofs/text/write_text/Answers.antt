@@ -1,8 +1,8 @@
 use Rattle.std.proofs.Common.{◌≡◌, ℕ, List, ◌++◌, length, codes, ap, ◌∙◌}
-use Rattle.std.proofs.lemmas.List.{length-map}
 use Rattle.cheri_model.specs.declared.operation.Event.{Event}
 use Rattle.cheri_model.specs.runs.Image.{ImageParts}
-use Rattle.cheri_model.specs.runs.Replay.{operation_of, operations_of}
+use Rattle.cheri_model.specs.runs.Replay.{operations_of}
+use Rattle.cheri_model.proofs.Runs.Replays.{length-operations_of}
 use Rattle.report_lines.specs.Texts.{line}
 use Rattle.sinks.proofs.SinkLemmas.{takes_none}
 use Rattle.explanations.specs.declared.selection.Selection.{Selection}
@@ -10,16 +10,12 @@ use Rattle.explanations.specs.Explanation.{explanation, head_lines, events_lines
 use Rattle.explanations.proofs.Parts.{parts_begin, parts_stop, parts_end}
 use Rattle.explanations.proofs.text.write_text.Goals as goal
 
-counted : (trace : List Event) → length (operations_of trace) ≡ length trace
-unfolding operations_of
-counted trace = length-map trace operation_of
-
 parts : (image : ImageParts) (lines : List ℕ) (selection : Selection) (trace : List Event)
     → explanation image lines selection (operations_of trace)
     ≡ head_lines image (length trace) ++ (events_lines image lines selection (operations_of trace) ++ line (codes "end"))
 unfolding explanation
 parts image lines selection trace =
-    ap (λ n. head_lines image n ++ (events_lines image lines selection (operations_of trace) ++ line (codes "end"))) (counted trace)
+    ap (λ n. head_lines image n ++ (events_lines image lines selection (operations_of trace) ++ line (codes "end"))) (length-operations_of trace)
 
 pub returns-in_err-out-clause-prefix : goal.returns-in_err-out-clause-prefix
 returns-in_err-out-clause-prefix g c = (_, takes_none _ _)

@@ -1,8 +1,8 @@
 use Rattle.std.proofs.Common.{◌≡◌, ℕ, List, ◌++◌, length, false, ap, ◌∙◌}
-use Rattle.std.proofs.lemmas.List.{length-map}
 use Rattle.cheri_model.specs.declared.operation.Event.{Event}
 use Rattle.cheri_model.specs.runs.Image.{ImageParts}
-use Rattle.cheri_model.specs.runs.Replay.{operation_of, operations_of}
+use Rattle.cheri_model.specs.runs.Replay.{operations_of}
+use Rattle.cheri_model.proofs.Runs.Replays.{length-operations_of}
 use Rattle.sinks.proofs.SinkLemmas.{takes_none}
 use Rattle.explanations.specs.declared.selection.Selection.{Selection}
 use Rattle.explanations.specs.Explanation.{explained_events, explanation_json}
@@ -11,16 +11,12 @@ use Rattle.explanations.proofs.JsonParts.{json_parts}
 use Rattle.explanations.proofs.Parts.{parts_begin, parts_stop, parts_end}
 use Rattle.explanations.proofs.whole_json.write_json.Goals as goal
 
-counted : (trace : List Event) → length (operations_of trace) ≡ length trace
-unfolding operations_of
-counted trace = length-map trace operation_of
-
 parts : (image : ImageParts) (lines : List ℕ) (selection : Selection) (trace : List Event)
     → explanation_json image lines selection (operations_of trace)
     ≡ json_head (length trace) ++ (events_from lines selection false 0 (explained_events image (operations_of trace)) ++ json_end image)
 parts image lines selection trace =
     json_parts image lines selection (operations_of trace)
-    ∙ ap (λ n. json_head n ++ (events_from lines selection false 0 (explained_events image (operations_of trace)) ++ json_end image)) (counted trace)
+    ∙ ap (λ n. json_head n ++ (events_from lines selection false 0 (explained_events image (operations_of trace)) ++ json_end image)) (length-operations_of trace)
 
 pub returns-in_err-out-clause-prefix : goal.returns-in_err-out-clause-prefix
 returns-in_err-out-clause-prefix g c = (_, takes_none _ _)

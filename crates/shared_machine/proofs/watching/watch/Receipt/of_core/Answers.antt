@@ -1,7 +1,8 @@
 -- All of a core's order gives its trace.
 use Rattle.std.proofs.Common.{length, sym, ap, ◌∙◌}
 use Rattle.cheri_model.specs.runs.Replay.{replayed_events}
-use Rattle.shared_machine.proofs.CopyLemmas.{length-operations_of, trace_of_core}
+use Rattle.cheri_model.proofs.Runs.Replays.{length-operations_of}
+use Rattle.shared_machine.proofs.CopyLemmas.{trace_of_core}
 use Rattle.shared_machine.proofs.watching.watch.Receipt.of_core.Goals as goal
 
 pub invariant_of-result : goal.invariant_of-result
