@@ -18,7 +18,7 @@ use std::alloc::Global;
 use std::marker::Brand;
 use std::sync::Wait;
 use std::thread;
-use std::thread::{Promise, Scope, Threads};
+use std::thread::{Promise, PromisedHandle, Scope, Threads};
 
 /// Runs the harts of an image in threads of their own, each in up to this many turns, and joins
 /// them. Answers the core that they left and a report for each hart, in hart order, whose steps are
@@ -270,8 +270,30 @@ fn work_rest<'s, E, J: Naming + Send + Sync, G: Gate + Sync, V: Viewer, R: Threa
         onlooker.look_on();
         return Ok(done);
     };
-    let hart = share.hart();
-    let promise = OfHart { hart, turns };
+    let worker = start_one(scope, work, turns, share)?;
+    let mut all = work_rest(scope, work, turns, shares, done, onlooker)?;
+    let Ok(()) = all.push(worker.join(work.rt)) else {
+        return Err(RunFault::NoMemory);
+    };
+    Ok(all)
+}
+
+/// Starts the worker of a share that has counted nothing yet.
+fn start_one<'s, E, J: Naming + Send + Sync, G: Gate + Sync, R: Threads + Wait + Sync>(
+    scope: &Scope<'s, E>,
+    work: &'s Work<'_, J, G, R>,
+    turns: u32,
+    share: Share<J>,
+) -> Result<PromisedHandle<Worked<J>, OfHart>, RunFault>
+    requires { share.amount ≡ 0 }
+    ensures { MatchResult result
+        (λ worker. worker.promise ≡ record { hart = share.hart; turns = turns })
+        (λ fault. fault ≡ RunFault.Spawn) }
+{
+    let promise = OfHart {
+        hart: share.hart(),
+        turns,
+    };
     let job = move || -> Worked<J>
         requires { share.amount ≡ 0 }
         ensures hart { result.report.hart ≡ share.hart }
@@ -279,12 +301,7 @@ fn work_rest<'s, E, J: Naming + Send + Sync, G: Gate + Sync, V: Viewer, R: Threa
             ≡ record { hart = share.hart; amount = result.report.steps } }
         ensures within_turns { KeepsTurns turns result.report }
     { work_one(work, turns, share) };
-    let worker = started(scope.spawn_with(promise, job))?;
-    let mut all = work_rest(scope, work, turns, shares, done, onlooker)?;
-    let Ok(()) = all.push(worker.join(work.rt)) else {
-        return Err(RunFault::NoMemory);
-    };
-    Ok(all)
+    started(scope.spawn_with(promise, job))
 }
 
 /// A worker that was started, or the fault of one that was not.
