@@ -202,15 +202,6 @@ async function checkDownloads(tab) {
     tab.connection.send("Browser.setDownloadBehavior", { behavior: "allow", downloadPath: folder }));
   const names = ["listing.lst", "order.txt", "report.txt", "report.json"];
   if (await tab.ask(() => machine.has("cheri_explain"))) names.push("explanation.txt");
-  for (const name of names) {
-    await tab.ask((name) => document.querySelector(`[data-file="${name}"]`).focus(), name);
-    await tab.press("Enter");
-    for (let tries = 0; tries < 100 && !fs.existsSync(path.join(folder, name)); tries += 1) {
-      await new Promise((resolve) => setTimeout(resolve, 50));
-    }
-  }
-  const found = Object.fromEntries(names.map((name) => [name,
-    fs.existsSync(path.join(folder, name)) ? fs.readFileSync(path.join(folder, name), "utf8") : null]));
   const wanted = await tab.ask(() => {
     const [listing, order] = ["listing", "order"].map((id) => document.getElementById(id).value);
     return {
@@ -219,7 +210,19 @@ async function checkDownloads(tab) {
       "explanation.txt": machine.has("cheri_explain") ? machine.explain(listing, order, 0, 4_294_967_295).text : null,
     };
   });
-  const wrong = names.filter((name) => found[name] !== wanted[name]);
+  const isRight = (name) => {
+    const file = path.join(folder, name);
+    return fs.existsSync(file) && fs.readFileSync(file, "utf8") === wanted[name];
+  };
+  for (const name of names) {
+    await tab.ask((name) => document.querySelector(`[data-file="${name}"]`).focus(), name);
+    await tab.press("Enter");
+    // A file is there before all its bytes are.
+    for (let tries = 0; tries < 400 && !isRight(name); tries += 1) {
+      await new Promise((resolve) => setTimeout(resolve, 50));
+    }
+  }
+  const wrong = names.filter((name) => !isRight(name));
   check("downloads have the right bytes", wrong.length === 0, wrong);
   fs.rmSync(folder, { recursive: true, force: true });
 }
