@@ -210,19 +210,19 @@ async function checkDownloads(tab) {
       "explanation.txt": machine.has("cheri_explain") ? machine.explain(listing, order, 0, 4_294_967_295).text : null,
     };
   });
-  const isRight = (name) => {
+  const found = (name) => {
     const file = path.join(folder, name);
-    return fs.existsSync(file) && fs.readFileSync(file, "utf8") === wanted[name];
+    return fs.existsSync(file) ? fs.readFileSync(file, "utf8") : null;
   };
   for (const name of names) {
     await tab.ask((name) => document.querySelector(`[data-file="${name}"]`).focus(), name);
     await tab.press("Enter");
-    // A file is there before all its bytes are.
-    for (let tries = 0; tries < 400 && !isRight(name); tries += 1) {
+    for (let tries = 0; tries < 400 && found(name) !== wanted[name]; tries += 1) {
       await new Promise((resolve) => setTimeout(resolve, 50));
     }
   }
-  const wrong = names.filter((name) => !isRight(name));
+  const wrong = names.filter((name) => found(name) !== wanted[name])
+    .map((name) => `${name}: ${found(name)?.length ?? "none"} of ${wanted[name].length} bytes`);
   check("downloads have the right bytes", wrong.length === 0, wrong);
   fs.rmSync(folder, { recursive: true, force: true });
 }
