@@ -1,12 +1,7 @@
 //! `cheri_explain`: explains the run of a listing in an order, event by event.
 #![tactic(auto)]
 
-mod explaining;
-mod faults;
-mod program;
-
-use crate::faults::Fault;
-use crate::program::{perform, report_fault};
+use explain_program::{Fault, perform, report_fault};
 use inputs::{InputFault, SystemFiles, args_given};
 use std::io;
 use std::process::ExitCode;

@@ -2,15 +2,7 @@
 //! of their steps.
 #![tactic(auto)]
 
-mod answers;
-mod faults;
-mod program;
-mod progress;
-mod questions;
-
-use crate::faults::Fault;
-use crate::program::{perform, report_fault};
-use crate::progress::TerminalProgress;
+use explore_program::{Fault, TerminalProgress, perform, report_fault};
 use inputs::{SystemFiles, args_given};
 use std::io::{self, IsTerminal};
 use std::process::ExitCode;

@@ -1,17 +1,8 @@
 //! `cheri_sim`: a simulator of a CHERI-RISC-V capability machine of several harts.
 #![tactic(auto)]
 
-mod answers;
-mod faults;
-mod laws;
-mod program;
-mod races;
-mod reporting;
-mod runs;
-
-use crate::faults::Fault;
-use crate::program::{perform, report_fault};
 use inputs::{InputFault, SystemFiles, args_given};
+use sim_program::{Fault, perform, report_fault};
 use std::io;
 use std::process::ExitCode;
 

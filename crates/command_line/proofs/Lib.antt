@@ -1,4 +1,3 @@
--- How `clap` reads the arguments of the programs, and which arguments write numbers and sweeps.
+-- How `clap` reads the arguments of the programs, and which arguments write numbers.
 pub mod ReadArgs
 pub mod NumberLemmas
-pub mod SweepLemmas

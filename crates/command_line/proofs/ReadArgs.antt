@@ -1,7 +1,7 @@
--- The programs' commands are such as `clap` defines the reading of, and what a fault of that reading means.
+-- The commands of `cheri_sim` are such as `clap` defines the reading of, and what a fault of that reading means for any program.
 use Rattle.std.proofs.Common.{◌≡◌, ◌∙◌, true, List, [], ◌∷◌, Option, Some, None, Result, Err, refl, sym, ap, subst, inl, inr}
 use Rattle.std.specs.Prelude.{option_and_then, option_map, ok_or, IfOk, IsErrAnd, ◌⊎◌}
-use Rattle.clap.specs.Words.{App, HasKind, IsAmong, Kinds, Text, fault_of, is_simple, is_simple_and_free, kind_of, matches_of, subcommand_of}
+use Rattle.clap.specs.Words.{App, HasKind, IsAmong, Kinds, Text, fault_of, is_simple, is_simple_and_free, kind_of, subcommand_of}
 use Rattle.clap.specs.declared.error.Error.{Error}
 use Rattle.clap.proofs.OnLiterals.{clap_on_literals}
 use Rattle.clap.specs.declared.error.kind.ErrorKind.{ErrorKind}
@@ -9,8 +9,6 @@ use Rattle.clap.specs.declared.error.kind.ErrorKind.TheVariants as kinds
 use Rattle.command_line.specs.declared.faults.CommandFault.{CommandFault}
 use Rattle.command_line.specs.declared.faults.CommandFault.TheVariants.{Usage}
 use Rattle.command_line.specs.Commands.{program}
-use Rattle.command_line.specs.ExplainRequests.{ExplainAsked, explain_asked, explain_asked_of, explain_program}
-use Rattle.command_line.specs.ExploreRequests.{ExploreAsked, explore_asked, explore_asked_of, explore_program}
 use Rattle.command_line.specs.Faults.{fault_of_kind}
 use Rattle.command_line.specs.Requests.{Asked, asked, asked_of}
 
@@ -22,22 +20,6 @@ pub program_is_free : is_simple_and_free program ≡ true
 unfolding clap_on_literals
 program_is_free = refl
 
-pub explain_is_simple : is_simple explain_program ≡ true
-unfolding clap_on_literals
-explain_is_simple = refl
-
-pub explain_is_free : is_simple_and_free explain_program ≡ true
-unfolding clap_on_literals
-explain_is_free = refl
-
-pub explore_is_simple : is_simple explore_program ≡ true
-unfolding clap_on_literals
-explore_is_simple = refl
-
-pub explore_is_free : is_simple_and_free explore_program ≡ true
-unfolding clap_on_literals
-explore_is_free = refl
-
 -- what a command asks for where there is no fault
 pub record Reads {A : Type 0} (program : App) (met : List Text → Option A) (asked : List Text → Option A) : Type 0 where
   pub without_fault : (args : List Text) → fault_of program args ≡ [] → asked args ≡ met args
@@ -46,29 +28,9 @@ pub record Reads {A : Type 0} (program : App) (met : List Text → Option A) (as
 abbrev pub sim_met : List Text → Option Asked
 sim_met args = option_and_then (λ found. asked_of found.0 found.1) (subcommand_of program args)
 
-abbrev pub explain_met : List Text → Option ExplainAsked
-explain_met args = explain_asked_of (matches_of explain_program args)
-
-abbrev pub explore_met : List Text → Option ExploreAsked
-explore_met args = option_and_then (λ found. explore_asked_of found.0 found.1) (subcommand_of explore_program args)
-
 pub sim_reads : Reads program sim_met asked
 unfolding asked
 sim_reads = record {
-  without_fault = λ args none. rw none refl;
-  with_fault = λ args k ks some. rw some refl;
-}
-
-pub explain_reads : Reads explain_program explain_met explain_asked
-unfolding explain_asked
-explain_reads = record {
-  without_fault = λ args none. rw none refl;
-  with_fault = λ args k ks some. rw some refl;
-}
-
-pub explore_reads : Reads explore_program explore_met explore_asked
-unfolding explore_asked
-explore_reads = record {
   without_fault = λ args none. rw none refl;
   with_fault = λ args k ks some. rw some refl;
 }

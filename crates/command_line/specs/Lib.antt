@@ -5,5 +5,3 @@ pub mod Found
 pub mod Numbers
 pub mod Commands
 pub mod Requests
-pub mod ExplainRequests
-pub mod ExploreRequests

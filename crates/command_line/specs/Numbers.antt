@@ -1,5 +1,5 @@
 -- The numbers that arguments write.
-use Rattle.std.specs.Prelude.{ℕ, ◌==◌, nat_lt, nat_le, Bool, ◌&&◌, if◌then◌else◌, length, drop, slice_index, Option, Some, None, option_and_then}
+use Rattle.std.specs.Prelude.{ℕ, nat_lt, nat_le, Bool, ◌&&◌, if◌then◌else◌, length, Option, Some, None, option_and_then}
 use Rattle.std.specs.List.{list_all}
 use Rattle.std.specs.Char.{is_digit}
 use Rattle.std.specs.Str.Parse.{digits_value}
@@ -12,14 +12,6 @@ is_numeral base text = nat_lt 0 (length text) && list_all (λ b. is_digit b base
 -- the number that a text writes in a base
 unfoldable pub number_in : ℕ → Text → Option ℕ
 number_in base text = if is_numeral base text then Some (digits_value base text) else None
-
--- the number that a text writes: decimal digits, or `0x` and hexadecimal digits of either case
-abbrev pub begins_hexadecimal : Text → Bool
-begins_hexadecimal text =
-    nat_le 2 (length text) && (slice_index text 0 == 0x30) && (slice_index text 1 == 0x78)
-
-unfoldable pub number_of : Text → Option ℕ
-number_of text = if begins_hexadecimal text then number_in 16 (drop 2 text) else number_in 10 text
 
 -- a number from a least one to a greatest one
 abbrev pub within : ℕ → ℕ → ℕ → Option ℕ

@@ -4,7 +4,6 @@ ghost use Rattle.std.specs.Prelude.{◌≡◌, false};
 ghost use Rattle.clap.specs.Words.{rule_of};
 ghost use Rattle.command_line.specs.Arguments.{
   flag,
-  repeated_option,
   required_option,
   required_word,
   single_option,
@@ -14,7 +13,7 @@ use clap::{Arg, ArgAction};
 use std::alloc::Global;
 
 /// An argument that a command must have.
-pub(crate) fn required<'a>(alloc: Global, name: &'a str) -> Arg<'a>
+pub fn required<'a>(alloc: Global, name: &'a str) -> Arg<'a>
     ensures rule { rule_of result ≡ required_word name.now }
     ensures local { result.global ≡ false }
 {
@@ -22,7 +21,7 @@ pub(crate) fn required<'a>(alloc: Global, name: &'a str) -> Arg<'a>
 }
 
 /// An option with a value that a command must have.
-pub(crate) fn required_option<'a>(alloc: Global, name: &'a str) -> Arg<'a>
+pub fn required_option<'a>(alloc: Global, name: &'a str) -> Arg<'a>
     ensures rule { rule_of result ≡ required_option name.now }
     ensures local { result.global ≡ false }
 {
@@ -30,23 +29,15 @@ pub(crate) fn required_option<'a>(alloc: Global, name: &'a str) -> Arg<'a>
 }
 
 /// An option with a value that a command may have once.
-pub(crate) fn single_option<'a>(alloc: Global, name: &'a str) -> Arg<'a>
+pub fn single_option<'a>(alloc: Global, name: &'a str) -> Arg<'a>
     ensures rule { rule_of result ≡ single_option name.now }
     ensures local { result.global ≡ false }
 {
     Arg::new(alloc, name).long(name).action(ArgAction::Set)
 }
 
-/// An option with a value that a command may have many times.
-pub(crate) fn repeated_option<'a>(alloc: Global, name: &'a str) -> Arg<'a>
-    ensures rule { rule_of result ≡ repeated_option name.now }
-    ensures local { result.global ≡ false }
-{
-    Arg::new(alloc, name).long(name).action(ArgAction::Append)
-}
-
 /// A flag.
-pub(crate) fn flag<'a>(alloc: Global, name: &'a str) -> Arg<'a>
+pub fn flag<'a>(alloc: Global, name: &'a str) -> Arg<'a>
     ensures rule { rule_of result ≡ flag name.now }
     ensures local { result.global ≡ false }
 {

@@ -1,7 +1,7 @@
 //! What `clap` found among the arguments of a command line.
 
-ghost use Rattle.std.specs.Prelude.{◌≡◌, codes, map, option_map};
-ghost use Rattle.clap.specs.Words.{all_of, first_of, found_of, rows_of};
+ghost use Rattle.std.specs.Prelude.{◌≡◌, codes, option_map};
+ghost use Rattle.clap.specs.Words.{first_of, found_of, rows_of};
 ghost use Rattle.command_line.specs.Found.{form_of, is_given};
 
 use clap::ArgMatches;
@@ -14,23 +14,15 @@ pub enum Format {
 }
 
 /// The argument that was found under this name.
-pub(crate) fn value_found<'a>(found: &ArgMatches<'a>, name: &str) -> Option<&'a str>
+pub fn value_found<'a>(found: &ArgMatches<'a>, name: &str) -> Option<&'a str>
     ensures { option_map (λ arg. arg.now) result
         ≡ first_of name.now (rows_of (found_of found.now)) }
 {
     found.get_str(name)
 }
 
-/// The arguments that were found under this name.
-pub(crate) fn values_found<'m, 'a>(found: &'m ArgMatches<'a>, name: &str) -> Option<&'m [&'a str]>
-    ensures { option_map (λ args. map (λ arg. arg.now) args.now) result
-        ≡ all_of name.now (rows_of (found_of found.now)) }
-{
-    found.get_strs(name)
-}
-
 /// Whether a flag was found.
-pub(crate) fn flag_found(found: &ArgMatches<'_>, name: &str) -> bool
+pub fn flag_found(found: &ArgMatches<'_>, name: &str) -> bool
     ensures { result ≡ is_given (first_of name.now (rows_of (found_of found.now))) }
 {
     match value_found(found, name) {
@@ -40,7 +32,7 @@ pub(crate) fn flag_found(found: &ArgMatches<'_>, name: &str) -> bool
 }
 
 /// The form that an answer is asked for in: JSON where its flag was found.
-pub(crate) fn form_found(found: &ArgMatches<'_>) -> Format
+pub fn form_found(found: &ArgMatches<'_>) -> Format
     ensures { result ≡ form_of (first_of (codes "json") (rows_of (found_of found.now))) }
 {
     if flag_found(found, "json") {

@@ -1,5 +1,5 @@
 //! Numbers in the arguments of a command line.
-#![tactic(auto, unfolding(crate::specs::Numbers::number_in, crate::specs::Numbers::number_of))]
+#![tactic(auto, unfolding(crate::specs::Numbers::number_in))]
 
 ghost use Rattle.std.specs.Prelude.{
   ◌≡◌,
@@ -20,7 +20,6 @@ ghost use Rattle.command_line.specs.Numbers.{
   decimal_within,
   is_numeral,
   number_in,
-  number_of,
   number_or,
   within,
 };
@@ -73,7 +72,7 @@ fn is_numeral(base: u32, text: &[u8]) -> bool
 }
 
 /// The number that a text writes in a base, or the greatest of 128 bits where it is greater.
-fn number_in(base: u32, text: &[u8]) -> Option<u128>
+pub fn number_in(base: u32, text: &[u8]) -> Option<u128>
     requires lower_bound { 2 ≤ base }
     requires upper_bound { base ≤ 36 }
     ensures { result ≡ option_map (λ number. min number (2 ^ 128 - 1)) (number_in base text.now) }
@@ -82,17 +81,6 @@ fn number_in(base: u32, text: &[u8]) -> Option<u128>
         Some(digits_value(base, text))
     } else {
         None
-    }
-}
-
-/// The number that a text writes, in decimal digits or as `0x` and hexadecimal ones, or the
-/// greatest of 128 bits where it is greater.
-pub(crate) fn number_written(text: &[u8]) -> Option<u128>
-    ensures { result ≡ option_map (λ number. min number (2 ^ 128 - 1)) (number_of text.now) }
-{
-    match text {
-        [b'0', b'x', digits @ ..] => number_in(16, digits),
-        _ => number_in(10, text),
     }
 }
 
@@ -110,7 +98,7 @@ fn within(least: u32, greatest: u32, number: u128) -> Option<u32>
 
 /// The number in these bounds that an argument writes, by decimal digits alone.
 #[tactic(auto, using(crate::proofs::NumberLemmas::decimal_is, crate::proofs::NumberLemmas::no_decimal))]
-pub(crate) fn decimal_within(least: u32, greatest: u32, arg: &str) -> Option<u32>
+pub fn decimal_within(least: u32, greatest: u32, arg: &str) -> Option<u32>
     ensures value { result ≡ decimal_within least greatest arg.now }
     ensures least { IfSome result (λ number. least ≤ number) }
 {
@@ -119,7 +107,7 @@ pub(crate) fn decimal_within(least: u32, greatest: u32, arg: &str) -> Option<u32
 }
 
 /// The number in these bounds that an option gives, or what holds where it isn't there.
-pub(crate) fn number_or(otherwise: u32, least: u32, greatest: u32, arg: Option<&str>) -> Option<u32>
+pub fn number_or(otherwise: u32, least: u32, greatest: u32, arg: Option<&str>) -> Option<u32>
     requires { least ≤ otherwise }
     ensures value { result
         ≡ number_or otherwise least greatest (option_map (λ arg. arg.now) arg.entry) }

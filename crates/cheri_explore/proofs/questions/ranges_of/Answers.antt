@@ -1,6 +1,0 @@
-use Rattle.std.proofs.Common.{arith}
-use Rattle.std.proofs.lemmas.Grind.{common_steps}
-use Rattle.cheri_explore.proofs.questions.ranges_of.Goals as goal
-
-pub loop-sweep-preserved : goal.loop-sweep-preserved
-loop-sweep-preserved c = grind (arith, common_steps)

@@ -1,8 +1,0 @@
-use Rattle.std.proofs.Common.{arith}
-use Rattle.std.proofs.lemmas.Grind.{common_steps}
-use Rattle.cheri_sim.specs.Answers.{check_line}
-use Rattle.cheri_sim.proofs.answers.check_text.Goals as goal
-
-pub returns : goal.returns
-unfolding check_line
-returns c = grind (arith, common_steps)

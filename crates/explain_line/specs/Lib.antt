@@ -1,0 +1,2 @@
+-- What the arguments of `cheri_explain` ask for.
+pub mod Requests

@@ -1,0 +1,31 @@
+-- What the program answers to its command line, and how it ends.
+use Rattle.std.specs.Prelude.{◌≡◌, ℕ, List, codes, Option, Some, None, Err, String}
+use Rattle.std.specs.Global.{Global}
+use Rattle.printing.specs.Endings.{EndsBy, FailsBy}
+use Rattle.inputs.specs.Arguments.{command_args}
+use Rattle.inputs.specs.Files.{KnownFiles}
+use Rattle.inputs.specs.Reading.{OfTexts}
+use Rattle.explain_line.specs.Requests.{ExplainAsked}
+use Rattle.explain_program.specs.declared.faults.Fault.{Fault}
+use Rattle.explain_program.specs.declared.faults.Fault.TheVariants.{Usage, Input}
+use Rattle.explain_program.specs.Faults.{failure_of, fault_text, status_of}
+use Rattle.explain_program.specs.Explaining.{Answer, IsExplained}
+
+-- the command line of the arguments that are given after the program's name
+abbrev pub command_line : List (String Global) → List (List ℕ)
+command_line args = command_args (codes "cheri_explain") args
+
+-- the answers to a request: both files are read before either is judged
+abbrev pub IsAnswer : KnownFiles → Option ExplainAsked → Answer → Type 0
+IsAnswer files None answer = answer ≡ Err Usage
+IsAnswer files (Some asked) answer =
+    OfTexts (files asked.listing) (files asked.order) (λ fault. Err (Input fault))
+    (λ listing order. IsExplained asked.form asked.first asked.last listing order answer) answer
+
+-- a request fails with this exit status; standard error got the fault's line, or a prefix of it
+abbrev pub FailsWith : KnownFiles → Option ExplainAsked → ℕ → Option (List ℕ) → Option (List ℕ)
+    → Option (List ℕ) → Option (List ℕ) → Type 0
+FailsWith files request status old new err_old err_new =
+    EndsBy status_of fault_text
+    (λ fault. FailsBy (failure_of fault) (IsAnswer files request) fault old new)
+    status err_old err_new

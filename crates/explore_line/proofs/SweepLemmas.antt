@@ -1,0 +1,179 @@
+-- The sweeps that arguments write, one by one.
+use Rattle.std.proofs.Common.{◌≡◌, ◌∙◌, ◌<◌, ◌≤◌, ◌+◌, ◌-◌, ◌^◌, ◌==◌, ◌&&◌, nat_lt, nat_le, ℕ, suc, Bool, true, false, cond, inl, inr, arith, take, List, [], ◌∷◌, ◌++◌, map, length, drop, Option, Some, None, refl, sym, ap, append-nil, append_assoc, drop-cons, drop_of_length-le}
+use Rattle.std.proofs.lemmas.Bool.{cases_lt}
+use Rattle.std.proofs.lemmas.List.{length-map}
+use Rattle.std.proofs.lemmas.Bool.Decides.{nat_tests}
+use Rattle.std.specs.Borrow.{Bor}
+use Rattle.std.specs.List.{slice_index_or}
+use Rattle.std.specs.List.{position}
+use Rattle.std.specs.Prelude.{option_map, ◌⊎◌}
+use Rattle.clap.specs.Words.{Text}
+use Rattle.explore_line.specs.Sweeps.{few_sweeps_of, number_of, sweep_of, sweep_within, sweeps_of}
+use Rattle.command_line.proofs.NumberLemmas.{both_false, kept_of}
+use Rattle.explore_line.specs.declared.sweeps.Sweep.{Sweep}
+use Rattle.explore_line.specs.declared.sweeps.TheConstants.{MAX_SWEEPS}
+
+-- ---- one sweep
+
+abbrev pub is_comma : ℕ → Bool
+is_comma b = b == 0x2C
+
+pub no_comma : (arg : Text) → None ≡ position is_comma arg → None ≡ sweep_of arg
+unfolding sweep_of
+no_comma arg is = rw (← is) refl
+
+number_none : (text : Text) → None ≡ option_map kept_of (number_of text) → number_of text ≡ None
+number_none text is = by (number_of text) refl is
+  where
+    by : (found : Option ℕ) → number_of text ≡ found → None ≡ option_map kept_of found → number_of text ≡ None
+    by None e is = e
+    by (Some whole) e is = (let bad : None ≡ Some (kept_of whole) = is in cc)
+
+number_some : (text : Text) (number : ℕ) → Some number ≡ option_map kept_of (number_of text) →
+    (whole : ℕ) × (number_of text ≡ Some whole) × (number ≡ kept_of whole)
+number_some text number is = by (number_of text) refl is
+  where
+    by : (found : Option ℕ) → number_of text ≡ found → Some number ≡ option_map kept_of found →
+        (whole : ℕ) × (number_of text ≡ Some whole) × (number ≡ kept_of whole)
+    by None e is = (let bad : Some number ≡ option_map kept_of None = is in cc)
+    by (Some whole) e is = (whole, e, (let same : number ≡ kept_of whole = cc in same))
+
+pub no_low : (arg : Text) (comma : ℕ) → Some comma ≡ position is_comma arg →
+    None ≡ option_map kept_of (number_of (take comma arg)) → None ≡ sweep_of arg
+unfolding sweep_of
+no_low arg comma at is = rw (← at, number_none (take comma arg) is) refl
+
+pub no_high : (arg : Text) (comma lo : ℕ) → Some comma ≡ position is_comma arg →
+    Some lo ≡ option_map kept_of (number_of (take comma arg)) →
+    None ≡ option_map kept_of (number_of (drop (comma + 1) arg)) → None ≡ sweep_of arg
+unfolding sweep_of
+no_high arg comma lo at low is =
+    let whole = number_some (take comma arg) lo low in
+    rw (← at, whole.1, number_none (drop (comma + 1) arg) is) refl
+
+-- a range that ends, or begins, outside the address space
+none_of_low : (lo hi : ℕ) → nat_lt lo (2 ^ 64) ≡ false → sweep_within lo hi ≡ None
+none_of_low lo hi above = rw (above, both_false (nat_le lo hi && nat_le hi (2 ^ 64))) refl
+
+none_of_high : (lo hi : ℕ) → nat_le hi (2 ^ 64) ≡ false → sweep_within lo hi ≡ None
+none_of_high lo hi above = rw (above, both_false (nat_le lo hi)) refl
+
+-- a range as far as it is kept
+range_kept : (lo hi : ℕ) → sweep_within (kept_of lo) (kept_of hi) ≡ sweep_within lo hi
+range_kept lo hi = by (cases_lt lo (2 ^ 128 - 1)) (cases_lt hi (2 ^ 128 - 1))
+  where
+    by : (lo < 2 ^ 128 - 1) ⊎ (2 ^ 128 - 1 ≤ lo) → (hi < 2 ^ 128 - 1) ⊎ (2 ^ 128 - 1 ≤ hi) →
+        sweep_within (kept_of lo) (kept_of hi) ≡ sweep_within lo hi
+    by (inl low) (inl high) =
+        let lo_is : kept_of lo ≡ lo = omega arith in
+        let hi_is : kept_of hi ≡ hi = omega arith in
+        rw (lo_is, hi_is) refl
+    by (inr low) high =
+        let kept_above : nat_lt (kept_of lo) (2 ^ 64) ≡ false = grind (arith, nat_tests) in
+        let whole_above : nat_lt lo (2 ^ 64) ≡ false = grind (arith, nat_tests) in
+        none_of_low (kept_of lo) (kept_of hi) kept_above ∙ sym (none_of_low lo hi whole_above)
+    by (inl low) (inr high) =
+        let kept_above : nat_le (kept_of hi) (2 ^ 64) ≡ false = grind (arith, nat_tests) in
+        let whole_above : nat_le hi (2 ^ 64) ≡ false = grind (arith, nat_tests) in
+        none_of_high (kept_of lo) (kept_of hi) kept_above ∙ sym (none_of_high lo hi whole_above)
+
+swept_by : (arg : Text) (comma lo hi whole_lo whole_hi : ℕ) → Some comma ≡ position is_comma arg →
+    number_of (take comma arg) ≡ Some whole_lo → lo ≡ kept_of whole_lo →
+    number_of (drop (comma + 1) arg) ≡ Some whole_hi → hi ≡ kept_of whole_hi → sweep_within lo hi ≡ sweep_of arg
+unfolding sweep_of
+swept_by arg comma lo hi whole_lo whole_hi at low lo_is high hi_is =
+    rw (← at, low, high, lo_is, hi_is) (range_kept whole_lo whole_hi)
+
+pub swept : (arg : Text) (comma lo hi : ℕ) → Some comma ≡ position is_comma arg →
+    Some lo ≡ option_map kept_of (number_of (take comma arg)) →
+    Some hi ≡ option_map kept_of (number_of (drop (comma + 1) arg)) → sweep_within lo hi ≡ sweep_of arg
+swept arg comma lo hi at low high =
+    let whole_lo = number_some (take comma arg) lo low in
+    let whole_hi = number_some (drop (comma + 1) arg) hi high in
+    swept_by arg comma lo hi whole_lo.0 whole_hi.0 at whole_lo.1 whole_lo.2 whole_hi.1 whole_hi.2
+
+pub ruleset sweep_parts = (no_comma, no_low, no_high, swept)
+
+-- ---- all sweeps
+
+abbrev texts : List (Bor Text) → List Text
+texts args = map (λ arg. arg.now) args
+
+-- the sweeps so far, and those of the arguments from a place on, are those of all arguments
+unfoldable pub HasSoFar : List (Bor Text) → ℕ → List Sweep → Type 0
+HasSoFar args place sweeps = sweeps_of (texts args) ≡ option_map (λ rest. sweeps ++ rest) (sweeps_of (texts (drop place args)))
+
+same : (found : Option (List Sweep)) → found ≡ option_map (λ rest. [] ++ rest) found
+same None = refl
+same (Some rest) = refl
+
+pub none_so_far : (args : List (Bor Text)) → HasSoFar args 0 []
+unfolding HasSoFar
+none_so_far args = same (sweeps_of (texts args))
+
+rest_of : (args : List Text) (arg : Text) (sweep : Sweep) → sweep_of arg ≡ Some sweep →
+    sweeps_of (arg ∷ args) ≡ option_map (λ rest. sweep ∷ rest) (sweeps_of args)
+unfolding sweeps_of
+rest_of args arg sweep is = rw is refl
+
+no_rest : (args : List Text) (arg : Text) → sweep_of arg ≡ None → sweeps_of (arg ∷ args) ≡ None
+unfolding sweeps_of
+no_rest args arg is = rw is refl
+
+moved : (kept : List Sweep) (sweep : Sweep) (found : Option (List Sweep)) →
+    option_map (λ rest. kept ++ rest) (option_map (λ rest. sweep ∷ rest) found) ≡ option_map (λ rest. (kept ++ sweep ∷ []) ++ rest) found
+moved kept sweep None = refl
+moved kept sweep (Some rest) = ap Some (sym (append_assoc kept (sweep ∷ []) rest))
+
+-- at most eight
+abbrev no_sweeps : Option (List Sweep)
+no_sweeps = None
+
+few_none : (args : List Text) → sweeps_of args ≡ None → few_sweeps_of args ≡ None
+few_none args none = rw none (by (nat_le (length args) MAX_SWEEPS))
+  where
+    by : (few : Bool) → cond few no_sweeps no_sweeps ≡ no_sweeps
+    by true = refl
+    by false = refl
+
+few_is : (args : List (Bor Text)) → length args ≤ MAX_SWEEPS → few_sweeps_of (texts args) ≡ sweeps_of (texts args)
+few_is args few =
+    let same : length (texts args) ≡ length args = length-map args (λ (arg : Bor Text). arg.now) in
+    let small : nat_le (length (texts args)) MAX_SWEEPS ≡ true = grind (arith, nat_tests) in
+    rw small refl
+
+-- one more argument
+at_place : (args : List (Bor Text)) (place : ℕ) (other : Bor Text) → place < length args →
+    texts (drop place args) ≡ (slice_index_or args place other).now ∷ texts (drop (suc place) args)
+at_place args place other lt = ap texts (drop-cons args place other lt)
+
+pub one_more : (args : List (Bor Text)) (place : ℕ) (other : Bor Text) (found : Option Sweep) (sweep : Sweep) (kept : List Sweep) →
+    place < length args → found ≡ sweep_of (slice_index_or args place other).now → found ≡ Some sweep → HasSoFar args place kept →
+    HasSoFar args (suc place) (kept ++ sweep ∷ [])
+unfolding HasSoFar
+one_more args place other found sweep kept lt is some so =
+    let writes = sym is ∙ some in
+    so ∙ ap (option_map (λ rest. kept ++ rest)) (ap sweeps_of (at_place args place other lt)
+    ∙ rest_of (texts (drop (suc place) args)) (slice_index_or args place other).now sweep writes)
+    ∙ moved kept sweep (sweeps_of (texts (drop (suc place) args)))
+
+-- an argument that writes none
+pub not_one : (args : List (Bor Text)) (place : ℕ) (other : Bor Text) (found : Option Sweep) (kept : List Sweep) → place < length args →
+    found ≡ sweep_of (slice_index_or args place other).now → found ≡ None → HasSoFar args place kept → few_sweeps_of (texts args) ≡ None
+unfolding HasSoFar
+not_one args place other found kept lt is not so =
+    let none = sym is ∙ not in
+    few_none (texts args) (so ∙ ap (option_map (λ rest. kept ++ rest)) (ap sweeps_of (at_place args place other lt)
+    ∙ no_rest (texts (drop (suc place) args)) (slice_index_or args place other).now none))
+
+-- all arguments
+none_left : sweeps_of [] ≡ Some []
+unfolding sweeps_of
+none_left = refl
+
+pub all_done : (args : List (Bor Text)) (place : ℕ) (kept : List Sweep) → length args ≤ MAX_SWEEPS → length args ≤ place →
+    HasSoFar args place kept → few_sweeps_of (texts args) ≡ Some kept
+unfolding HasSoFar
+all_done args place kept few past so =
+    few_is args few ∙ so ∙ ap (λ (rest : List (Bor Text)). option_map (λ more. kept ++ more) (sweeps_of (texts rest))) (drop_of_length-le args past)
+    ∙ ap (option_map (λ rest. kept ++ rest)) none_left ∙ ap Some (append-nil kept)

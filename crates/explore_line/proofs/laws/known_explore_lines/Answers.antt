@@ -1,0 +1,106 @@
+use Rattle.std.proofs.Common.{refl}
+use Rattle.clap.proofs.OnLiterals.{clap_on_literals}
+use Rattle.command_line.specs.Numbers.{decimal_within, number_in}
+use Rattle.explore_line.specs.Requests.{explore_asked, explore_asked_of, question_of}
+use Rattle.explore_line.specs.Sweeps.{number_of, sweep_of, sweeps_of}
+use Rattle.explore_line.proofs.laws.known_explore_lines.Goals as goal
+
+pub returns-clause-outcomes : goal.returns-clause-outcomes
+unfolding clap_on_literals explore_asked explore_asked_of question_of sweep_of sweeps_of decimal_within number_in number_of
+returns-clause-outcomes c = refl
+
+pub returns-clause-shown : goal.returns-clause-shown
+unfolding clap_on_literals explore_asked explore_asked_of question_of sweep_of sweeps_of decimal_within number_in number_of
+returns-clause-shown c = refl
+
+pub returns-clause-shown_nothing : goal.returns-clause-shown_nothing
+unfolding clap_on_literals explore_asked explore_asked_of question_of sweep_of sweeps_of decimal_within number_in number_of
+returns-clause-shown_nothing c = refl
+
+pub returns-clause-find : goal.returns-clause-find
+unfolding clap_on_literals explore_asked explore_asked_of question_of sweep_of sweeps_of decimal_within number_in number_of
+returns-clause-find c = refl
+
+pub returns-clause-authority : goal.returns-clause-authority
+unfolding clap_on_literals explore_asked explore_asked_of question_of sweep_of sweeps_of decimal_within number_in number_of
+returns-clause-authority c = refl
+
+pub returns-clause-swept : goal.returns-clause-swept
+unfolding clap_on_literals explore_asked explore_asked_of question_of sweep_of sweeps_of decimal_within number_in number_of
+returns-clause-swept c = refl
+
+pub returns-clause-empty_sweep : goal.returns-clause-empty_sweep
+unfolding clap_on_literals explore_asked explore_asked_of question_of sweep_of sweeps_of decimal_within number_in number_of
+returns-clause-empty_sweep c = refl
+
+pub returns-clause-most_states : goal.returns-clause-most_states
+unfolding clap_on_literals explore_asked explore_asked_of question_of sweep_of sweeps_of decimal_within number_in number_of
+returns-clause-most_states c = refl
+
+pub returns-clause-too_many_states : goal.returns-clause-too_many_states
+unfolding clap_on_literals explore_asked explore_asked_of question_of sweep_of sweeps_of decimal_within number_in number_of
+returns-clause-too_many_states c = refl
+
+pub returns-clause-no_states : goal.returns-clause-no_states
+unfolding clap_on_literals explore_asked explore_asked_of question_of sweep_of sweeps_of decimal_within number_in number_of
+returns-clause-no_states c = refl
+
+pub returns-clause-hexadecimal_states : goal.returns-clause-hexadecimal_states
+unfolding clap_on_literals explore_asked explore_asked_of question_of sweep_of sweeps_of decimal_within number_in number_of
+returns-clause-hexadecimal_states c = refl
+
+pub returns-clause-backwards : goal.returns-clause-backwards
+unfolding clap_on_literals explore_asked explore_asked_of question_of sweep_of sweeps_of decimal_within number_in number_of
+returns-clause-backwards c = refl
+
+pub returns-clause-beyond : goal.returns-clause-beyond
+unfolding clap_on_literals explore_asked explore_asked_of question_of sweep_of sweeps_of decimal_within number_in number_of
+returns-clause-beyond c = refl
+
+pub returns-clause-from_the_end : goal.returns-clause-from_the_end
+unfolding clap_on_literals explore_asked explore_asked_of question_of sweep_of sweeps_of decimal_within number_in number_of
+returns-clause-from_the_end c = refl
+
+pub returns-clause-sweep_of_one : goal.returns-clause-sweep_of_one
+unfolding clap_on_literals explore_asked explore_asked_of question_of sweep_of sweeps_of decimal_within number_in number_of
+returns-clause-sweep_of_one c = refl
+
+pub returns-clause-sweep_with_space : goal.returns-clause-sweep_with_space
+unfolding clap_on_literals explore_asked explore_asked_of question_of sweep_of sweeps_of decimal_within number_in number_of
+returns-clause-sweep_with_space c = refl
+
+pub returns-clause-sweep_of_three : goal.returns-clause-sweep_of_three
+unfolding clap_on_literals explore_asked explore_asked_of question_of sweep_of sweeps_of decimal_within number_in number_of
+returns-clause-sweep_of_three c = refl
+
+pub returns-clause-nine_sweeps : goal.returns-clause-nine_sweeps
+unfolding clap_on_literals explore_asked explore_asked_of question_of sweep_of sweeps_of decimal_within number_in number_of
+returns-clause-nine_sweeps c = refl
+
+pub returns-clause-shown_twice : goal.returns-clause-shown_twice
+unfolding clap_on_literals explore_asked explore_asked_of question_of sweep_of sweeps_of decimal_within number_in number_of
+returns-clause-shown_twice c = refl
+
+pub returns-clause-states_twice : goal.returns-clause-states_twice
+unfolding clap_on_literals explore_asked explore_asked_of question_of sweep_of sweeps_of decimal_within number_in number_of
+returns-clause-states_twice c = refl
+
+pub returns-clause-shown_authority : goal.returns-clause-shown_authority
+unfolding clap_on_literals explore_asked explore_asked_of question_of sweep_of sweeps_of decimal_within number_in number_of
+returns-clause-shown_authority c = refl
+
+pub returns-clause-without_condition : goal.returns-clause-without_condition
+unfolding clap_on_literals explore_asked explore_asked_of question_of sweep_of sweeps_of decimal_within number_in number_of
+returns-clause-without_condition c = refl
+
+pub returns-clause-without_command : goal.returns-clause-without_command
+unfolding clap_on_literals explore_asked explore_asked_of question_of sweep_of sweeps_of decimal_within number_in number_of
+returns-clause-without_command c = refl
+
+pub returns-clause-help : goal.returns-clause-help
+unfolding clap_on_literals explore_asked explore_asked_of question_of sweep_of sweeps_of decimal_within number_in number_of
+returns-clause-help c = refl
+
+pub returns-clause-alone : goal.returns-clause-alone
+unfolding clap_on_literals explore_asked explore_asked_of question_of sweep_of sweeps_of decimal_within number_in number_of
+returns-clause-alone c = refl

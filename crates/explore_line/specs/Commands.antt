@@ -1,0 +1,41 @@
+-- The commands of `cheri_explore`.
+use Rattle.std.specs.Prelude.{Some, codes}
+use Rattle.clap.specs.Words.{App, Rule, Text, new_app, new_rule, with_rule, with_subcommand}
+use Rattle.clap.specs.declared.builder.action.ArgAction.TheVariants.{Append}
+use Rattle.command_line.specs.Arguments.{flag, required_word, single_option, wanting_subcommand}
+
+-- an option with a value, which a command may have many times
+abbrev pub repeated_option : Text → Rule
+repeated_option name = record (new_rule name) { long = Some name; action = Some Append }
+
+-- `[--sweep LO,HI].. [--states N] [--json]`, which each command takes
+abbrev pub with_search_options : App → App
+with_search_options app =
+    with_rule (with_rule (with_rule app (repeated_option (codes "sweep")))
+    (single_option (codes "states"))) (flag (codes "json"))
+
+-- `outcomes LISTING [--show ITEM[,ITEM]..]`
+abbrev pub outcomes_command : App
+outcomes_command =
+    with_search_options (with_rule (with_rule (new_app (codes "outcomes"))
+    (required_word (codes "listing"))) (single_option (codes "show")))
+
+-- `find LISTING CONDITION`
+abbrev pub find_command : App
+find_command =
+    with_search_options (with_rule (with_rule (new_app (codes "find"))
+    (required_word (codes "listing"))) (required_word (codes "condition")))
+
+-- `authority LISTING`
+abbrev pub authority_command : App
+authority_command =
+    with_search_options (with_rule (new_app (codes "authority")) (required_word (codes "listing")))
+
+-- the program, which wants one of these
+abbrev pub explore_alone : App
+explore_alone = wanting_subcommand (new_app (codes "cheri_explore"))
+
+abbrev pub explore_program : App
+explore_program =
+    with_subcommand (with_subcommand (with_subcommand explore_alone outcomes_command.top)
+    find_command.top) authority_command.top

@@ -1,0 +1,4 @@
+-- What the arguments of `cheri_explore` ask for.
+pub mod Commands
+pub mod Sweeps
+pub mod Requests

@@ -1,0 +1,71 @@
+-- What the arguments of a command line of `cheri_explore` ask for.
+use Rattle.std.specs.Prelude.{ℕ, List, Option, Some, None, option_and_then, option_map, codes, if◌then◌else◌}
+use Rattle.std.specs.Str.{bytes_eq}
+use Rattle.clap.specs.Words.{Row, Text, all_of, fault_of, first_of, subcommand_of}
+use Rattle.command_line.specs.Found.{◌>>=◌, form_of, unless_faulty}
+use Rattle.command_line.specs.Numbers.{number_or}
+use Rattle.command_line.specs.declared.found.Format.{Format}
+use Rattle.explore_line.specs.Commands.{explore_program}
+use Rattle.explore_line.specs.Sweeps.{sweeps_in}
+use Rattle.explore_line.specs.declared.sweeps.Sweep.{Sweep}
+use Rattle.explore_line.specs.declared.requests.TheConstants.{GREATEST_STATES, USUAL_STATES}
+use Rattle.explore_line.specs.declared.requests.Question.{Question}
+use Rattle.explore_line.specs.declared.requests.Question.TheVariants as questions
+use Rattle.explore_line.specs.declared.requests.ExploreRequest.{ExploreRequest}
+
+-- a request by the texts of its arguments
+pub data AskedQuestion : Type 0 where
+  Outcomes : Option Text → AskedQuestion
+  Find : Text → AskedQuestion
+  Authority : AskedQuestion
+
+pub record ExploreAsked : Type 0 where
+  pub listing : Text
+  pub sweeps : List Sweep
+  pub states : ℕ
+  pub form : Format
+  pub question : AskedQuestion
+
+abbrev pub question_asked_by : Question → AskedQuestion
+question_asked_by (questions.Outcomes show) = Outcomes (option_map (λ items. items.now) show)
+question_asked_by (questions.Find condition) = Find condition.now
+question_asked_by questions.Authority = Authority
+
+abbrev pub explore_asked_by : ExploreRequest → ExploreAsked
+explore_asked_by request = record {
+  listing = request.listing.now;
+  sweeps = request.sweeps.items;
+  states = request.states;
+  form = request.form;
+  question = question_asked_by request.question;
+}
+
+-- what the command of this name asks
+unfoldable pub question_of : Text → List Row → Option AskedQuestion
+question_of name rows =
+    if bytes_eq name (codes "outcomes") then Some (Outcomes (first_of (codes "show") rows))
+    else if bytes_eq name (codes "find") then option_map Find (first_of (codes "condition") rows)
+    else if bytes_eq name (codes "authority") then Some Authority
+    else None
+
+-- what the command of this name asks for with these arguments
+unfoldable pub explore_asked_of : Text → List Row → Option ExploreAsked
+explore_asked_of name rows = do
+  question ← question_of name rows
+  listing ← first_of (codes "listing") rows
+  states ← number_or USUAL_STATES 1 GREATEST_STATES (first_of (codes "states") rows)
+  sweeps ← sweeps_in (all_of (codes "sweep") rows)
+  Some (record {
+    listing = listing;
+    sweeps = sweeps;
+    states = states;
+    form = form_of (first_of (codes "json") rows);
+    question = question;
+  })
+
+-- what the arguments of a command line ask for, the first of which is the program's name
+unfoldable pub explore_asked : List Text → Option ExploreAsked
+explore_asked args =
+    unless_faulty (fault_of explore_program args)
+    (option_and_then (λ found. explore_asked_of found.0 found.1)
+    (subcommand_of explore_program args))

@@ -1,0 +1,77 @@
+//! The commands of `cheri_explore`, as `clap` is given them.
+
+ghost use Rattle.std.specs.Prelude.{◌≡◌, IfOk, false};
+ghost use Rattle.clap.specs.Words.{app_of, rule_of};
+ghost use Rattle.command_line.specs.Arguments.{has_globals};
+ghost use Rattle.explore_line.specs.Commands.{
+  authority_command,
+  explore_program,
+  find_command,
+  outcomes_command,
+  repeated_option,
+  with_search_options,
+};
+
+use clap::{Arg, ArgAction, Command};
+use command_line::arguments::{flag, required, single_option};
+use std::alloc::{AllocError, Global};
+
+/// An option with a value that a command may have many times.
+fn repeated_option<'a>(alloc: Global, name: &'a str) -> Arg<'a>
+    ensures rule { rule_of result ≡ repeated_option name.now }
+    ensures local { result.global ≡ false }
+{
+    Arg::new(alloc, name).long(name).action(ArgAction::Append)
+}
+
+/// A command with the options of a search: `[--sweep LO,HI].. [--states N] [--json]`.
+fn with_search_options<'a>(alloc: Global, command: Command<'a>) -> Result<Command<'a>, AllocError>
+    ensures app { IfOk result (λ more. app_of more ≡ with_search_options (app_of command.entry)) }
+    ensures local { has_globals command.entry ≡ false
+        → IfOk result (λ more. has_globals more ≡ false) }
+{
+    let with_sweeps = command.arg(repeated_option(alloc, "sweep"))?;
+    let with_states = with_sweeps.arg(single_option(alloc, "states"))?;
+    with_states.arg(flag(alloc, "json"))
+}
+
+/// `outcomes LISTING [--show ITEM[,ITEM]..]`.
+fn outcomes_command<'a>(alloc: Global) -> Result<Command<'a>, AllocError>
+    ensures app { IfOk result (λ command. app_of command ≡ outcomes_command) }
+    ensures local { IfOk result (λ command. has_globals command ≡ false) }
+{
+    let command = Command::new(alloc, "outcomes")
+        .arg(required(alloc, "listing"))?
+        .arg(single_option(alloc, "show"))?;
+    with_search_options(alloc, command)
+}
+
+/// `find LISTING CONDITION`.
+fn find_command<'a>(alloc: Global) -> Result<Command<'a>, AllocError>
+    ensures app { IfOk result (λ command. app_of command ≡ find_command) }
+    ensures local { IfOk result (λ command. has_globals command ≡ false) }
+{
+    let command = Command::new(alloc, "find")
+        .arg(required(alloc, "listing"))?
+        .arg(required(alloc, "condition"))?;
+    with_search_options(alloc, command)
+}
+
+/// `authority LISTING`.
+fn authority_command<'a>(alloc: Global) -> Result<Command<'a>, AllocError>
+    ensures app { IfOk result (λ command. app_of command ≡ authority_command) }
+    ensures local { IfOk result (λ command. has_globals command ≡ false) }
+{
+    let command = Command::new(alloc, "authority").arg(required(alloc, "listing"))?;
+    with_search_options(alloc, command)
+}
+
+/// The program's command: it wants one of these subcommands.
+pub(crate) fn explore_command<'a>(alloc: Global) -> Result<Command<'a>, AllocError>
+    ensures { IfOk result (λ command. app_of command ≡ explore_program) }
+{
+    let alone = Command::new(alloc, "cheri_explore").subcommand_required(true);
+    let with_outcomes = alone.subcommand(outcomes_command(alloc)?)?;
+    let with_find = with_outcomes.subcommand(find_command(alloc)?)?;
+    with_find.subcommand(authority_command(alloc)?)
+}

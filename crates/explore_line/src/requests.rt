@@ -1,0 +1,125 @@
+//! The command line of `cheri_explore`.
+#![tactic(auto, unfolding(crate::specs::Requests::question_of, crate::specs::Requests::explore_asked_of))]
+
+ghost use Rattle.std.specs.Prelude.{◌≡◌, ◌≤◌, Err, IfOk, IfSome, None, Some, codes, length, option_and_then, option_map};
+ghost use Rattle.clap.specs.Words.{first_of, found_of, rows_of, subcommand_rows_of};
+ghost use Rattle.command_line.specs.Numbers.{number_or};
+ghost use Rattle.explore_line.specs.Requests.{
+  explore_asked_by,
+  explore_asked_of,
+  question_asked_by,
+  question_of,
+};
+ghost use Rattle.explore_line.specs.declared.sweeps.TheConstants.{MAX_SWEEPS};
+
+use crate::sweeps::{Sweep, sweeps_found};
+use clap::ArgMatches;
+use command_line::found::{form_found, value_found};
+use command_line::numbers::number_or;
+use command_line::{CommandFault, Format};
+use std::alloc::Global;
+
+/// The most states that a search may keep.
+pub const GREATEST_STATES: u32 = 100_000_000;
+
+/// The most states that a search keeps where nothing else is asked for.
+pub const USUAL_STATES: u32 = 1_000_000;
+
+/// What is asked of all schedules.
+#[derive(Clone, Copy, Debug, PartialEq, Eq)]
+pub enum Question<'a> {
+    /// Which outcomes there are, told by the items of this text, if it is there.
+    Outcomes { show: Option<&'a str> },
+    /// Whether a state is reached in which this condition holds.
+    Find { condition: &'a str },
+    /// Which authority each hart, and memory, ever has.
+    Authority,
+}
+
+/// What a command line asks for: to search the states that the image of the listing in the file of
+/// this name reaches, with these sweeps, up to so many states, and to answer in this form.
+#[derive(Debug, Drop)]
+pub struct ExploreRequest<'a> {
+    pub listing: &'a str,
+    pub sweeps: Vec<Sweep>,
+    pub states: u32,
+    pub form: Format,
+    pub question: Question<'a>,
+}
+
+/// What the command of this name asks.
+fn question_of<'a>(name: &str, found: &ArgMatches<'a>) -> Option<Question<'a>>
+    ensures { option_map question_asked_by result
+        ≡ question_of name.now (rows_of (found_of found.now)) }
+{
+    match name {
+        "outcomes" => Some(Question::Outcomes {
+            show: value_found(found, "show"),
+        }),
+        "find" => {
+            let condition = value_found(found, "condition")?;
+            Some(Question::Find { condition })
+        },
+        "authority" => Some(Question::Authority),
+        _ => None,
+    }
+}
+
+/// How many states may be kept.
+fn states_found(found: &ArgMatches<'_>) -> Option<u32>
+    ensures states { result ≡ number_or USUAL_STATES 1 GREATEST_STATES
+        (first_of (codes "states") (rows_of (found_of found.now))) }
+    ensures some { IfSome result (λ states. 1 ≤ states) }
+{
+    number_or(
+        USUAL_STATES,
+        1,
+        GREATEST_STATES,
+        value_found(found, "states"),
+    )
+}
+
+/// What the command of this name asks for with the arguments that were found.
+fn explore_of<'a>(
+    alloc: Global,
+    name: &str,
+    found: &ArgMatches<'a>,
+) -> Result<ExploreRequest<'a>, CommandFault>
+    ensures asked { IfOk result (λ request.
+        explore_asked_of name.now (rows_of (found_of found.now))
+        ≡ Some (explore_asked_by request)) }
+    ensures usage { result ≡ Err CommandFault.Usage
+        → explore_asked_of name.now (rows_of (found_of found.now)) ≡ None }
+    ensures few { IfOk result (λ request. length request.sweeps.items ≤ MAX_SWEEPS) }
+    ensures some { IfOk result (λ request. 1 ≤ request.states) }
+{
+    let question = question_of(name, found).ok_or(CommandFault::Usage)?;
+    let listing = value_found(found, "listing").ok_or(CommandFault::Usage)?;
+    let states = states_found(found).ok_or(CommandFault::Usage)?;
+    let sweeps = sweeps_found(alloc, found)?;
+    Ok(ExploreRequest {
+        listing,
+        sweeps,
+        states,
+        form: form_found(found),
+        question,
+    })
+}
+
+/// What the command that was met asks for.
+pub(crate) fn explore_met<'a>(
+    alloc: Global,
+    matches: &ArgMatches<'a>,
+) -> Result<ExploreRequest<'a>, CommandFault>
+    ensures asked { IfOk result (λ request.
+        option_and_then (λ found. explore_asked_of found.0 found.1) (subcommand_rows_of matches.now)
+        ≡ Some (explore_asked_by request)) }
+    ensures usage { result ≡ Err CommandFault.Usage
+        → option_and_then (λ found. explore_asked_of found.0 found.1)
+        (subcommand_rows_of matches.now) ≡ None }
+    ensures few { IfOk result (λ request. length request.sweeps.items ≤ MAX_SWEEPS) }
+    ensures some { IfOk result (λ request. 1 ≤ request.states) }
+{
+    let (name, found) = matches.subcommand().ok_or(CommandFault::Usage)?;
+    explore_of(alloc, name, found)
+}

@@ -1,0 +1,196 @@
+//! The questions, each of the states that the image of a listing reaches.
+
+ghost use Rattle.std.specs.Prelude.{◌≡◌, ℕ, List, IfOk, IfErr, map};
+ghost use Rattle.authority_texts.specs.Answers.{IsAuthorityAnswer};
+ghost use Rattle.conditions.specs.Items.{list_of};
+ghost use Rattle.found_texts.specs.Find.{IsFindAnswer};
+ghost use Rattle.outcome_texts.specs.Answers.{IsListedAnswer, IsShownAnswer};
+ghost use Rattle.shown_states.specs.Endings.{IsUnwritten, IsWritten};
+ghost use Rattle.shown_states.specs.declared.form.Ending.{Ending};
+ghost use Rattle.explore_program.specs.Questions.{IsSearchable, range_of};
+
+use authority_texts::authority;
+use cheri_model::{Image, NoMemory};
+use conditions::{Condition, Items};
+use explore_line::Sweep;
+use found_texts::find;
+use graph_search::Progress;
+use outcome_texts::{list_outcomes, show_outcomes};
+use schedules::SweepRange;
+use shown_states::{Ending, Format};
+use sinks::{Sink, WriteFault};
+use std::alloc::Global;
+
+/// The ranges of sweeps.
+pub fn ranges_of(alloc: Global, sweeps: &[Sweep]) -> Result<Vec<SweepRange>, NoMemory>
+    ensures { IfOk result (λ ranges. ranges.items ≡ map range_of sweeps.now) }
+{
+    let mut ranges = Vec::with_capacity(alloc, sweeps.len())?;
+    for sweep in sweeps {
+        ranges.push(SweepRange {
+            lo: sweep.lo,
+            hi: sweep.hi,
+        })?;
+    }
+    Ok(ranges)
+}
+
+/// What is searched: an image, with these sweeps, up to so many states; and how the answer is
+/// written.
+#[derive(Clone, Copy)]
+pub struct Search<'a> {
+    pub image: &'a Image,
+    pub sweeps: &'a [SweepRange],
+    pub states: u32,
+    pub format: Format,
+}
+
+/// A question about the states that a search keeps.
+pub trait Question {
+    /// Whether it can be asked.
+    ghost is_askable: { Self → Type 0 };
+
+    /// Whether a text that ends so answers it.
+    ghost answers: { Self → List ℕ → Ending → Type 0 };
+
+    /// Searches the states, and writes the answer. Nothing is written before the search has ended;
+    /// after a fault of the writing the sink took a prefix of the answer.
+    fn write<P: Progress, S: Sink>(
+        &self,
+        alloc: Global,
+        progress: &mut P,
+        sink: &mut S,
+    ) -> Result<Ending, WriteFault>
+        requires { is_askable self.now }
+        ensures written { IfOk result (λ ending. IsWritten (λ text. answers self.now text ending)
+            (S.written sink.old) (S.written sink.new)) }
+        ensures begun { IfErr result
+            (IsUnwritten (λ text. (ending : Ending) × answers self.now text ending)
+            (S.written sink.old) (S.written sink.new)) }
+        ensures identity { S.identity sink.new ≡ S.identity sink.old };
+}
+
+/// Which state is the first in which a condition holds?
+#[derive(Clone, Copy)]
+pub struct Find<'a, 'b> {
+    pub search: Search<'a>,
+    pub condition: &'b Condition,
+}
+
+impl<'a, 'b> Question for Find<'a, 'b> {
+    ghost is_askable = { λ q. IsSearchable q.search };
+
+    ghost answers = { λ q. IsFindAnswer q.search.image.now q.condition.now q.search.sweeps.now
+        q.search.states q.search.format };
+
+    fn write<P: Progress, S: Sink>(
+        &self,
+        alloc: Global,
+        progress: &mut P,
+        sink: &mut S,
+    ) -> Result<Ending, WriteFault> {
+        let Search {
+            image,
+            sweeps,
+            states,
+            format,
+        } = self.search;
+        find(
+            alloc,
+            image,
+            self.condition,
+            sweeps,
+            states,
+            format,
+            progress,
+            sink,
+        )
+    }
+}
+
+/// What are the greatest rights that each hart and memory ever hold?
+#[derive(Clone, Copy)]
+pub struct Authority<'a> {
+    pub search: Search<'a>,
+}
+
+impl<'a> Question for Authority<'a> {
+    ghost is_askable = { λ q. IsSearchable q.search };
+
+    ghost answers = { λ q. IsAuthorityAnswer q.search.image.now q.search.sweeps.now
+        q.search.states q.search.format };
+
+    fn write<P: Progress, S: Sink>(
+        &self,
+        alloc: Global,
+        progress: &mut P,
+        sink: &mut S,
+    ) -> Result<Ending, WriteFault> {
+        let Search {
+            image,
+            sweeps,
+            states,
+            format,
+        } = self.search;
+        authority(alloc, image, sweeps, states, format, progress, sink)
+    }
+}
+
+/// In which states does no hart run?
+#[derive(Clone, Copy)]
+pub struct Outcomes<'a> {
+    pub search: Search<'a>,
+}
+
+impl<'a> Question for Outcomes<'a> {
+    ghost is_askable = { λ q. IsSearchable q.search };
+
+    ghost answers = { λ q. IsListedAnswer q.search.image.now q.search.sweeps.now
+        q.search.states q.search.format };
+
+    fn write<P: Progress, S: Sink>(
+        &self,
+        alloc: Global,
+        progress: &mut P,
+        sink: &mut S,
+    ) -> Result<Ending, WriteFault> {
+        let Search {
+            image,
+            sweeps,
+            states,
+            format,
+        } = self.search;
+        list_outcomes(alloc, image, sweeps, states, format, progress, sink)
+    }
+}
+
+/// What do items hold in the states in which no hart runs?
+#[derive(Clone, Copy)]
+pub struct ShownOutcomes<'a, 'b, 'c> {
+    pub search: Search<'a>,
+    pub items: &'b Items<'c>,
+}
+
+impl<'a, 'b, 'c> Question for ShownOutcomes<'a, 'b, 'c> {
+    ghost is_askable = { λ q. IsSearchable q.search };
+
+    ghost answers = { λ q. IsShownAnswer q.search.image.now (list_of q.items.now)
+        q.search.sweeps.now q.search.states q.search.format };
+
+    fn write<P: Progress, S: Sink>(
+        &self,
+        alloc: Global,
+        progress: &mut P,
+        sink: &mut S,
+    ) -> Result<Ending, WriteFault> {
+        let Search {
+            image,
+            sweeps,
+            states,
+            format,
+        } = self.search;
+        show_outcomes(
+            alloc, image, self.items, sweeps, states, format, progress, sink,
+        )
+    }
+}

@@ -1,0 +1,235 @@
+//! What `cheri_explore` answers and reports, with the answers of an independent model.
+
+use crate::common::{Folder, Full, Unflushed, assert_bytes, owned};
+use explore_program::perform;
+use graph_search::NoProgress;
+use std::alloc::Global;
+use std::io::Write;
+use std::process::Abort;
+use std::test::Fail;
+
+/// Two harts that count to 1 and halt.
+const COUNTING: &str = "\
+.ram 16
+.hart 0x10000000 8 0x10000000 execute
+.hart 0x10000000 8 0x10000000 execute
+addi c5, c0, 1
+ecall
+";
+
+/// The state in which both have counted, and none has halted.
+const COUNTED: &str = "\
+found order=01
+hart 0 running
+pcc 1 0002000004038004_0000000010000004 0000000010000000 00000000010000008 00002 unsealed
+c5 0 0000000000000000_0000000000000001
+hart 1 running
+pcc 1 0002000004038004_0000000010000004 0000000010000000 00000000010000008 00002 unsealed
+c5 0 0000000000000000_0000000000000001
+end
+";
+
+/// The state after a sweep of the code, in JSON.
+const SWEPT_JSON: &str = "\
+{\"answer\":\"found\",\"explore\":1,\"image\":{\"code\":2,\"harts\":2,\"ram\":16},\
+\"order\":\"[0x10000000,0x10000001]\",\"state\":{\"harts\":[\
+{\"pcc\":{\"tag\":false,\"word\":\"0002000004038004_0000000010000000\"},\"regs\":{},\
+\"status\":\"running\"},\
+{\"pcc\":{\"tag\":false,\"word\":\"0002000004038004_0000000010000000\"},\"regs\":{},\
+\"status\":\"running\"}],\"mem\":{}}}\n";
+
+/// The only outcome of counting.
+const LISTED: &str = "\
+cheri-sim outcomes 1
+image harts=2 ram=16 code=2
+states 9 complete
+endless no
+outcomes 1
+outcome 0 order=0011
+hart 0 halted
+pcc 1 0002000004038004_0000000010000004 0000000010000000 00000000010000008 00002 unsealed
+c5 0 0000000000000000_0000000000000001
+hart 1 halted
+pcc 1 0002000004038004_0000000010000004 0000000010000000 00000000010000008 00002 unsealed
+c5 0 0000000000000000_0000000000000001
+end
+";
+
+/// The greatest capabilities of counting.
+const HELD: &str = "\
+cheri-sim authority 1
+image harts=2 ram=16 code=2
+states 9 complete
+hart 0
+0000000010000000 00000000010000008 00002 first=-
+hart 1
+0000000010000000 00000000010000008 00002 first=-
+memory
+end
+";
+
+/// Two harts that each add 1 to a number in memory.
+const ADDING: &str = "\
+.ram 16
+.hart 0x10000000 16 0x10000000 execute
+.set c5 cap 0x80000000 16 0x80000000 load+store
+.hart 0x10000000 16 0x10000000 execute
+.set c5 cap 0x80000000 16 0x80000000 load+store
+ld c6, 0(c5)
+addi c6, c6, 1
+sd c6, 0(c5)
+ecall
+";
+
+/// An update is lost in one of three outcomes.
+const ROWS: &str = "\
+cheri-sim outcomes 1
+image harts=2 ram=16 code=4
+states 41 complete
+endless no
+outcomes 3
+shown 3
+0 states=1 0.c6=0x1 mem8[0x80000000]=0x2 order=00001111
+1 states=1 0.c6=0x1 mem8[0x80000000]=0x1 order=00100111
+2 states=1 0.c6=0x2 mem8[0x80000000]=0x2 order=11100001
+end
+";
+
+/// Asks `cheri_explore` about a listing: its status, and both writers.
+fn ask<O: Write + Drop>(
+    alloc: Global,
+    words: &[&str],
+    listing: &str,
+    mut out: O,
+) -> Result<(u8, O, Vec<u8>), Fail> {
+    let words = owned(alloc, words)?;
+    let order = "";
+    let mut files = Folder {
+        alloc,
+        listing,
+        order,
+    };
+    let mut err = Vec::new(alloc);
+    let status = perform(
+        alloc,
+        words.as_slice(),
+        &mut files,
+        &mut NoProgress,
+        &mut out,
+        &mut err,
+    );
+    Ok((status, out, err))
+}
+
+/// Compares a question about a listing with its status and what it writes to standard output and
+/// standard error.
+fn compare<R: Abort + AllocGlobal>(
+    rt: &R,
+    words: &[&str],
+    listing: &str,
+    wanted: (u8, &str, &str),
+) -> Result<(), Fail> {
+    let (status, out, err) = ask(rt.alloc(), words, listing, Vec::new(rt.alloc()))?;
+    let (wanted_status, printed, reported) = wanted;
+    assert_bytes(rt, err.as_slice(), reported, words);
+    assert_bytes(rt, out.as_slice(), printed, words);
+    assert!(rt;
+        status == wanted_status,
+        "the status of {words:?} is {status}"
+    );
+    Ok(())
+}
+
+/// Outcomes are listed or told by items; states are found, or are not there, or are not found in
+/// time; the greatest capabilities are named.
+#[test]
+fn questions_are_answered(rt: HostRuntime) -> Result<(), Fail> {
+    let swept = [
+        "find",
+        "listing",
+        "0.pcc.tag = 0",
+        "--sweep",
+        "0x10000000,0x10000001",
+        "--json",
+    ];
+    let shown = ["outcomes", "listing", "--show", "0.c6,mem8[0x80000000]"];
+    let cut = ["find", "listing", "0.c5 = 2", "--states", "3"];
+    let found = ["find", "listing", "0.c5 = 1 and 1.c5 = 1", "--states", "9"];
+    let rows: [(&[&str], &str, (u8, &str)); 7] = [
+        (&["outcomes", "listing"], COUNTING, (0, LISTED)),
+        (&shown, ADDING, (0, ROWS)),
+        (&found, COUNTING, (0, COUNTED)),
+        (&swept, COUNTING, (0, SWEPT_JSON)),
+        (
+            &["find", "listing", "0.c5 = 2"],
+            COUNTING,
+            (5, "none in 9 states\n"),
+        ),
+        (&cut, COUNTING, (4, "unknown after 3 states\n")),
+        (&["authority", "listing"], COUNTING, (0, HELD)),
+    ];
+    for (words, listing, (status, answer)) in rows {
+        compare(&rt, words, listing, (status, answer, ""))?;
+    }
+    Ok(())
+}
+
+/// Command line, file, listing and condition, or items, are judged in this order.
+#[test]
+fn questions_are_refused(rt: HostRuntime) -> Result<(), Fail> {
+    let rows: [(&[&str], &str, (u8, &str)); 6] = [
+        (
+            &["find", "nothing", "x", "--states", "0"],
+            "",
+            (2, "usage\n"),
+        ),
+        (&["find", "nothing", "x"], "", (3, "cannot read listing\n")),
+        (&["find", "large", "x"], "", (3, "memory\n")),
+        (
+            &["find", "listing", "x"],
+            "walk\n",
+            (1, "listing line 1: 2 Word\n"),
+        ),
+        (
+            &["find", "listing", "0.c5 2"],
+            COUNTING,
+            (1, "bad condition at byte 5\n"),
+        ),
+        (
+            &["outcomes", "listing", "--show", "0.c5,,1.c5"],
+            COUNTING,
+            (1, "bad place at byte 5\n"),
+        ),
+    ];
+    for (words, listing, (status, line)) in rows {
+        compare(&rt, words, listing, (status, "", line))?;
+    }
+    Ok(())
+}
+
+/// Compares a question whose answer `out` does not take.
+fn refuses<O: Write + Drop, R: Abort + AllocGlobal>(
+    rt: &R,
+    words: &[&str],
+    out: O,
+) -> Result<(), Fail> {
+    let (status, _, err) = ask(rt.alloc(), words, COUNTING, out)?;
+    assert_bytes(rt, err.as_slice(), "cannot write\n", words);
+    assert!(rt; status == 3, "the status of {words:?} is {status}");
+    Ok(())
+}
+
+/// Output that is not taken, or not passed on, is reported.
+#[test]
+fn full_questions(rt: HostRuntime) -> Result<(), Fail> {
+    let rows: [&[&str]; 3] = [
+        &["find", "listing", "0.c5 = 1"],
+        &["outcomes", "listing"],
+        &["authority", "listing"],
+    ];
+    for words in rows {
+        refuses(&rt, words, Full)?;
+        refuses(&rt, words, Unflushed)?;
+    }
+    Ok(())
+}
