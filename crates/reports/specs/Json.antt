@@ -1,6 +1,6 @@
 -- The JSON report: one object, whose keys are in byte order at every level.
 use Rattle.std.specs.Prelude.{ℕ, ◌+◌, List, [], ◌∷◌, map, codes, zero, suc}
-use Rattle.serde_json.specs.Data.{Data, string, array, object, Members, no_members, member}
+use Rattle.serde_json.specs.Data.{Data, string, array, object, Members, no_members, member, put}
 use Rattle.serde_json.specs.View.{items_of}
 use Rattle.cheri_model.specs.declared.operation.Event.{Event}
 use Rattle.cheri_model.specs.declared.trace.Status.{Status}
@@ -21,6 +21,14 @@ put_registers hart from zero members = members
 put_registers hart from (suc more) members =
     put_registers hart (from + 1) more
     (put_listed (register_name from) (register hart from) members)
+
+-- the members with how a hart stands, and of one that trapped the trap
+abbrev pub put_status : Status → Members → Members
+put_status status.Running members = put (codes "status") (string (codes "running")) members
+put_status status.Halted members = put (codes "status") (string (codes "halted")) members
+put_status (status.Trapped trap) members =
+    put (codes "status") (string (codes "trapped"))
+    (put (codes "reg") (count trap.reg) (put (codes "cause") (count trap.cause) members))
 
 -- a hart: PCC, the registers c1 to c31 that are not null, and its status
 abbrev pub status_data : Data → Data → Status → Data

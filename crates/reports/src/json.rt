@@ -1,11 +1,11 @@
 //! The JSON report: what the report shows, for scripts.
 
-ghost use Rattle.std.specs.Prelude.{◌≡◌, IfOk, string_bytes};
+ghost use Rattle.std.specs.Prelude.{◌≡◌, IfOk, OnOk, string_bytes};
 ghost use Rattle.hart.specs.View.{state_of};
 ghost use Rattle.reports.specs.Json.{events_data, hart_data, harts_data, json_report};
-ghost use Rattle.reports.specs.Json.{memory_data, put_registers};
+ghost use Rattle.reports.specs.Json.{memory_data, put_registers, put_status};
 ghost use Rattle.serde_json.specs.Data.{no_members, object};
-ghost use Rattle.serde_json.specs.View.{view as data_of};
+ghost use Rattle.serde_json.specs.View.{members_view, view as data_of};
 ghost use Rattle.serde_json.specs.Written.{compact_text};
 
 pub mod pieces;
@@ -15,7 +15,7 @@ use crate::report::version_of;
 use cheri_model::{Event, NoMemory, Reg, Status, Trap};
 use hart::{Hart, View};
 use report_lines::{event_json, image_json, put_granule, put_register, value_json};
-use serde_json::{Map, Value, json};
+use serde_json::{Map, Value, put};
 use std::alloc::Global;
 use tagged_mem::Ram;
 
@@ -41,20 +41,37 @@ fn registers_json(alloc: Global, hart: &Hart) -> Result<Value, NoMemory>
     Ok(Value::Object(members))
 }
 
+/// Puts how a hart stands, and of one that trapped the trap.
+fn put_status(
+    alloc: Global,
+    members: &mut Map<String, Value>,
+    status: Status,
+) -> Result<(), NoMemory>
+    ensures { OnOk result (members_view members.new.entries
+        ≡ put_status status (members_view members.old.entries)) }
+{
+    let word = match status {
+        Status::Running => "running",
+        Status::Halted => "halted",
+        Status::Trapped(Trap { cause, reg }) => {
+            put(members, alloc, "cause", Value::from(cause))?;
+            put(members, alloc, "reg", Value::from(reg))?;
+            "trapped"
+        },
+    };
+    put(members, alloc, "status", Value::try_from_str(alloc, word)?)
+}
+
 /// A hart.
 #[tactic(auto, unfolding(crate::specs::Json::hart_data))]
 fn hart_json(alloc: Global, hart: &Hart) -> Result<Value, NoMemory>
     ensures { IfOk result (λ v. data_of v ≡ hart_data hart.now) }
 {
-    let pcc = value_json(alloc, hart.pcc())?;
-    let regs = registers_json(alloc, hart)?;
-    match hart.status() {
-        Status::Running => json!(in alloc; {"pcc": pcc, "regs": regs, "status": "running"}),
-        Status::Halted => json!(in alloc; {"pcc": pcc, "regs": regs, "status": "halted"}),
-        Status::Trapped(Trap { cause, reg }) => json!(in alloc; {
-            "cause": cause, "pcc": pcc, "reg": reg, "regs": regs, "status": "trapped"
-        }),
-    }
+    let mut members = Map::new(alloc);
+    put(&mut members, alloc, "pcc", value_json(alloc, hart.pcc())?)?;
+    put(&mut members, alloc, "regs", registers_json(alloc, hart)?)?;
+    put_status(alloc, &mut members, hart.status())?;
+    Ok(Value::Object(members))
 }
 
 /// The harts of a state in JSON: a list.
@@ -86,14 +103,19 @@ fn report_value(alloc: Global, view: View<'_>) -> Result<Value, NoMemory>
     ensures { IfOk result (λ v. data_of v
         ≡ json_report view.entry.image.now view.entry.entries.now (state_of view.entry)) }
 {
-    let entries = events_json(alloc, view.entries)?;
-    let harts = harts_json(alloc, view.harts)?;
-    let image = image_json(alloc, view.image)?;
-    let mem = granules_json(alloc, view.ram)?;
+    let mut members = Map::new(alloc);
+    put(
+        &mut members,
+        alloc,
+        "entries",
+        events_json(alloc, view.entries)?,
+    )?;
+    put(&mut members, alloc, "harts", harts_json(alloc, view.harts)?)?;
+    put(&mut members, alloc, "image", image_json(alloc, view.image)?)?;
+    put(&mut members, alloc, "mem", granules_json(alloc, view.ram)?)?;
     let version = version_of(view.entries);
-    json!(in alloc; {
-        "entries": entries, "harts": harts, "image": image, "mem": mem, "report": version
-    })
+    put(&mut members, alloc, "report", Value::from(version))?;
+    Ok(Value::Object(members))
 }
 
 /// The JSON report of what a view shows: compact, with its keys in byte order. Fails only when
