@@ -116,7 +116,7 @@ fn conditions_hold_as_the_model_says(rt: HostRuntime) -> Result<(), Fail> {
     };
     for (text, holds) in ANSWERS {
         let condition = read_condition(rt.alloc(), &image, text)?;
-        assert_eq!(rt; condition.holds(&shown), *holds, "{text:?}");
+        assert!(rt; condition.holds(&shown) == *holds, "{text:?}");
     }
     Ok(())
 }

@@ -1,20 +1,10 @@
-//! Tests of `explanations`, and of positions by `explained_page`, by their public calls alone, as
-//! their users make them.
+//! Tests of `explanations`, and of positions by `explained_page`, by their public calls alone:
+//! sinks that fail, refused texts, positions of a run, and a row for each reason.
 #![tactic(auto)]
 
 #[cfg(test)]
-mod explaining;
-#[cfg(test)]
 mod looking;
 #[cfg(test)]
-mod lost_tags;
-#[cfg(test)]
-mod objects;
-#[cfg(test)]
-mod rows;
-#[cfg(test)]
-mod selecting;
+mod reasons;
 #[cfg(test)]
 mod sinking;
-#[cfg(test)]
-mod trapping;

@@ -1,11 +1,18 @@
 //! Positions of a run, as JSON objects.
 
-use crate::selecting::{MIXED, MIXED_ORDER};
 use cores::StepFault;
 use explained_page::write_look;
 use simulation::SimFault;
 use sinks::{MemSink, WriteFault};
 use std::test::Fail;
+
+/// A tag that is cleared, a copy, a sweep of both, another hart, a trap, and an empty sweep.
+const MIXED: &str = ".hart 0x10000000 12 0x10000000 execute\n\
+.set c5 cap 0x80000000 16 0x80000000 load\n\
+.hart 0x10000000 12 0x10000000 execute\n\
+ccleartag c7, c5\ncmove c6, c5\nld c1, 8(c7)\n";
+
+const MIXED_ORDER: &[u8] = b"order 2\n00[0x80000000,0x80000001]10[0,0]";
 
 /// After two steps, with the step of the other hart.
 const SECOND: &str = "\
@@ -46,11 +53,6 @@ fn positions_are_objects(rt: HostRuntime) -> Result<(), Fail> {
         assert!(rt; result == Ok(None));
         assert!(rt; sink.bytes() == json.as_bytes(), "at {at}");
     }
-    Ok(())
-}
-
-#[test]
-fn a_position_is_of_the_operations_before_a_refused_one(rt: HostRuntime) -> Result<(), Fail> {
     let mut sink = MemSink::new(rt.alloc(), 0, 65_536);
     let result = write_look(rt.alloc(), MIXED.as_bytes(), b"02", 9, 1, 0, &mut sink);
     assert!(rt; result == Ok(Some((1, StepFault::NoSuchHart))));
@@ -62,25 +64,22 @@ fn a_position_is_of_the_operations_before_a_refused_one(rt: HostRuntime) -> Resu
 }
 
 #[test]
-fn no_position_is_written_of_refused_texts(rt: HostRuntime) -> Result<(), Fail> {
+fn no_position_is_written_of_refused_texts_nor_more_than_a_sink_takes(
+    rt: HostRuntime,
+) -> Result<(), Fail> {
     for (listing, order) in [("ecall\n", b"0"), ("nothing\n", b"?"), (MIXED, b"?")] {
         let mut sink = MemSink::new(rt.alloc(), 0, 65_536);
         let result = write_look(rt.alloc(), listing.as_bytes(), order, 0, 0, 9, &mut sink);
         assert!(rt; matches!(result, Err(SimFault::Listing(_) | SimFault::Order(_))));
         assert!(rt; sink.bytes().is_empty());
     }
-    Ok(())
-}
-
-#[test]
-fn a_failed_put_leaves_a_prefix_of_a_position(rt: HostRuntime) -> Result<(), Fail> {
     for fail_at in 1..6 {
         let mut sink = MemSink::new(rt.alloc(), fail_at, 97);
         let listing = MIXED.as_bytes();
         let result = write_look(rt.alloc(), listing, MIXED_ORDER, 6, 1, 0, &mut sink);
         assert!(rt; result == Err(SimFault::Report(WriteFault::Write)));
         assert!(rt; END.as_bytes().starts_with(sink.bytes()));
-        assert_eq!(rt; sink.bytes().len(), 97 * (fail_at as usize - 1));
+        assert!(rt; sink.bytes().len() == 97 * (fail_at as usize - 1));
     }
     Ok(())
 }

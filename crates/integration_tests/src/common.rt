@@ -1,8 +1,10 @@
-//! What several modules of these tests use: images, orders and their events, and a watch that is
-//! asked for until it comes.
+//! What several modules of these tests use: images, orders and their runs, reports, and a
+//! watch that is asked for until it comes.
 
 use cheri_model::{Entry, Event, Image, Op};
-use machine::{Core, Machine, Naming, Watch, WatchFault};
+use hart_step::View;
+use machine::{Core, Machine, Naming, StepFault, Watch, WatchFault, run_order};
+use reports::{MemSink, ReportFault, write_json, write_report};
 use std::alloc::Global;
 use std::process::Abort;
 use std::thread;
@@ -12,18 +14,51 @@ use texts::read_listing;
 pub(crate) const TWO_HARTS: &[u8] = b".hart 0x10000000 16 0x10000000 execute\n\
 .hart 0x10000000 16 0x10000000 execute\naddi c6, c0, 1\necall\n";
 
+/// A step of hart 0.
+pub(crate) const ZERO: Op = Op::Step(0);
+
+/// A step of hart 1.
+pub(crate) const ONE: Op = Op::Step(1);
+
 /// The image of a listing that is known to be good.
 pub(crate) fn image_of(rt: &impl Abort, alloc: Global, listing: &[u8]) -> Image {
     read_listing(alloc, listing).expect(rt, "the listing is good")
 }
 
-/// An order of one step of each of these harts, in turn.
-pub(crate) fn steps_of(rt: &impl Abort, alloc: Global, harts: &[u8]) -> Vec<Op> {
-    let mut order = Vec::new(alloc);
-    for hart in harts {
-        order.push(Op::Step(*hart)).expect(rt, "there is memory");
+/// The core of a listing before its first step, with room for this many entries.
+pub(crate) fn booted(rt: &impl Abort, alloc: Global, listing: &[u8], limit: u32) -> Core {
+    Core::boot(alloc, image_of(rt, alloc, listing), limit).expect(rt, "it boots")
+}
+
+/// The core that an order leaves, and where a step of it is refused.
+pub(crate) fn ran(
+    rt: &impl Abort,
+    alloc: Global,
+    listing: &[u8],
+    order: &[Op],
+    limit: u32,
+) -> (Core, Option<(usize, StepFault)>) {
+    run_order(alloc, image_of(rt, alloc, listing), order, limit).expect(rt, "it boots")
+}
+
+/// The two forms of a report.
+#[derive(Clone, Copy)]
+pub(crate) enum Form {
+    Text,
+    Json,
+}
+
+/// Puts a report of this form on a sink.
+pub(crate) fn put(
+    alloc: Global,
+    view: View<'_>,
+    form: Form,
+    sink: &mut MemSink,
+) -> Result<(), ReportFault> {
+    match form {
+        Form::Text => write_report(alloc, view, sink),
+        Form::Json => write_json(alloc, view, sink),
     }
-    order
 }
 
 /// The operation of an event.

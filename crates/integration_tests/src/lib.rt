@@ -19,6 +19,4 @@ mod sweeps;
 #[cfg(test)]
 mod watches;
 #[cfg(test)]
-mod words;
-#[cfg(test)]
 mod writing;

@@ -6,15 +6,15 @@
 //! `.ci/refuse` runs each test whose name begins with `refused_` under an allocator that refuses
 //! its N-th allocation, for N = 1, 2, .. until there are no more. It sets the variable `REFUSE`.
 
-use crate::common::entry_at;
-use cheri_model::{Image, Op, Outcome, Status};
+use crate::common::{Form, ZERO, entry_at, put};
+use cheri_model::{Image, Outcome, Status};
+use hart_step::View;
 use machine::{BootFault, Core, SimFault, run_order, simulate};
-use reports::{MemSink, ReportFault, report_json, write_json, write_report};
+use reports::{MemSink, ReportFault, report_json};
 use samples::{FIRST, FIRST_JSON, FIRST_REPORT};
 use std::alloc::Global;
 use std::process::Abort;
 use std::rt::Env;
-use std::test::Fail;
 use tagged_mem::{MemFault, Ram};
 use texts::{OrderFaultKind, read_listing, read_order, write_listing};
 
@@ -36,8 +36,8 @@ pub(crate) fn first_image(rt: &(impl Abort + Env), alloc: Global) -> Image {
         Ok(image) => image,
         Err(fault) => {
             assert_may_refuse(rt);
-            assert_eq!(rt; fault.line, 0);
-            assert_eq!(rt; fault.kind.number(), LISTING_NO_MEMORY);
+            assert!(rt; fault.line == 0);
+            assert!(rt; fault.kind.number() == LISTING_NO_MEMORY);
             read_listing(alloc, FIRST.as_bytes()).expect(rt, "it is read once more")
         }
     }
@@ -45,7 +45,7 @@ pub(crate) fn first_image(rt: &(impl Abort + Env), alloc: Global) -> Image {
 
 /// The core after hart 0's four steps.
 fn first_core(rt: &(impl Abort + Env), alloc: Global) -> Core {
-    let order = [Op::Step(0); 4];
+    let order = [ZERO; 4];
     let (core, refused) = match run_order(alloc, first_image(rt, alloc), &order, 100_000) {
         Ok(ran) => ran,
         Err(fault) => {
@@ -60,16 +60,15 @@ fn first_core(rt: &(impl Abort + Env), alloc: Global) -> Core {
 }
 
 #[test]
-fn refused_read_listing(rt: HostRuntime) -> Result<(), Fail> {
+fn refused_read_listing(rt: HostRuntime) {
     let image = first_image(&rt, rt.alloc());
-    assert_eq!(rt; image.harts().len(), 2);
-    assert_eq!(rt; image.program().len(), 4);
-    assert_eq!(rt; image.ram(), 4096);
-    Ok(())
+    assert!(rt; image.harts().len() == 2);
+    assert!(rt; image.program().len() == 4);
+    assert!(rt; image.ram() == 4096);
 }
 
 #[test]
-fn refused_write_listing(rt: HostRuntime) -> Result<(), Fail> {
+fn refused_write_listing(rt: HostRuntime) {
     let image = first_image(&rt, rt.alloc());
     let text = match write_listing(rt.alloc(), &image) {
         Ok(text) => text,
@@ -78,27 +77,25 @@ fn refused_write_listing(rt: HostRuntime) -> Result<(), Fail> {
             write_listing(rt.alloc(), &image).expect(&rt, "it is written once more")
         }
     };
-    assert_eq!(rt; text.strip_prefix(".ram 4096\n"), Some(FIRST));
-    Ok(())
+    assert!(rt; text.strip_prefix(".ram 4096\n") == Some(FIRST));
 }
 
 #[test]
-fn refused_read_order(rt: HostRuntime) -> Result<(), Fail> {
+fn refused_read_order(rt: HostRuntime) {
     let order = match read_order(rt.alloc(), b"0000") {
         Ok(order) => order,
         Err(fault) => {
             assert_may_refuse(&rt);
-            assert_eq!(rt; fault.offset, 0);
+            assert!(rt; fault.offset == 0);
             assert!(rt; fault.kind == OrderFaultKind::NoMemory);
             read_order(rt.alloc(), b"0000").expect(&rt, "it is read once more")
         }
     };
-    assert!(rt; order.as_slice() == [Op::Step(0); 4].as_slice());
-    Ok(())
+    assert!(rt; order.as_slice() == [ZERO; 4].as_slice());
 }
 
 #[test]
-fn refused_ram_new(rt: HostRuntime) -> Result<(), Fail> {
+fn refused_ram_new(rt: HostRuntime) {
     let ram = match Ram::new(rt.alloc(), 16) {
         Ok(ram) => ram,
         Err(fault) => {
@@ -107,46 +104,68 @@ fn refused_ram_new(rt: HostRuntime) -> Result<(), Fail> {
             Ram::new(rt.alloc(), 16).expect(&rt, "it is made once more")
         }
     };
-    assert_eq!(rt; ram.granule_count(), 1);
+    assert!(rt; ram.granule_count() == 1);
     assert!(rt; !ram.granule(0).tag());
-    assert_eq!(rt; ram.granule(0).bits(), 0);
-    Ok(())
+    assert!(rt; ram.granule(0).bits() == 0);
 }
 
 #[test]
-fn refused_run_order(rt: HostRuntime) -> Result<(), Fail> {
+fn refused_run_order(rt: HostRuntime) {
     let core = first_core(&rt, rt.alloc());
     let view = core.view();
-    assert_eq!(rt; view.entries.len(), 4);
+    assert!(rt; view.entries.len() == 4);
     let last = entry_at(&rt, view.entries, 3);
-    assert_eq!(rt; last.pc, 0x1000_000C);
+    assert!(rt; last.pc == 0x1000_000C);
     assert!(rt; last.outcome == Outcome::Halt);
-    assert_eq!(rt; view.harts.len(), 2);
+    assert!(rt; view.harts.len() == 2);
     assert!(rt; view.harts[0].status() == Status::Halted);
     assert!(rt; view.harts[1].status() == Status::Running);
-    Ok(())
 }
 
-#[test]
-fn refused_write_report(rt: HostRuntime) -> Result<(), Fail> {
-    let core = first_core(&rt, rt.alloc());
-    let mut sink = MemSink::new(rt.alloc(), 0, 7);
-    match write_report(rt.alloc(), core.view(), &mut sink) {
-        Ok(()) => assert!(rt; sink.bytes() == FIRST_REPORT),
-        // a put that finds no memory fails
+/// Whether a report of this form is put whole on a sink that takes seven bytes at a time, where
+/// memory may be refused: then a prefix of it is. A put that finds no memory fails.
+fn is_put(rt: &(impl Abort + Env), alloc: Global, view: View<'_>, form: Form) -> bool {
+    let report = match form {
+        Form::Text => FIRST_REPORT,
+        Form::Json => FIRST_JSON.as_bytes(),
+    };
+    let mut sink = MemSink::new(alloc, 0, 7);
+    match put(alloc, view, form, &mut sink) {
+        Ok(()) => {
+            assert!(rt; sink.bytes() == report);
+            true
+        }
         Err(ReportFault::Write | ReportFault::NoMemory) => {
-            assert_may_refuse(&rt);
-            assert!(rt; FIRST_REPORT.starts_with(sink.bytes()));
-            let mut again = MemSink::new(rt.alloc(), 0, 7);
-            assert!(rt; write_report(rt.alloc(), core.view(), &mut again) == Ok(()));
-            assert!(rt; again.bytes() == FIRST_REPORT);
+            assert_may_refuse(rt);
+            assert!(rt; report.starts_with(sink.bytes()));
+            false
         }
     }
-    Ok(())
+}
+
+/// Puts a report of this form of the first worked run, once more where it is refused memory.
+fn assert_put(rt: &(impl Abort + Env), alloc: Global, form: Form) {
+    let core = first_core(rt, alloc);
+    if !is_put(rt, alloc, core.view(), form) {
+        assert!(rt;
+            is_put(rt, alloc, core.view(), form),
+            "it is written once more"
+        );
+    }
 }
 
 #[test]
-fn refused_report_json(rt: HostRuntime) -> Result<(), Fail> {
+fn refused_write_report(rt: HostRuntime) {
+    assert_put(&rt, rt.alloc(), Form::Text);
+}
+
+#[test]
+fn refused_write_json(rt: HostRuntime) {
+    assert_put(&rt, rt.alloc(), Form::Json);
+}
+
+#[test]
+fn refused_report_json(rt: HostRuntime) {
     let core = first_core(&rt, rt.alloc());
     let text = match report_json(rt.alloc(), core.view()) {
         Ok(text) => text,
@@ -155,48 +174,33 @@ fn refused_report_json(rt: HostRuntime) -> Result<(), Fail> {
             report_json(rt.alloc(), core.view()).expect(&rt, "it is made once more")
         }
     };
-    assert_eq!(rt; text.as_str(), FIRST_JSON);
-    Ok(())
+    assert!(rt; text.as_str() == FIRST_JSON);
 }
 
-#[test]
-fn refused_write_json(rt: HostRuntime) -> Result<(), Fail> {
-    let core = first_core(&rt, rt.alloc());
-    let mut sink = MemSink::new(rt.alloc(), 0, 7);
-    match write_json(rt.alloc(), core.view(), &mut sink) {
-        Ok(()) => assert!(rt; sink.bytes() == FIRST_JSON.as_bytes()),
-        // a put that finds no memory fails
-        Err(ReportFault::Write | ReportFault::NoMemory) => {
-            assert_may_refuse(&rt);
-            assert!(rt; FIRST_JSON.as_bytes().starts_with(sink.bytes()));
-            let mut again = MemSink::new(rt.alloc(), 0, 7);
-            assert!(rt; write_json(rt.alloc(), core.view(), &mut again) == Ok(()));
-            assert!(rt; again.bytes() == FIRST_JSON.as_bytes());
-        }
-    }
-    Ok(())
-}
-
-#[test]
-fn refused_simulate(rt: HostRuntime) -> Result<(), Fail> {
-    let listing = FIRST.as_bytes();
-    let mut sink = MemSink::new(rt.alloc(), 0, 4096);
-    match simulate(rt.alloc(), listing, b"0000", 100_000, &mut sink) {
+/// Whether the first worked run is simulated, where memory may be refused: then a prefix of its
+/// report is put.
+fn is_simulated(rt: &(impl Abort + Env), alloc: Global) -> bool {
+    let mut sink = MemSink::new(alloc, 0, 4096);
+    match simulate(alloc, FIRST.as_bytes(), b"0000", 100_000, &mut sink) {
         Ok(refused) => {
             assert!(rt; refused.is_none());
             assert!(rt; sink.bytes() == FIRST_REPORT);
+            true
         }
         Err(fault) => {
-            assert_may_refuse(&rt);
+            assert_may_refuse(rt);
             assert!(rt; is_out_of_memory(fault));
             assert!(rt; FIRST_REPORT.starts_with(sink.bytes()));
-            let mut again = MemSink::new(rt.alloc(), 0, 4096);
-            let ran = simulate(rt.alloc(), listing, b"0000", 100_000, &mut again);
-            assert!(rt; ran.expect(&rt, "it is simulated once more").is_none());
-            assert!(rt; again.bytes() == FIRST_REPORT);
+            false
         }
     }
-    Ok(())
+}
+
+#[test]
+fn refused_simulate(rt: HostRuntime) {
+    if !is_simulated(&rt, rt.alloc()) {
+        assert!(rt; is_simulated(&rt, rt.alloc()), "it is simulated once more");
+    }
 }
 
 /// Whether good texts can be refused so: when out of memory, for which a put fails, too.

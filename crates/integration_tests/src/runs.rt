@@ -1,94 +1,84 @@
-//! Runs of orders: a full trace, refused steps by number and name, and PCC at the end of its bounds
-//! and of the code.
+//! Runs of orders: refused steps, by number and name, limits, a copy, and PCC at the end of its
+//! bounds and of the code.
 
-use crate::common::{TWO_HARTS, entry_at, image_of, steps_of};
-use cap_ops::Cap;
-use cheri_model::{HartImage, Image, Instr, Outcome, Perms, Reg, Trap, Value};
-use machine::{BootFault, Core, GREATEST_TRACE_LIMIT, StepFault, run_order};
+use crate::common::{ONE, TWO_HARTS, ZERO, entry_at, image_of, ran};
+use cheri_model::{Op, Outcome, Trap};
+use machine::{BootFault, Core, GREATEST_TRACE_LIMIT, StepFault};
 use samples::FIRST;
 use std::alloc::Global;
+use std::fmt::Display;
 use std::process::Abort;
-use std::test::Fail;
 
-/// The image of one instruction, `addi c6, c0, 1`, and one hart whose PCC reaches this many bytes
-/// from it on.
-fn one_instruction(rt: &impl Abort, alloc: Global, reach: u128) -> Result<Image, Fail> {
-    let perms = Perms::EXECUTE;
-    let pcc = Cap::make(0x1000_0000, reach, 0x1000_0000, perms).expect(rt, "PCC can be made");
-    let hart = HartImage {
-        pcc: pcc.value(),
-        regs: [Value::raw(0); 31],
-    };
-    let instruction = Instr::Addi {
-        cd: Reg::new(6),
-        c1: Reg::new(0),
-        imm: 1,
-    };
-    let program = vec![in alloc; instruction]?;
-    let harts = vec![in alloc; hart]?;
-    let image = Image::new(program, 16, Vec::new(alloc), harts);
-    Ok(image.expect(rt, "the parts make an image"))
-}
-
-/// Runs an order of which a step is refused: the place of that step in the order, and its fault's
-/// text.
-fn assert_refused(
+/// How many steps of an order are taken, and where one is refused.
+fn end_of(
     rt: &impl Abort,
     alloc: Global,
-    image: Image,
-    order: &[u8],
+    listing: &[u8],
+    order: &[Op],
     limit: u32,
-    (place, text): (usize, &str),
-) -> Result<(), Fail> {
-    let order = steps_of(rt, alloc, order);
-    let ran = run_order(alloc, image, order.as_slice(), limit);
-    let (core, refused) = ran.expect(rt, "it boots");
-    let (at, fault) = refused.ok_or("no step is refused")?;
-    let printed = format!(in alloc; "{fault}")?;
-    assert_eq!(rt; at, place);
-    assert_eq!(rt; printed.as_str(), text);
-    assert_eq!(rt; core.view().entries.len(), place);
-    Ok(())
+) -> (usize, Option<(usize, StepFault)>) {
+    let (core, refused) = ran(rt, alloc, listing, order, limit);
+    (core.view().entries.len(), refused)
 }
 
 #[test]
-fn orders_are_refused_where_a_step_is(rt: HostRuntime) -> Result<(), Fail> {
-    let refusals: [(&[u8], u32, usize, &str); 5] = [
-        (&[0, 2], 100, 1, "1 NoSuchHart"),
-        (&[0, 255], 1, 1, "1 NoSuchHart"),
-        (&[0, 1], 1, 1, "2 TraceFull"),
-        (&[0, 0, 0], 2, 2, "2 TraceFull"),
-        (&[0, 0, 0], 3, 2, "3 HartStopped"),
+fn orders_are_refused_where_a_step_is(rt: HostRuntime) {
+    let first = FIRST.as_bytes();
+    let orders: [(&[u8], &[Op], u32, usize, Option<StepFault>); 9] = [
+        (
+            TWO_HARTS,
+            &[ZERO, Op::Step(2)],
+            100,
+            1,
+            Some(StepFault::NoSuchHart),
+        ),
+        (
+            TWO_HARTS,
+            &[ZERO, Op::Step(255)],
+            1,
+            1,
+            Some(StepFault::NoSuchHart),
+        ),
+        (TWO_HARTS, &[ZERO, ONE], 1, 1, Some(StepFault::TraceFull)),
+        (TWO_HARTS, &[ZERO; 3], 2, 2, Some(StepFault::TraceFull)),
+        (TWO_HARTS, &[ZERO; 3], 3, 2, Some(StepFault::HartStopped)),
+        (TWO_HARTS, &[ZERO, ONE, ONE, ZERO], 4, 4, None),
+        (first, &[ZERO; 5], 100_000, 4, Some(StepFault::HartStopped)),
+        (
+            first,
+            &[ZERO, Op::Step(2)],
+            100_000,
+            1,
+            Some(StepFault::NoSuchHart),
+        ),
+        (first, &[ZERO; 2], 1, 1, Some(StepFault::TraceFull)),
     ];
-    for (order, limit, place, text) in refusals {
-        let image = image_of(&rt, rt.alloc(), TWO_HARTS);
-        assert_refused(&rt, rt.alloc(), image, order, limit, (place, text))?;
+    for (listing, order, limit, taken, fault) in orders {
+        let (steps, refused) = end_of(&rt, rt.alloc(), listing, order, limit);
+        let expected = match fault {
+            Some(fault) => Some((taken, fault)),
+            None => None,
+        };
+        assert!(rt;
+            steps == taken && refused == expected,
+            "{taken} steps, limit {limit}"
+        );
     }
-    let image = image_of(&rt, rt.alloc(), TWO_HARTS);
-    let order = steps_of(&rt, rt.alloc(), &[0, 1, 1, 0]);
-    let ran = run_order(rt.alloc(), image, order.as_slice(), 4);
-    let (core, refused) = ran.expect(&rt, "it boots");
-    assert!(rt; refused.is_none());
-    assert_eq!(rt; core.view().entries.len(), 4);
-    Ok(())
+}
+
+/// Whether a fault is printed so.
+fn is_printed(rt: &impl Abort, alloc: Global, fault: &impl Display, text: &str) -> bool {
+    let printed = format!(in alloc; "{fault}").expect(rt, "there is memory");
+    printed.as_str() == text
+}
+
+/// Why no core is booted with this limit.
+fn boot_fault(rt: &impl Abort, alloc: Global, limit: u32) -> Option<BootFault> {
+    Core::boot(alloc, image_of(rt, alloc, TWO_HARTS), limit).err()
 }
 
 #[test]
-fn a_first_run_ends_where_a_step_is_refused(rt: HostRuntime) -> Result<(), Fail> {
-    let refusals: [(&[u8], u32, usize, &str); 3] = [
-        (&[0, 0, 0, 0, 0], 100_000, 4, "3 HartStopped"),
-        (&[0, 2], 100_000, 1, "1 NoSuchHart"),
-        (&[0, 0], 1, 1, "2 TraceFull"),
-    ];
-    for (order, limit, place, text) in refusals {
-        let image = image_of(&rt, rt.alloc(), FIRST.as_bytes());
-        assert_refused(&rt, rt.alloc(), image, order, limit, (place, text))?;
-    }
-    Ok(())
-}
-
-#[test]
-fn refusals_have_numbers_and_names(rt: HostRuntime) -> Result<(), Fail> {
+fn refusals_have_numbers_and_names(rt: HostRuntime) {
     let steps = [
         (StepFault::NoSuchHart, 1, "1 NoSuchHart"),
         (StepFault::TraceFull, 2, "2 TraceFull"),
@@ -97,74 +87,93 @@ fn refusals_have_numbers_and_names(rt: HostRuntime) -> Result<(), Fail> {
         (StepFault::BadRange, 5, "5 BadRange"),
     ];
     for (fault, number, text) in steps {
-        let printed = format!(in rt.alloc(); "{fault}")?;
-        assert_eq!(rt; fault.number(), number);
-        assert_eq!(rt; printed.as_str(), text);
+        assert!(rt; fault.number() == number, "{text}");
+        assert!(rt; is_printed(&rt, rt.alloc(), &fault, text), "{text}");
     }
     let boots = [
         (BootFault::Limit, 1, "1 Limit"),
         (BootFault::NoMemory, 2, "2 NoMemory"),
     ];
     for (fault, number, text) in boots {
-        let printed = format!(in rt.alloc(); "{fault}")?;
-        assert_eq!(rt; fault.number(), number);
-        assert_eq!(rt; printed.as_str(), text);
+        assert!(rt; fault.number() == number, "{text}");
+        assert!(rt; is_printed(&rt, rt.alloc(), &fault, text), "{text}");
     }
-    Ok(())
 }
 
 #[test]
-fn limits_are_from_one_to_a_hundred_thousand(rt: HostRuntime) -> Result<(), Fail> {
-    assert_eq!(rt; GREATEST_TRACE_LIMIT, 100_000);
-    for (limit, lawful) in [
-        (0, false),
-        (1, true),
-        (99_999, true),
-        (100_000, true),
-        (100_001, false),
-    ] {
-        let booted = Core::boot(rt.alloc(), image_of(&rt, rt.alloc(), TWO_HARTS), limit);
-        let refused = matches!(booted, Err(BootFault::Limit));
-        assert_eq!(rt; refused, !lawful, "limit {limit}");
-        assert_eq!(rt; booted.is_ok(), lawful, "limit {limit}");
+fn limits_are_from_one_to_a_hundred_thousand(rt: HostRuntime) {
+    assert!(rt; GREATEST_TRACE_LIMIT == 100_000);
+    let limits = [
+        (0, Some(BootFault::Limit)),
+        (1, None),
+        (99_999, None),
+        (100_000, None),
+        (100_001, Some(BootFault::Limit)),
+    ];
+    for (limit, fault) in limits {
+        assert!(rt;
+            boot_fault(&rt, rt.alloc(), limit) == fault,
+            "limit {limit}"
+        );
     }
-    Ok(())
+}
+
+/// Steps these harts in turn, each of which is taken or refused so, and answers how many entries
+/// there are then.
+fn entries_after(rt: &impl Abort, core: &mut Core, steps: &[(u8, Option<StepFault>)]) -> usize {
+    for (hart, fault) in steps {
+        assert!(rt; core.step(*hart).err() == *fault);
+    }
+    core.view().entries.len()
+}
+
+/// The core of the two harts after a step of hart 1, with room for three entries.
+fn core_after_one(rt: &impl Abort, alloc: Global) -> Core {
+    ran(rt, alloc, TWO_HARTS, &[ONE], 3).0
 }
 
 #[test]
-fn a_copy_steps_by_itself(rt: HostRuntime) -> Result<(), Fail> {
-    let image = image_of(&rt, rt.alloc(), TWO_HARTS);
-    let order = steps_of(&rt, rt.alloc(), &[1]);
-    let ran = run_order(rt.alloc(), image, order.as_slice(), 3);
-    let (mut core, _) = ran.expect(&rt, "it boots");
-    let mut copy = core.copy(rt.alloc())?;
+fn a_copy_steps_by_itself(rt: HostRuntime) {
+    let mut core = core_after_one(&rt, rt.alloc());
+    let mut copy = core.copy(rt.alloc()).expect(&rt, "there is memory");
     assert!(rt; copy.view().entries == core.view().entries);
-    assert!(rt; core.step(0).is_ok());
-    assert_eq!(rt; core.view().entries.len(), 2);
-    assert_eq!(rt; copy.view().entries.len(), 1);
-    assert!(rt; copy.step(1).is_ok());
-    assert!(rt; copy.step(1) == Err(StepFault::HartStopped));
-    assert!(rt; copy.step(0).is_ok());
-    assert!(rt; copy.step(0) == Err(StepFault::TraceFull));
-    Ok(())
+    assert!(rt; entries_after(&rt, &mut core, &[(0, None)]) == 2);
+    let steps = [
+        (1, None),
+        (1, Some(StepFault::HartStopped)),
+        (0, None),
+        (0, Some(StepFault::TraceFull)),
+    ];
+    assert!(rt; copy.view().entries.len() == 1);
+    assert!(rt; entries_after(&rt, &mut copy, &steps) == 3);
+}
+
+/// One instruction, and a hart whose PCC reaches just that.
+const BOUNDS_END: &[u8] = b".ram 16\n.hart 0x10000000 4 0x10000000 execute\naddi c6, c0, 1\n";
+
+/// The same, where PCC reaches four bytes more.
+const CODE_ENDS: &[u8] = b".ram 16\n.hart 0x10000000 8 0x10000000 execute\naddi c6, c0, 1\n";
+
+/// The outcomes of two steps of a listing's hart 0, after which a third is refused.
+fn two_outcomes(rt: &impl Abort, alloc: Global, listing: &[u8]) -> [Outcome; 2] {
+    let (core, refused) = ran(rt, alloc, listing, &[ZERO; 3], 100);
+    assert!(rt; refused == Some((2, StepFault::HartStopped)));
+    let entries = core.view().entries;
+    assert!(rt; entries.len() == 2);
+    [
+        entry_at(rt, entries, 0).outcome,
+        entry_at(rt, entries, 1).outcome,
+    ]
 }
 
 #[test]
-fn pcc_ends_with_its_bounds_and_with_the_code(rt: HostRuntime) -> Result<(), Fail> {
-    for (reach, cause) in [(4, Trap::LENGTH), (8, Trap::FETCH)] {
-        let image = one_instruction(&rt, rt.alloc(), reach)?;
-        let order = steps_of(&rt, rt.alloc(), &[0, 0, 0]);
-        let ran = run_order(rt.alloc(), image, order.as_slice(), 100);
-        let (core, refused) = ran.expect(&rt, "it boots");
-        let entries = core.view().entries;
+fn pcc_ends_with_its_bounds_and_with_the_code(rt: HostRuntime) {
+    for (listing, cause) in [(BOUNDS_END, Trap::LENGTH), (CODE_ENDS, Trap::FETCH)] {
         let trap = Trap {
             cause,
             reg: Trap::PCC,
         };
-        assert_eq!(rt; entries.len(), 2);
-        assert!(rt; entry_at(&rt, entries, 0).outcome == Outcome::Done);
-        assert!(rt; entry_at(&rt, entries, 1).outcome == Outcome::Trap(trap));
-        assert!(rt; refused == Some((2, StepFault::HartStopped)));
+        let outcomes = two_outcomes(&rt, rt.alloc(), listing);
+        assert!(rt; outcomes == [Outcome::Done, Outcome::Trap(trap)]);
     }
-    Ok(())
 }

@@ -2,85 +2,83 @@
 
 ghost use Rattle.std.specs.Prelude.{◌≡◌};
 
-use crate::common::{entry_at, image_of, watch_of};
+use crate::common::{booted, image_of, operation_of, watch_of};
+use cheri_model::Op;
 use machine::{Blanks, Core, Look, Machine, Naming, Watch, WatchFault};
 use samples::FIRST;
 use std::alloc::Global;
 use std::marker::Brand;
 use std::process::Abort;
 use std::sync::Wait;
-use std::test::Fail;
 use std::thread;
 
 /// How often a look is tried.
 const TRIES: u32 = 1_000_000;
 
-#[test]
-fn a_watch_that_learnt_of_a_step_sees_it(rt: HostRuntime) -> Result<(), Fail> {
-    let image = image_of(&rt, rt.alloc(), FIRST.as_bytes());
-    let image = image.copy(rt.alloc()).expect(&rt, "the image is copied");
-    let core = Core::boot(rt.alloc(), image, 100).expect(&rt, "it boots");
-    let core = core.copy(rt.alloc()).expect(&rt, "the core is copied");
-    let ram = core
-        .view()
-        .ram
-        .copy(rt.alloc())
-        .expect(&rt, "the memory is copied");
-    assert!(rt; ram.granule_count() == 256);
-    watched::<Brand, _>(&rt, rt.alloc(), core, Blanks::new())
+/// The core of the first listing, by copies of its image and of itself.
+fn copied_core(rt: &impl Abort, alloc: Global) -> Core {
+    let image = image_of(rt, alloc, FIRST.as_bytes());
+    let image = image.copy(alloc).expect(rt, "the image is copied");
+    let core = Core::boot(alloc, image, 100).expect(rt, "it boots");
+    core.copy(alloc).expect(rt, "the core is copied")
 }
 
-/// A watch of a machine; a step of hart 1; the watch learns of it, and looks.
-fn watched<J: Naming, R: Wait + Abort>(
-    rt: &R,
-    alloc: Global,
-    core: Core,
-    blanks: Blanks,
-) -> Result<(), Fail>
+/// How many granules a copy of a core's memory has.
+fn copied_granules(rt: &impl Abort, alloc: Global, core: &Core) -> usize {
+    let ram = core.view().ram.copy(alloc);
+    ram.expect(rt, "the memory is copied").granule_count()
+}
+
+#[test]
+fn a_watch_that_learnt_of_a_step_sees_it(rt: HostRuntime) {
+    let core = copied_core(&rt, rt.alloc());
+    assert!(rt; copied_granules(&rt, rt.alloc(), &core) == 256);
+    watched::<Brand, _>(&rt, rt.alloc(), core, Blanks::new());
+}
+
+/// A look at a machine whose trace has just so many steps, all of this hart.
+pub(crate) fn seen<J: Naming>(
+    rt: &impl Abort,
+    watch: Watch<J>,
+    hart: u8,
+    steps: usize,
+) -> Watch<J> {
+    let look = looked(watch).expect(rt, "a look shows the machine");
+    let entries = look.core().view().entries;
+    assert!(rt; entries.len() == steps);
+    for event in entries {
+        assert!(rt; operation_of(event) == Op::Step(hart));
+    }
+    look.end()
+}
+
+/// A watch of a machine; a step of hart 1; the watch learns of it, and looks twice.
+fn watched<J: Naming, R: Wait + Abort>(rt: &R, alloc: Global, core: Core, blanks: Blanks)
     requires names { blanks ≡ J.names }
     requires image { core.image ≡ J.image }
 {
-    let Ok((mut machine, mut shares)) = Machine::<J>::open(alloc, core, blanks) else {
-        return Err(Fail::from("the machine opens"));
-    };
+    let (mut machine, mut shares) = Machine::<J>::open(alloc, core, blanks).expect(rt, "it opens");
     let watch = watch_of(&mut machine).expect(rt, "there is a place");
-    assert_eq!(rt; shares.len(), 2);
-    let stepped = machine.step(rt, &mut shares[1]);
-    let receipt = machine.receipt();
-    let look = looked(watch.learn(receipt)).expect(rt, "one of the looks shows the machine");
-    let entries = look.core().view().entries;
-    assert_eq!(rt; entries.len(), 1);
-    assert_eq!(rt; entry_at(rt, entries, 0).hart, 1);
-    let watch = look.end();
-    assert!(rt; stepped.is_ok());
-    let again = looked(watch).expect(rt, "the watch looks again");
-    assert_eq!(rt; again.core().view().entries.len(), 1);
-    drop(again);
+    assert!(rt; shares.len() == 2);
+    assert!(rt; machine.step(rt, &mut shares[1]).is_ok());
+    let watch = seen(rt, watch.learn(machine.receipt()), 1, 1);
+    drop(seen(rt, watch, 1, 1));
     let core = machine.close(rt, shares);
-    assert_eq!(rt; core.view().entries.len(), 1);
-    Ok(())
+    assert!(rt; core.view().entries.len() == 1);
 }
 
 #[test]
-fn two_watches_look_at_once(rt: HostRuntime) -> Result<(), Fail> {
-    let image = image_of(&rt, rt.alloc(), FIRST.as_bytes());
-    let core = Core::boot(rt.alloc(), image, 100).expect(&rt, "it boots");
-    looked_twice::<Brand, _>(&rt, rt.alloc(), core, Blanks::new())
+fn two_watches_look_at_once(rt: HostRuntime) {
+    let core = booted(&rt, rt.alloc(), FIRST.as_bytes(), 100);
+    looked_twice::<Brand, _>(&rt, rt.alloc(), core, Blanks::new());
 }
 
 /// Keeps the look of one watch until another watch looks, too.
-fn looked_twice<J: Naming, R: Wait + Abort>(
-    rt: &R,
-    alloc: Global,
-    core: Core,
-    blanks: Blanks,
-) -> Result<(), Fail>
+fn looked_twice<J: Naming, R: Wait + Abort>(rt: &R, alloc: Global, core: Core, blanks: Blanks)
     requires names { blanks ≡ J.names }
     requires image { core.image ≡ J.image }
 {
-    let Ok((mut machine, shares)) = Machine::<J>::open(alloc, core, blanks) else {
-        return Err(Fail::from("the machine opens"));
-    };
+    let (mut machine, shares) = Machine::<J>::open(alloc, core, blanks).expect(rt, "it opens");
     let first = watch_of(&mut machine).expect(rt, "there is a place");
     let second = watch_of(&mut machine).expect(rt, "there is another place");
     let kept = looked(first).expect(rt, "one of the looks shows the machine");
@@ -90,34 +88,26 @@ fn looked_twice<J: Naming, R: Wait + Abort>(
     drop(other);
     drop(kept);
     let _core = machine.close(rt, shares);
-    Ok(())
 }
 
 #[test]
-fn there_are_eight_places(rt: HostRuntime) -> Result<(), Fail> {
-    let image = image_of(&rt, rt.alloc(), FIRST.as_bytes());
-    let core = Core::boot(rt.alloc(), image, 100).expect(&rt, "it boots");
-    watched_by_eight::<Brand, _>(&rt, rt.alloc(), core, Blanks::new())
+fn there_are_eight_places(rt: HostRuntime) {
+    let core = booted(&rt, rt.alloc(), FIRST.as_bytes(), 100);
+    watched_by_eight::<Brand, _>(&rt, rt.alloc(), core, Blanks::new());
 }
 
 /// Takes all eight places, each of which looks, and gives one back.
-fn watched_by_eight<J: Naming, R: Wait + Abort>(
-    rt: &R,
-    alloc: Global,
-    core: Core,
-    blanks: Blanks,
-) -> Result<(), Fail>
+fn watched_by_eight<J: Naming, R: Wait + Abort>(rt: &R, alloc: Global, core: Core, blanks: Blanks)
     requires names { blanks ≡ J.names }
     requires image { core.image ≡ J.image }
 {
-    let Ok((mut machine, shares)) = Machine::<J>::open(alloc, core, blanks) else {
-        return Err(Fail::from("the machine opens"));
-    };
+    let (mut machine, shares) = Machine::<J>::open(alloc, core, blanks).expect(rt, "it opens");
     let mut watches = Vec::new(alloc);
     for _ in 0..8 {
         let watch = machine.watch().expect(rt, "there is a place");
-        let look = looked(watch).expect(rt, "each of the eight looks");
-        watches.push(look.end()).expect(rt, "there is memory");
+        watches
+            .push(seen(rt, watch, 0, 0))
+            .expect(rt, "there is memory");
     }
     for _ in 0..8 {
         assert!(rt; machine.watch().err() == Some(WatchFault::NoPlace));
@@ -126,10 +116,9 @@ fn watched_by_eight<J: Naming, R: Wait + Abort>(
             .push(machine.watch().expect(rt, "a place was given back"))
             .expect(rt, "there is memory");
     }
-    assert_eq!(rt; watches.len(), 8);
+    assert!(rt; watches.len() == 8);
     drop(watches);
     let _core = machine.close(rt, shares);
-    Ok(())
 }
 
 /// A look of a watch, tried again while there is none.

@@ -2,10 +2,12 @@
 
 mod alike;
 
+use crate::common::image_of;
+use alike::{HEAD, SPELLINGS, TAIL};
 use samples::FIRST;
 use std::alloc::Global;
-use std::test::Fail;
-use texts::{read_listing, write_listing};
+use std::process::Abort;
+use texts::write_listing;
 
 /// Each instruction once, as a canonical listing has it.
 const EACH_INSTRUCTION: &str = "\
@@ -146,30 +148,47 @@ const CANONICAL: &str = "\
     ecall\n\
     ";
 
-/// A listing read and written back.
-fn written(alloc: Global, text: &str) -> Result<String, Fail> {
-    let image = read_listing(alloc, text.as_bytes())?;
-    Ok(write_listing(alloc, &image)?)
-}
-
-#[test]
-fn canonical_listings_are_written_back(rt: HostRuntime) -> Result<(), Fail> {
-    let alloc = rt.alloc();
-    for (text, ram) in [
-        (FIRST, ".ram 4096\n"),
-        (EACH_INSTRUCTION, ".ram 4096\n"),
-        (CANONICAL, ""),
-    ] {
-        let got = written(alloc, text)?;
-        let want = format!(in alloc; "{ram}{text}")?;
-        assert_eq!(&rt; got.as_str(), want.as_str());
+/// Whether a listing is written back as the canonical one that has this text between these two.
+fn is_written(
+    rt: &impl Abort,
+    alloc: Global,
+    listing: &str,
+    (head, text, tail): (&str, &str, &str),
+) -> bool {
+    let image = image_of(rt, alloc, listing.as_bytes());
+    let written = write_listing(alloc, &image).expect(rt, "there is memory");
+    match written.strip_prefix(head) {
+        Some(rest) => rest.strip_suffix(tail) == Some(text),
+        None => false,
     }
-    Ok(())
+}
+
+/// The same of a spelling before an `ecall`.
+fn is_alike(rt: &impl Abort, alloc: Global, spelling: &str, text: &str) -> bool {
+    let listing = format!(in alloc; "{HEAD}{spelling}{TAIL}").expect(rt, "there is memory");
+    is_written(rt, alloc, listing.as_str(), (HEAD, text, TAIL))
 }
 
 #[test]
-fn many_spellings_of_one_image(rt: HostRuntime) -> Result<(), Fail> {
-    let got = written(rt.alloc(), LOOSE)?;
-    assert_eq!(&rt; got.as_str(), CANONICAL);
-    Ok(())
+fn canonical_listings_are_written_back(rt: HostRuntime) {
+    let listings = [
+        (FIRST, ".ram 4096\n", FIRST),
+        (EACH_INSTRUCTION, ".ram 4096\n", EACH_INSTRUCTION),
+        (CANONICAL, "", CANONICAL),
+        (LOOSE, "", CANONICAL),
+    ];
+    for (listing, head, text) in listings {
+        let is_right = is_written(&rt, rt.alloc(), listing, (head, text, ""));
+        assert!(rt; is_right, "of {listing}");
+    }
+}
+
+#[test]
+fn spellings_are_written_alike(rt: HostRuntime) {
+    for (spelling, text) in SPELLINGS {
+        assert!(rt;
+            is_alike(&rt, rt.alloc(), spelling, text),
+            "of {spelling:?}"
+        );
+    }
 }

@@ -1,7 +1,4 @@
-//! Orders that are read, and orders that are refused.
-
-mod lengths;
-mod sweeps;
+//! Worked rows of orders: those that are read, with their operations, and those that are refused.
 
 use cheri_model::Op;
 use orders::{judge_order, read_order};
@@ -16,24 +13,29 @@ fn answer(alloc: Global, text: &[u8]) -> Result<String, Fail> {
     }
 }
 
-/// The same of an order of version 2 with this text after its header.
-fn answer_2(alloc: Global, body: &[u8]) -> Result<String, Fail> {
-    let mut text = Vec::new(alloc);
-    text.extend_from_slice(b"order 2\n")?;
-    text.extend_from_slice(body)?;
-    answer(alloc, text.as_slice())
-}
-
 #[test]
 fn orders_and_their_faults(rt: HostRuntime) -> Result<(), Fail> {
     for (text, want) in [
         (b"".as_slice(), "[]"),
-        (b"0", "[Step(0)]"),
         (b"0 1\n27\n", "[Step(0), Step(1), Step(2), Step(7)]"),
         (b"0x", "order byte 1: 1 Byte"),
-        (b"8", "order byte 0: 1 Byte"),
-        (b"0\t1", "order byte 1: 1 Byte"),
-        (b"01\r\n2x", "order byte 2: 1 Byte"),
+        (b"order 2", "order byte 0: 1 Byte"),
+        (
+            b"order 2\n00[0x80000000,0x80000001]0",
+            "[Step(0), Step(0), Sweep { lo: 2147483648, hi: 2147483649 }, Step(0)]",
+        ),
+        (
+            b"order 2\n[0x10000000,0x10000001]0",
+            "[Sweep { lo: 268435456, hi: 268435457 }, Step(0)]",
+        ),
+        (
+            b"order 2\n[0,18446744073709551616]",
+            "[Sweep { lo: 0, hi: 18446744073709551616 }]",
+        ),
+        (b"order 2\n[0,0x10000000000000001]", "order byte 8: 4 Range"),
+        (b"order 2\n[2,1]", "order byte 8: 4 Range"),
+        (b"order 2\n0[1,", "order byte 12: 1 Byte"),
+        (b"order 2\n8", "order byte 8: 1 Byte"),
     ] {
         let got = answer(rt.alloc(), text)?;
         assert_eq!(rt; got.as_str(), want);
@@ -55,26 +57,20 @@ fn judged_orders_are_read_one_by_one(rt: HostRuntime) -> Result<(), Fail> {
     Ok(())
 }
 
-/// A text that begins with other bytes than the header of version 2 is of version 1, which has no
-/// sweeps.
 #[test]
-fn other_headers(rt: HostRuntime) -> Result<(), Fail> {
-    for (text, want) in [
-        (b"order 2".as_slice(), "order byte 0: 1 Byte"),
-        (b"order 2\r\n0", "order byte 0: 1 Byte"),
-        (b"order 2 \n0", "order byte 0: 1 Byte"),
-        (b"order 3\n0", "order byte 0: 1 Byte"),
-        (b"Order 2\n0", "order byte 0: 1 Byte"),
-        (b" order 2\n0", "order byte 1: 1 Byte"),
-        (b"0order 2\n", "order byte 1: 1 Byte"),
-        (b"[0,1]", "order byte 0: 1 Byte"),
-        (b"00[0,1]", "order byte 2: 1 Byte"),
-        (b"[2,1]", "order byte 0: 1 Byte"),
-        // the header is there, and once more, where it is nothing but faulty bytes
-        (b"order 2\norder 2\n", "order byte 8: 1 Byte"),
-    ] {
-        let got = answer(rt.alloc(), text)?;
-        assert_eq!(rt; got.as_str(), want);
-    }
+fn the_longest_order(rt: HostRuntime) -> Result<(), Fail> {
+    let alloc = rt.alloc();
+    let mut text = vec![in alloc; b'0'; 100_000]?;
+    assert_eq!(rt; read_order(alloc, text.as_slice())?.len(), 100_000);
+    text.push(b'0')?;
+    assert_eq!(rt;
+        answer(alloc, text.as_slice())?.as_str(),
+        "order byte 0: 2 Size"
+    );
+    text.push(b'x')?;
+    assert_eq!(rt;
+        answer(alloc, text.as_slice())?.as_str(),
+        "order byte 100001: 1 Byte"
+    );
     Ok(())
 }

@@ -1,93 +1,121 @@
-//! Listings that are read, and listings that are refused, as their format says.
+//! Worked rows of listings: those that are refused, with the line and the kind, and one that is cut
+//! in a number and read.
 
-mod capabilities;
-mod instructions;
-mod labels;
-mod memory;
-mod pairs;
-mod prefixes;
-mod registers;
-mod whole;
-
+use cheri_model::Instr;
 use grammar::fault::ListingFaultKind;
 use listings::read_listing;
 use std::alloc::Global;
-use std::process::Abort;
 use std::test::Fail;
 
-/// A hart, which most listings begin with.
-const HART: &str = ".hart 0x10000000 16 0x10000000 execute\n";
-
-/// What reading a listing gives: the sizes of its image, or its fault.
-#[derive(Clone, Copy, Debug, PartialEq, Eq)]
-enum Answer {
-    Image { harts: usize, ram: u32, code: usize },
-    Fault { line: usize, kind: ListingFaultKind },
-}
-
-fn answer_of(alloc: Global, text: &[u8]) -> Answer {
+/// The line and the kind of a listing's fault, or `None` where it is read.
+fn fault_of(alloc: Global, text: &[u8]) -> Option<(usize, ListingFaultKind)> {
     match read_listing(alloc, text) {
-        Ok(image) => Answer::Image {
-            harts: image.harts().len(),
-            ram: image.ram(),
-            code: image.program().len(),
-        },
-        Err(fault) => Answer::Fault {
-            line: fault.line,
-            kind: fault.kind,
-        },
+        Ok(_) => None,
+        Err(fault) => Some((fault.line, fault.kind)),
     }
 }
 
-/// Some lines after others.
-fn joined(alloc: Global, head: &str, lines: &str) -> Result<Vec<u8>, Fail> {
-    let mut text = Vec::new(alloc);
-    text.extend_from_slice(head.as_bytes())?;
-    text.extend_from_slice(lines.as_bytes())?;
-    Ok(text)
-}
+/// A listing, and the line and the kind of its fault.
+const REFUSED: [(&str, usize, ListingFaultKind); 15] = [
+    ("", 0, ListingFaultKind::NoHart),
+    (
+        ".hart 0x10000000 16 0x10000000 execute\n.set c0 int 1\n",
+        2,
+        ListingFaultKind::Operand,
+    ),
+    (".set c5 int 1\n", 1, ListingFaultKind::NoHart),
+    (
+        ".hart 0x10000000 16 0x10000000 execute\n.set c5 cap 1 4096 1 load\n",
+        2,
+        ListingFaultKind::Capability,
+    ),
+    (
+        ".hart 0x10000000 16 0x10000000 execute\naddi c6, c0, 2048\n",
+        2,
+        ListingFaultKind::Range,
+    ),
+    (
+        ".hart 0x10000000 16 0x10000000 execute\nbeq c0, c0, nowhere\n",
+        2,
+        ListingFaultKind::Label,
+    ),
+    (
+        ".hart 0x10000000 16 0x10000000 execute\na:\na:\necall\n",
+        3,
+        ListingFaultKind::Twice,
+    ),
+    (
+        ".hart 0x10000000 16 0x10000000 execute\necall 1\n",
+        2,
+        ListingFaultKind::Operand,
+    ),
+    (".ram 8\n", 1, ListingFaultKind::Size),
+    (
+        ".ram 16\n.hart 0x10000000 16 0x10000000 execute\n.bytes 0x8000000f aabb\n",
+        3,
+        ListingFaultKind::Range,
+    ),
+    (
+        ".hart 0x10000000 16 0x10000000 execute\n",
+        0,
+        ListingFaultKind::Size,
+    ),
+    (".har", 1, ListingFaultKind::Word),
+    (
+        ".hart 0x10000000 16 0x10000000 execute+loa",
+        1,
+        ListingFaultKind::Operand,
+    ),
+    (HEAD, 0, ListingFaultKind::Size),
+    (CUT_IN_LINE_8, 8, ListingFaultKind::Word),
+];
 
-/// Each of these, after the same lines, gives this answer.
-fn each_gives(
-    rt: &impl Abort,
-    alloc: Global,
-    head: &str,
-    cases: &[&str],
-    want: Answer,
-) -> Result<(), Fail> {
-    for lines in cases {
-        let text = joined(alloc, head, lines)?;
-        assert_eq!(rt; answer_of(alloc, text.as_slice()), want, "of {lines:?}");
+/// The first lines of a listing, before its instructions.
+const HEAD: &str = "\
+    .hart 0x10000000 16 0x10000000 execute+load\n\
+    .set c5 cap 0x80000000 4096 0x80000000 load+store\n\
+    .hart 0x10000000 16 0x10000000 execute+load\n\
+    .set c5 cap 0x80000000 4096 0x80000000 load+store\n";
+
+const CUT_IN_LINE_8: &str = "\
+    .hart 0x10000000 16 0x10000000 execute+load\n\
+    .set c5 cap 0x80000000 4096 0x80000000 load+store\n\
+    .hart 0x10000000 16 0x10000000 execute+load\n\
+    .set c5 cap 0x80000000 4096 0x80000000 load+store\n\
+    addi c6, c0, 100\ncsetbounds c7, c5, c6\ncgetlen c8, c7\necal";
+
+const CUT_IN_LINE_5: &str = "\
+    .hart 0x10000000 16 0x10000000 execute+load\n\
+    .set c5 cap 0x80000000 4096 0x80000000 load+store\n\
+    .hart 0x10000000 16 0x10000000 execute+load\n\
+    .set c5 cap 0x80000000 4096 0x80000000 load+store\n\
+    addi c6, c0, 10";
+
+#[test]
+fn listings_are_refused_at_a_line(rt: HostRuntime) -> Result<(), Fail> {
+    for (text, line, kind) in REFUSED {
+        let got = fault_of(rt.alloc(), text.as_bytes());
+        assert_eq!(&rt; got, Some((line, kind)), "of {text:?}");
     }
     Ok(())
 }
 
-/// Each of these, after a hart, is refused for its first line.
-fn first_refused(
-    rt: &impl Abort,
-    alloc: Global,
-    kind: ListingFaultKind,
-    cases: &[&str],
-) -> Result<(), Fail> {
-    each_gives(rt, alloc, HART, cases, Answer::Fault { line: 2, kind })
+/// The immediate of a listing's only instruction, where that is an addition.
+fn immediate_of(alloc: Global, text: &[u8]) -> Option<i16> {
+    match read_listing(alloc, text) {
+        Ok(image) => match image.program() {
+            [Instr::Addi { imm, .. }] => Some(*imm),
+            _ => None,
+        },
+        Err(_) => None,
+    }
 }
 
-/// Each of these, after a hart, is refused for its second line.
-fn second_refused(
-    rt: &impl Abort,
-    alloc: Global,
-    kind: ListingFaultKind,
-    cases: &[&str],
-) -> Result<(), Fail> {
-    each_gives(rt, alloc, HART, cases, Answer::Fault { line: 3, kind })
-}
-
-/// Each of these, after a hart, is read as this many instructions.
-fn all_read(rt: &impl Abort, alloc: Global, code: usize, cases: &[&str]) -> Result<(), Fail> {
-    let want = Answer::Image {
-        harts: 1,
-        ram: 4_096,
-        code,
-    };
-    each_gives(rt, alloc, HART, cases, want)
+#[test]
+fn a_number_that_is_cut_is_another(rt: HostRuntime) -> Result<(), Fail> {
+    assert_eq!(&rt;
+        immediate_of(rt.alloc(), CUT_IN_LINE_5.as_bytes()),
+        Some(10)
+    );
+    Ok(())
 }

@@ -1,5 +1,5 @@
 //! Tests of `cap_model`, `cheri_model`, `cap_bounds`, `cap_ops`, `tagged_mem` and `origins` by
-//! their public calls alone, as their users make them.
+//! their public calls alone: the rows that were worked out by hand, images, and provenance.
 #![tactic(auto)]
 
 #[cfg(test)]

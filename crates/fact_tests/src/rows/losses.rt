@@ -7,6 +7,8 @@ use cheri_model::{Instr, OType, Perms};
 use facts::{Cleared, Why};
 use origins::Spot;
 use samples::{ALL, Given};
+use std::alloc::Global;
+use std::process::Abort;
 use std::test::Fail;
 
 const S: Spot = Spot::Register(5);
@@ -43,11 +45,12 @@ const LACKS: Why = Why::Lacks {
     permission: LOAD_CAP,
 };
 
-#[test]
-fn bounds_and_addresses(rt: HostRuntime) -> Result<(), Fail> {
+/// Changes of the address and the bounds, and values that are copied: the instruction, its sources,
+/// and why the result has no tag.
+fn bounds_and_addresses() -> [(Instr, Given, Given, Why); 9] {
     let (cd, c1, c2) = operands();
     let root = Given::Open(0, 1 << 64, 1, ALL);
-    let rows = [
+    [
         (Instr::CClearTag { cd, c1 }, K, K, Why::AskedFor),
         (Instr::CSetHigh { cd, c1, c2 }, K, K, Why::UpperReplaced),
         (
@@ -115,24 +118,12 @@ fn bounds_and_addresses(rt: HostRuntime) -> Result<(), Fail> {
                 permission: EXECUTE,
             },
         ),
-    ];
-    for (instr, first, second, why) in rows {
-        let clears = cleared_by(&rt, rt.alloc(), instr, first, second)?;
-        assert_eq!(rt;
-            clears,
-            Some(Cleared {
-                name: Spot::Register(7),
-                why
-            })
-        );
-    }
-    Ok(())
+    ]
 }
 
-#[test]
-fn seals(rt: HostRuntime) -> Result<(), Fail> {
-    let (cd, c1, c2) = operands();
-    let rows = [
+/// Authorities to seal K, and why it has no tag then.
+fn seals() -> [(Given, Why); 5] {
+    [
         (Given::Int(5), Why::Untagged { name: A }),
         (
             SEALED_KEY,
@@ -153,24 +144,12 @@ fn seals(rt: HostRuntime) -> Result<(), Fail> {
             Given::Open(0, 1 << 64, 0x3_fffc, ALL),
             Why::TypeAbove { otype: 0x3_fffc },
         ),
-    ];
-    for (second, why) in rows {
-        let clears = cleared_by(&rt, rt.alloc(), Instr::CSeal { cd, c1, c2 }, K, second)?;
-        assert_eq!(rt;
-            clears,
-            Some(Cleared {
-                name: Spot::Register(7),
-                why
-            })
-        );
-    }
-    Ok(())
+    ]
 }
 
-#[test]
-fn unseals(rt: HostRuntime) -> Result<(), Fail> {
-    let (cd, c1, c2) = operands();
-    let rows = [
+/// Values and authorities to unseal them, and why there is no tag then.
+fn unseals() -> [(Given, Given, Why); 7] {
+    [
         (K, KEY, Why::NotSealed { name: S }),
         (
             Given::Sentry(0x8000_0000, 64, 0x8000_0010, ALL),
@@ -204,30 +183,12 @@ fn unseals(rt: HostRuntime) -> Result<(), Fail> {
                 sealed: OType::new(5),
             },
         ),
-    ];
-    for (first, second, why) in rows {
-        let clears = cleared_by(
-            &rt,
-            rt.alloc(),
-            Instr::CUnseal { cd, c1, c2 },
-            first,
-            second,
-        )?;
-        assert_eq!(rt;
-            clears,
-            Some(Cleared {
-                name: Spot::Register(7),
-                why
-            })
-        );
-    }
-    Ok(())
+    ]
 }
 
-#[test]
-fn rebuilt(rt: HostRuntime) -> Result<(), Fail> {
-    let (cd, c1, c2) = operands();
-    let rows = [
+/// Authorities and values to be rebuilt, and why there is no tag then.
+fn rebuilt() -> [(Given, Given, Why); 8] {
+    [
         (Given::Int(5), K, Why::Untagged { name: S }),
         (
             SEALED,
@@ -286,24 +247,7 @@ fn rebuilt(rt: HostRuntime) -> Result<(), Fail> {
                 start: 0x7fff_ffff_ffff_f800,
             },
         ),
-    ];
-    for (first, second, why) in rows {
-        let clears = cleared_by(
-            &rt,
-            rt.alloc(),
-            Instr::CBuildCap { cd, c1, c2 },
-            first,
-            second,
-        )?;
-        assert_eq!(rt;
-            clears,
-            Some(Cleared {
-                name: Spot::Register(7),
-                why
-            })
-        );
-    }
-    Ok(())
+    ]
 }
 
 /// The bytes at the start of RAM, with these permissions.
@@ -311,10 +255,10 @@ fn through(perms: u32) -> Given {
     Given::Open(0x8000_0000, 64, 0x8000_0000, perms)
 }
 
-#[test]
-fn memory(rt: HostRuntime) -> Result<(), Fail> {
+/// Accesses of memory: the instruction, the authority, what lost its tag, and why.
+fn memory() -> [(Instr, Given, Spot, Why); 3] {
     let (cd, c1, c2) = operands();
-    let rows = [
+    [
         (
             Instr::Lc { cd, c1, imm: 0 },
             through(0x4),
@@ -333,10 +277,50 @@ fn memory(rt: HostRuntime) -> Result<(), Fail> {
             Spot::Granule(0),
             Why::DataStored,
         ),
-    ];
-    for (instr, first, name, why) in rows {
-        let clears = cleared_by(&rt, rt.alloc(), instr, first, Given::Int(7))?;
-        assert_eq!(rt; clears, Some(Cleared { name, why }));
+    ]
+}
+
+/// A step of this instruction clears the tag of c7, for this reason.
+fn clears(
+    rt: &impl Abort,
+    alloc: Global,
+    instr: Instr,
+    first: Given,
+    second: Given,
+    why: Why,
+) -> Result<(), Fail> {
+    let name = Spot::Register(7);
+    let cleared = cleared_by(rt, alloc, instr, first, second)?;
+    assert!(rt;
+        cleared == Some(Cleared { name, why }),
+        "{instr:?}: {why:?}"
+    );
+    Ok(())
+}
+
+#[test]
+fn lost_tags_have_their_reasons(rt: HostRuntime) -> Result<(), Fail> {
+    let (cd, c1, c2) = operands();
+    for (instr, first, second, why) in bounds_and_addresses() {
+        clears(&rt, rt.alloc(), instr, first, second, why)?;
+    }
+    for (second, why) in seals() {
+        clears(&rt, rt.alloc(), Instr::CSeal { cd, c1, c2 }, K, second, why)?;
+    }
+    for (first, second, why) in unseals() {
+        let instr = Instr::CUnseal { cd, c1, c2 };
+        clears(&rt, rt.alloc(), instr, first, second, why)?;
+    }
+    for (first, second, why) in rebuilt() {
+        let instr = Instr::CBuildCap { cd, c1, c2 };
+        clears(&rt, rt.alloc(), instr, first, second, why)?;
+    }
+    for (instr, first, name, why) in memory() {
+        let cleared = cleared_by(&rt, rt.alloc(), instr, first, Given::Int(7))?;
+        assert!(rt;
+            cleared == Some(Cleared { name, why }),
+            "{instr:?}: {why:?}"
+        );
     }
     Ok(())
 }

@@ -52,33 +52,26 @@ fn register(number: u8) -> Place {
 }
 
 #[test]
-fn swaps_store_with_the_origin(rt: HostRuntime) -> Result<(), Fail> {
+fn swaps_store_and_load_with_the_origin(rt: HostRuntime) -> Result<(), Fail> {
     let name = Spot::Granule(0);
     let (at, finds, leaves) = accessed_by_swap(&rt, rt.alloc())?;
-    assert_eq!(rt;
-        at,
-        Some(Extent {
-            address: 0x8000_0000,
-            bytes: 16
-        })
-    );
+    let all = Extent {
+        address: 0x8000_0000,
+        bytes: 16,
+    };
+    assert!(rt; at == Some(all));
     let before = NamedValue {
         name,
         value: value(&rt, K),
         origin: Some(Place::GranuleOf(0)),
     };
-    assert_eq!(rt; finds, Some(before));
+    assert!(rt; finds == Some(before));
     let after = NamedValue {
         name,
         value: value(&rt, STORED),
         origin: Some(register(6)),
     };
-    assert_eq!(rt; leaves, Some(after));
-    Ok(())
-}
-
-#[test]
-fn swaps_load_with_the_origin(rt: HostRuntime) -> Result<(), Fail> {
+    assert!(rt; leaves == Some(after));
     let (reads, sets) = moved_by_swap(&rt, rt.alloc())?;
     let stored = NamedValue {
         name: Spot::Register(6),
@@ -90,13 +83,13 @@ fn swaps_load_with_the_origin(rt: HostRuntime) -> Result<(), Fail> {
         value: value(&rt, THROUGH),
         origin: Some(register(5)),
     };
-    assert_eq!(rt; reads, UpToTwo::Two(stored, through));
+    assert!(rt; reads == UpToTwo::Two(stored, through));
     let loaded = NamedValue {
         name: Spot::Register(7),
         value: value(&rt, K),
         origin: Some(Place::GranuleOf(0)),
     };
-    assert_eq!(rt; sets, UpToTwo::One(loaded));
+    assert!(rt; sets == UpToTwo::One(loaded));
     Ok(())
 }
 
@@ -111,9 +104,9 @@ fn no_instruction_is_past_the_end(rt: HostRuntime) -> Result<(), Fail> {
     let why = TrapWhy::NoInstruction {
         address: 0x1000_0004,
     };
-    assert_eq!(rt; traps, Some(Trapped { trap, why }));
-    assert_eq!(rt; fetched, None);
-    assert_eq!(rt; reads, UpToTwo::Zero);
+    assert!(rt; traps == Some(Trapped { trap, why }));
+    assert!(rt; fetched == None);
+    assert!(rt; reads == UpToTwo::Zero);
     Ok(())
 }
 

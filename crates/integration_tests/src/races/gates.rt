@@ -43,11 +43,11 @@ impl Flag {
 #[derive(Drop)]
 pub(super) struct Meeting {
     first: u8,
-    pub(super) zero_came: Flag,
-    pub(super) one_came: Flag,
-    pub(super) first_stepped: Flag,
-    pub(super) second_stepped: Flag,
-    pub(super) gave_up: Flag,
+    zero_came: Flag,
+    one_came: Flag,
+    first_stepped: Flag,
+    second_stepped: Flag,
+    gave_up: Flag,
 }
 
 impl Meeting {
@@ -60,6 +60,22 @@ impl Meeting {
             second_stepped: Flag::new(),
             gave_up: Flag::new(),
         }
+    }
+
+    /// Whether both harts came and stepped, and none gave up.
+    pub(super) fn is_met(&self) -> bool {
+        let flags = [
+            &self.zero_came,
+            &self.one_came,
+            &self.first_stepped,
+            &self.second_stepped,
+        ];
+        for flag in flags {
+            if !flag.is_set() {
+                return false;
+            }
+        }
+        !self.gave_up.is_set()
     }
 
     /// Whether the other hart came, and where it goes first has stepped.

@@ -4,7 +4,7 @@ ghost use Rattle.std.specs.Prelude.{◌≡◌};
 
 use super::gates::EndsAt;
 use super::{SWAP, assert_replayed};
-use crate::common::image_of;
+use crate::common::booted;
 use cheri_model::Event;
 use harts::{HartReport, Shared, hart_loop};
 use machine::{Blanks, Core, Machine, Naming, Share, StepFault};
@@ -12,7 +12,6 @@ use std::alloc::Global;
 use std::marker::Brand;
 use std::process::Abort;
 use std::sync::Wait;
-use std::test::Fail;
 use std::thread;
 use std::thread::Threads;
 
@@ -78,10 +77,8 @@ fn swept_race<J: Naming + Send + Sync, R: Abort + Threads + Wait + Sync>(
 }
 
 #[test]
-fn a_third_thread_sweeps_once(rt: HostRuntime) -> Result<(), Fail> {
-    let image = image_of(&rt, rt.alloc(), SWAP);
-    let core = Core::boot(rt.alloc(), image, 100).expect(&rt, "it boots");
+fn a_third_thread_sweeps_once(rt: HostRuntime) {
+    let core = booted(&rt, rt.alloc(), SWAP, 100);
     let core = swept_race::<Brand, _>(&rt, rt.alloc(), core, Blanks::new());
     assert_replayed(&rt, rt.alloc(), &core, SWAP, 100);
-    Ok(())
 }

@@ -5,15 +5,14 @@ ghost use Rattle.std.specs.Prelude.{◌≡◌};
 
 use super::gates::{EndsAt, Flag};
 use super::viewers::{Follower, Keeper, Kept, Spotter, Viewed, look_of};
-use super::{SWAP, assert_replayed, eight_loops};
-use crate::common::image_of;
-use harts::{Gate, HartReport, Shared, Viewer, Why, run_watched};
+use super::{LOOPER, SWAP, assert_replayed, assert_stopped, eight_harts};
+use crate::common::{booted, image_of};
+use harts::{Gate, HartReport, Shared, Viewer, run_watched};
 use machine::{Blanks, Core, Machine, Naming, Watch};
 use std::alloc::Global;
 use std::marker::Brand;
 use std::process::Abort;
 use std::sync::Wait;
-use std::test::Fail;
 use std::thread;
 use std::thread::Threads;
 
@@ -78,7 +77,7 @@ fn look_beside_the_lock<J: Naming + Send + Sync, R: Abort + Threads + Wait + Syn
     alloc: Global,
     core: Core,
     blanks: Blanks,
-) -> Result<(), Fail>
+)
     requires names { blanks ≡ J.names }
     requires image { core.image ≡ J.image }
 {
@@ -87,14 +86,12 @@ fn look_beside_the_lock<J: Naming + Send + Sync, R: Abort + Threads + Wait + Syn
     let watch = watch_of(rt, &shared).expect(rt, "there is a place");
     assert!(rt; hold_and_look(rt, &shared, watch));
     let _core = shared.into_machine().close(rt, shares);
-    Ok(())
 }
 
 #[test]
-fn a_watch_looks_while_the_lock_is_held(rt: HostRuntime) -> Result<(), Fail> {
-    let image = image_of(&rt, rt.alloc(), SWAP);
-    let core = Core::boot(rt.alloc(), image, 100).expect(&rt, "it boots");
-    look_beside_the_lock::<Brand, _>(&rt, rt.alloc(), core, Blanks::new())
+fn a_watch_looks_while_the_lock_is_held(rt: HostRuntime) {
+    let core = booted(&rt, rt.alloc(), SWAP, 100);
+    look_beside_the_lock::<Brand, _>(&rt, rt.alloc(), core, Blanks::new());
 }
 
 /// Races the harts of a listing while a viewer looks on.
@@ -110,65 +107,74 @@ fn view_race<G: Gate + Sync, V: Viewer, R: Abort + Threads + Wait + Sync>(
     run_watched(rt, alloc, image, turns, 100_000, gate, viewer).expect(rt, "it runs")
 }
 
-/// Checks that both harts of a race have stopped, after two steps each.
-fn assert_stopped(rt: &impl Abort, core: &Core, reports: &[HartReport]) {
-    assert_eq!(rt; core.view().entries.len(), 4);
-    assert_eq!(rt; reports.len(), 2);
-    for report in reports {
-        assert_eq!(rt; report.steps, 2);
-        assert!(rt; report.why == Why::Stopped);
-    }
+/// Whether a viewer that looks on at a race of eight harts is called. Each of its looks begins with
+/// the one before, and the last shows the whole race.
+fn is_followed<R: Abort + Threads + Wait + Sync>(rt: &R, alloc: Global, listing: &[u8]) -> bool {
+    let mut viewer = Follower::new(alloc, 2_000);
+    let (core, reports) = view_race(rt, alloc, listing, 250, &EndsAt(&[]), &mut viewer);
+    assert_replayed(rt, alloc, &core, listing, 100_000);
+    assert!(rt; core.view().entries.len() == 2_000);
+    assert!(rt; reports.len() == 8);
+    assert!(rt; !viewer.was_called || viewer.saw_all);
+    assert!(rt; !viewer.went_back && !viewer.had_no_memory);
+    viewer.was_called
 }
 
 #[test]
-fn looks_begin_with_earlier_looks(rt: HostRuntime) -> Result<(), Fail> {
-    let listing = eight_loops(rt.alloc())?;
-    let listing = listing.as_slice();
+fn looks_begin_with_earlier_looks(rt: HostRuntime) {
+    let listing = eight_harts(&rt, rt.alloc(), LOOPER, "addi c6, c6, 1\ncjal c0, @0\n");
     for _ in 0..TRIES {
-        let mut viewer = Follower::new(rt.alloc(), 2_000);
-        let gate = EndsAt(&[]);
-        let (core, reports) = view_race(&rt, rt.alloc(), listing, 250, &gate, &mut viewer);
-        assert_replayed(&rt, rt.alloc(), &core, listing, 100_000);
-        assert_eq!(rt; core.view().entries.len(), 2_000);
-        assert_eq!(rt; reports.len(), 8);
-        if viewer.was_called {
-            assert!(rt; viewer.saw_all);
-            assert!(rt; !viewer.went_back && !viewer.had_no_memory);
-            return Ok(());
+        if is_followed(&rt, rt.alloc(), listing.as_slice()) {
+            return;
         }
     }
-    Err(Fail::from("a watch is given in one of eight races"))
+    panic!(rt; "a watch is given in one of eight races");
+}
+
+/// Whether a viewer is called that looks on at a race in which each hart waits before its second
+/// turn until the viewer has seen a step.
+fn is_seen<R: Abort + Threads + Wait + Sync>(rt: &R, alloc: Global) -> bool {
+    let gate = Viewed::new();
+    let mut viewer = Spotter {
+        gate: &gate,
+        was_called: false,
+    };
+    let (core, reports) = view_race(rt, alloc, SWAP, 2, &gate, &mut viewer);
+    if viewer.was_called {
+        assert!(rt; gate.step_seen.is_set() && !gate.gave_up.is_set());
+        assert_stopped(rt, &core, reports.as_slice());
+    }
+    viewer.was_called
 }
 
 #[test]
-fn a_viewer_looks_beside_the_race(rt: HostRuntime) -> Result<(), Fail> {
+fn a_viewer_looks_beside_the_race(rt: HostRuntime) {
     for _ in 0..TRIES {
-        let gate = Viewed::new();
-        let mut viewer = Spotter {
-            gate: &gate,
-            was_called: false,
-        };
-        let (core, reports) = view_race(&rt, rt.alloc(), SWAP, 2, &gate, &mut viewer);
-        if viewer.was_called {
-            assert!(rt; gate.step_seen.is_set() && !gate.gave_up.is_set());
-            assert_stopped(&rt, &core, reports.as_slice());
-            return Ok(());
+        if is_seen(&rt, rt.alloc()) {
+            return;
         }
     }
-    Err(Fail::from("a watch is given in one of eight races"))
+    panic!(rt; "a watch is given in one of eight races");
+}
+
+/// Whether a viewer is called that keeps a look while a hart steps.
+fn is_kept<R: Abort + Threads + Wait + Sync>(rt: &R, alloc: Global) -> bool {
+    let gate = Kept::new();
+    let mut viewer = Keeper::new(alloc, &gate);
+    let (core, reports) = view_race(rt, alloc, SWAP, 2, &gate, &mut viewer);
+    if viewer.was_called {
+        assert!(rt; viewer.was_kept && !viewer.has_changed && !gate.gave_up.is_set());
+        assert_stopped(rt, &core, reports.as_slice());
+    }
+    viewer.was_called
 }
 
 #[test]
-fn a_kept_look_stays_as_it_is(rt: HostRuntime) -> Result<(), Fail> {
+fn a_kept_look_stays_as_it_is(rt: HostRuntime) {
     for _ in 0..TRIES {
-        let gate = Kept::new();
-        let mut viewer = Keeper::new(rt.alloc(), &gate);
-        let (core, reports) = view_race(&rt, rt.alloc(), SWAP, 2, &gate, &mut viewer);
-        if viewer.was_called {
-            assert!(rt; viewer.was_kept && !viewer.has_changed && !gate.gave_up.is_set());
-            assert_stopped(&rt, &core, reports.as_slice());
-            return Ok(());
+        if is_kept(&rt, rt.alloc()) {
+            return;
         }
     }
-    Err(Fail::from("a watch is given in one of eight races"))
+    panic!(rt; "a watch is given in one of eight races");
 }
