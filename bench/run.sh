@@ -9,7 +9,7 @@
 #   bounds   one line: what starting the program costs
 set -euo pipefail
 top=$(cd "$(dirname "$0")/.." && pwd)
-program=$top/crates/cheri_sim/out/cheri_sim
+program=$("$top/bin/.start" --path cheri_sim)
 work=$(mktemp -d)
 trap 'rm -rf "$work"' EXIT
 
@@ -55,7 +55,6 @@ measure() {
   eval "$name=$median"
 }
 
-"$top/bin/cheri_sim" bounds 0 1 >/dev/null
 measure bounds bounds 0 1
 measure empty run "$work/large.lst" --order "$work/empty.txt"
 measure steps run "$work/large.lst" --order "$work/steps.txt"

@@ -8,12 +8,7 @@
 #   calls     calls through a sentry and back
 set -euo pipefail
 top=$(cd "$(dirname "$0")/.." && pwd)
-program=$top/crates/cheri_sim/out/cheri_sim
-[ $# -eq 0 ] || program=$1
-[ -x "$program" ] || {
-  echo "no program at $program: run \`rt run\` in crates/cheri_sim first, or name one" >&2
-  exit 1
-}
+program=${1:-$("$top/bin/.start" --path cheri_sim)}
 work=$(mktemp -d)
 trap 'rm -rf "$work"' EXIT
 
