@@ -1,0 +1,528 @@
+"""Bounds, words and instructions of compressed CHERI capabilities (CHERI Concentrate, 128 bits, RV64).
+
+The functions of the C library `cheri_caps`, whose answers are proved. One file over `ctypes`; it
+needs no other package. The library is found beside this file, as `bindings/build` lays both out, or
+where the environment variable CHERI_CAPS_LIBRARY names it.
+
+    >>> Capability.root().set_address(0x80000000).set_bounds(100)
+    <Capability 0x80000000 [0x80000000, 0x80000064) all>
+    >>> Capability.root().set_address(1).set_bounds(4096)
+    <Capability 0x1 [0x0, 0x1008) all>
+    >>> Capability(5)
+    <Capability untagged 0x00000000000000000000000000000005>
+
+A word is a number of 128 bits as memory has it, and its lower 64 bits are the address. A number out
+of range raises ValueError; offsets may be negative, as they count modulo 2^64.
+"""
+
+from __future__ import annotations
+
+import ctypes
+import os
+from pathlib import Path
+from typing import Any, FrozenSet, List, NamedTuple, Optional, Sequence, Tuple, Union
+
+__all__ = [
+    "ALL", "LAST_SEALABLE", "PERMISSIONS", "SENTRY", "UNSEALED", "Capability", "Fields",
+    "MakeError", "Rounded", "alignment_mask", "bounds_of", "decode", "fields", "is_capability",
+    "is_representable", "representable_length", "round_bounds", "round_of",
+]
+
+#: The permissions by name, as CGetPerm shows them.
+PERMISSIONS = {
+    "global": 1 << 0, "execute": 1 << 1, "load": 1 << 2, "store": 1 << 3, "load_cap": 1 << 4,
+    "store_cap": 1 << 5, "store_local": 1 << 6, "seal": 1 << 7, "cinvoke": 1 << 8,
+    "unseal": 1 << 9, "sysregs": 1 << 10, "set_cid": 1 << 11, "sw0": 1 << 15, "sw1": 1 << 16,
+    "sw2": 1 << 17, "sw3": 1 << 18,
+}
+#: All of them.
+ALL = 0x78FFF
+#: The object type of what is not sealed, that of a sentry, and the last one that CSeal can give.
+UNSEALED, SENTRY, LAST_SEALABLE = 0x3FFFF, 0x3FFFE, 0x3FFFB
+
+_HALF = (1 << 64) - 1
+
+
+def _layout(text: str) -> List[Tuple[str, Any]]:
+    """The fields of a struct, written as in the C header."""
+    types = {
+        "u64": ctypes.c_uint64, "u32": ctypes.c_uint32, "u16": ctypes.c_uint16,
+        "u8": ctypes.c_uint8, "bool": ctypes.c_bool,
+    }
+    pairs = (field.split() for field in text.split(","))
+    return [(name, types[kind]) for kind, name in pairs]
+
+
+class _Cap(ctypes.Structure):
+    _fields_ = _layout("u64 addr, u64 upper, bool tag")
+
+
+class _Bounds(ctypes.Structure):
+    _fields_ = _layout("u64 base, u64 top, u64 top_high")
+
+
+class _Fields(ctypes.Structure):
+    _fields_ = _layout("u32 perms, u32 otype, u8 flag, u8 reserved, u8 ie, u8 e")
+
+
+class _Rounded(ctypes.Structure):
+    _fields_ = _layout(
+        "u64 base, u64 top, u64 top_high, u16 b, u16 t, u8 ie, u8 e, bool exact"
+    )
+
+
+class _Parts(ctypes.Structure):
+    _fields_ = _layout(
+        "u64 base, u64 top, u64 top_high, u64 len, u64 offset, u64 otype, u32 perms, u8 flags, "
+        "bool sealed, bool tag"
+    )
+
+
+class _Made(ctypes.Structure):
+    _fields_ = [("cap", _Cap), ("status", ctypes.c_uint8)]
+
+
+def _library() -> ctypes.CDLL:
+    named = os.environ.get("CHERI_CAPS_LIBRARY")
+    return ctypes.CDLL(named or str(Path(__file__).parents[1] / "lib" / "libcheri_caps.so.1"))
+
+
+_lib = _library()
+
+
+def _function(name: str, result: Any, *arguments: Any) -> Any:
+    function = getattr(_lib, "cheri_caps_" + name)
+    function.restype, function.argtypes = result, arguments
+    return function
+
+
+_u64, _u32, _bool = ctypes.c_uint64, ctypes.c_uint32, ctypes.c_bool
+_bounds = _function("bounds", _Bounds, _u64, _u64)
+_fields = _function("fields", _Fields, _u64)
+_is_representable = _function("is_representable", _bool, _u64, _u64, _u64)
+_is_capability = _function("is_capability", _bool, _u64, _u64)
+_round = _function("round", _Rounded, _u64, _u64)
+_representable_length = _function("representable_length", _u64, _u64)
+_alignment_mask = _function("alignment_mask", _u64, _u64)
+_null = _function("null", _Cap)
+_of_integer = _function("of_integer", _Cap, _u64)
+_root = _function("root", _Cap, _u32)
+_make = _function("make", _Made, _u64, _u64, _u64, _u64, _u32, _u32)
+_read = _function("read", _Parts, _Cap)
+_clear_tag = _function("clear_tag", _Cap, _Cap)
+_set_address = _function("set_address", _Cap, _Cap, _u64)
+_inc_offset = _function("inc_offset", _Cap, _Cap, _u64)
+_set_bounds = _function("set_bounds", _Cap, _Cap, _u64)
+_set_bounds_exact = _function("set_bounds_exact", _Cap, _Cap, _u64)
+_and_perms = _function("and_perms", _Cap, _Cap, _u64)
+_set_flags = _function("set_flags", _Cap, _Cap, _u64)
+_set_high = _function("set_high", _Cap, _Cap, _u64)
+_seal = _function("seal", _Cap, _Cap, _Cap)
+_unseal = _function("unseal", _Cap, _Cap, _Cap)
+_seal_entry = _function("seal_entry", _Cap, _Cap)
+_build = _function("build", _Cap, _Cap, _Cap)
+_test_subset = _function("test_subset", _bool, _Cap, _Cap)
+_equal_exact = _function("equal_exact", _bool, _Cap, _Cap)
+_bounds_of = _function(
+    "bounds_of", ctypes.c_size_t, ctypes.c_void_p, ctypes.c_size_t, ctypes.c_void_p, ctypes.c_size_t
+)
+_round_of = _function(
+    "round_of", ctypes.c_size_t, ctypes.c_void_p, ctypes.c_size_t, ctypes.c_void_p, ctypes.c_size_t
+)
+
+
+def _number(number: int, bits: int, what: str) -> int:
+    if not 0 <= number < 1 << bits:
+        raise ValueError(f"{what} {number} is not a number of {bits} bits")
+    return number
+
+
+class Fields(NamedTuple):
+    """Fields of a word: permissions in CGetPerm's form, object type, flag, the two reserved bits,
+    the internal exponent bit, and the exponent that is used, 0 to 52."""
+
+    perms: int
+    otype: int
+    flag: int
+    reserved: int
+    ie: int
+    e: int
+
+
+class Rounded(NamedTuple):
+    """The least bounds that hold a range, the fields B and T that encode them, the internal
+    exponent bit, the exponent, and whether the bounds are the range."""
+
+    base: int
+    top: int
+    b: int
+    t: int
+    ie: int
+    e: int
+    exact: bool
+
+
+def decode(word: int) -> Tuple[int, int]:
+    """The base and the top that any word is read with.
+
+    >>> [hex(bound) for bound in decode(0xffff0000040580040000000080000000)]
+    ['0x80000000', '0x80000010']
+    """
+    _number(word, 128, "word")
+    bounds = _bounds(word >> 64, word & _HALF)
+    return bounds.base, bounds.top_high << 64 | bounds.top
+
+
+def fields(word: int) -> Fields:
+    """The fields of any word.
+
+    >>> fields(0)
+    Fields(perms=0, otype=262143, flag=0, reserved=0, ie=1, e=52)
+    """
+    found = _fields(_number(word, 128, "word") >> 64)
+    return Fields(found.perms, found.otype, found.flag, found.reserved, found.ie, found.e)
+
+
+def is_representable(word: int, address: int) -> bool:
+    """Whether the word has the same bounds with another address."""
+    _number(word, 128, "word")
+    return _is_representable(word >> 64, word & _HALF, _number(address, 64, "address"))
+
+
+def is_capability(word: int) -> bool:
+    """Whether a tagged capability can have this word."""
+    _number(word, 128, "word")
+    return _is_capability(word >> 64, word & _HALF)
+
+
+def round_bounds(base: int, length: int) -> Rounded:
+    """The rounding of the range of `length` addresses from `base` on.
+
+    >>> round_bounds(1, 4096)
+    Rounded(base=0, top=4104, b=0, t=8, ie=1, e=0, exact=False)
+    """
+    found = _round(_number(base, 64, "base"), _number(length, 64, "length"))
+    top = found.top_high << 64 | found.top
+    return Rounded(found.base, top, found.b, found.t, found.ie, found.e, found.exact)
+
+
+def representable_length(length: int) -> int:
+    """The least length, from this one on, that aligned bounds can have, modulo 2^64 (CRRL).
+
+    >>> representable_length(8191)
+    8192
+    """
+    return _representable_length(_number(length, 64, "length"))
+
+
+def alignment_mask(length: int) -> int:
+    """The mask that aligns a base for that length (CRAM).
+
+    >>> hex(alignment_mask(8191))
+    '0xfffffffffffffff0'
+    """
+    return _alignment_mask(_number(length, 64, "length"))
+
+
+class MakeError(ValueError):
+    """No capability has these parts. `status` says why: 4, the type is reserved; 1, the end is past
+    the address space; 2, the bounds would be rounded; 3, the bounds cannot have this address."""
+
+    REASONS = {
+        1: "the end is past the address space", 2: "the bounds would be rounded",
+        3: "the bounds cannot have this address", 4: "no capability has this type",
+    }
+
+    def __init__(self, status: int) -> None:
+        super().__init__(self.REASONS[status])
+        self.status = status
+
+
+class Capability:
+    """A word of 128 bits and a tag. It never changes: each method is the instruction of its name
+    and gives a new one. A change that is not allowed gives the edited word without a tag."""
+
+    __slots__ = ("_cap", "_found")
+    _cap: _Cap
+    _found: Optional[_Parts]
+
+    def __init__(self, word: int, tag: bool = False) -> None:
+        """The value of a word and a tag. A tag on a word that no capability has is a ValueError."""
+        _number(word, 128, "word")
+        cap = _Cap(word & _HALF, word >> 64, bool(tag))
+        if tag and not _is_capability(cap.upper, cap.addr):
+            raise ValueError(f"no capability has the word 0x{word:032x}")
+        self._set(cap)
+
+    def _set(self, cap: _Cap) -> None:
+        object.__setattr__(self, "_cap", cap)
+        object.__setattr__(self, "_found", None)
+
+    @classmethod
+    def _of(cls, cap: _Cap) -> Capability:
+        made = object.__new__(cls)
+        made._set(cap)
+        return made
+
+    def __setattr__(self, name: str, value: object) -> None:
+        raise AttributeError("a Capability never changes")
+
+    def __delattr__(self, name: str) -> None:
+        raise AttributeError("a Capability never changes")
+
+    @classmethod
+    def null(cls) -> Capability:
+        """The untagged word 0."""
+        return cls._of(_null())
+
+    @classmethod
+    def integer(cls, number: int) -> Capability:
+        """What a register holds to which this integer was written."""
+        return cls._of(_of_integer(_number(number, 64, "integer")))
+
+    @classmethod
+    def root(cls, perms: int = ALL) -> Capability:
+        """The capability of the whole address space with these permissions, at address 0. Bits that
+        no permission has are dropped."""
+        return cls._of(_root(_number(perms, 32, "perms")))
+
+    @classmethod
+    def make(
+        cls, base: int, length: int, address: Optional[int] = None, perms: int = ALL,
+        otype: int = UNSEALED,
+    ) -> Capability:
+        """The capability of just the `length` addresses from `base` on, at its base where no
+        address is given. Where there is none it raises MakeError.
+
+        >>> Capability.make(0x80000000, 16, perms=PERMISSIONS["load"])
+        <Capability 0x80000000 [0x80000000, 0x80000010) load>
+        >>> Capability.make(1, 4096)
+        Traceback (most recent call last):
+        cheri_caps.MakeError: the bounds would be rounded
+        """
+        _number(length, 128, "length")
+        made = _make(
+            _number(base, 64, "base"), length & _HALF, length >> 64,
+            _number(base if address is None else address, 64, "address"),
+            _number(perms, 32, "perms"), _number(otype, 32, "otype"),
+        )
+        if made.status != 0:
+            raise MakeError(made.status)
+        return cls._of(made.cap)
+
+    # the instructions
+
+    def clear_tag(self) -> Capability:
+        """The same word without a tag (CClearTag)."""
+        return self._of(_clear_tag(self._cap))
+
+    def set_address(self, address: int) -> Capability:
+        """Another address (CSetAddr)."""
+        return self._of(_set_address(self._cap, _number(address, 64, "address")))
+
+    def inc_offset(self, offset: int) -> Capability:
+        """The address raised by an offset, modulo 2^64 (CIncOffset).
+
+        >>> Capability.root().inc_offset(-16)
+        <Capability 0xfffffffffffffff0 [0x0, 0x10000000000000000) all>
+        """
+        return self._of(_inc_offset(self._cap, offset & _HALF))
+
+    def set_bounds(self, length: int) -> Capability:
+        """The rounding of the `length` addresses from the address on as bounds (CSetBounds)."""
+        return self._of(_set_bounds(self._cap, _number(length, 64, "length")))
+
+    def set_bounds_exact(self, length: int) -> Capability:
+        """The same, tagged only where nothing is rounded (CSetBoundsExact)."""
+        return self._of(_set_bounds_exact(self._cap, _number(length, 64, "length")))
+
+    def and_perms(self, mask: int) -> Capability:
+        """The permissions that are also in the mask (CAndPerm)."""
+        return self._of(_and_perms(self._cap, _number(mask, 64, "mask")))
+
+    def set_flags(self, flags: int) -> Capability:
+        """The lowest bit of a number as the flag (CSetFlags)."""
+        return self._of(_set_flags(self._cap, _number(flags, 64, "flags")))
+
+    def set_high(self, upper: int) -> Capability:
+        """Another upper half, never tagged (CSetHigh)."""
+        return self._of(_set_high(self._cap, _number(upper, 64, "upper half")))
+
+    def seal(self, authority: Capability) -> Capability:
+        """Sealed with the authority's address as the type (CSeal).
+
+        >>> Capability.make(0x1000, 16).seal(Capability.root().set_address(5))
+        <Capability 0x1000 [0x1000, 0x1010) all type 5>
+        """
+        return self._of(_seal(self._cap, authority._cap))
+
+    def unseal(self, authority: Capability) -> Capability:
+        """Unsealed under an authority (CUnseal)."""
+        return self._of(_unseal(self._cap, authority._cap))
+
+    def seal_entry(self) -> Capability:
+        """Sealed as a sentry (CSealEntry)."""
+        return self._of(_seal_entry(self._cap))
+
+    def build(self, source: Capability) -> Capability:
+        """What the source's word says, unsealed, under this authority (CBuildCap).
+
+        >>> Capability.root().build(Capability.make(0x1000, 16).clear_tag()).tag
+        True
+        """
+        return self._of(_build(self._cap, source._cap))
+
+    def test_subset(self, other: Capability) -> bool:
+        """Whether the tags are equal, and the other's bounds and permissions lie in this one's
+        (CTestSubset)."""
+        return _test_subset(self._cap, other._cap)
+
+    # what instructions read
+
+    @property
+    def _parts(self) -> _Parts:
+        if self._found is None:
+            object.__setattr__(self, "_found", _read(self._cap))
+        return self._found  # type: ignore[return-value]
+
+    @property
+    def word(self) -> int:
+        """The 128 bits as in memory."""
+        return self._cap.upper << 64 | self._cap.addr
+
+    @property
+    def address(self) -> int:
+        """The address (CGetAddr)."""
+        return self._cap.addr
+
+    @property
+    def high(self) -> int:
+        """The upper half (CGetHigh)."""
+        return self._cap.upper
+
+    @property
+    def tag(self) -> bool:
+        """Whether it is a tagged capability (CGetTag)."""
+        return self._cap.tag
+
+    @property
+    def base(self) -> int:
+        """The base (CGetBase)."""
+        return self._parts.base
+
+    @property
+    def top(self) -> int:
+        """The first address above the bounds."""
+        return self._parts.top_high << 64 | self._parts.top
+
+    @property
+    def length(self) -> int:
+        """The length, at most 2^64 - 1 (CGetLen)."""
+        return self._parts.len
+
+    @property
+    def offset(self) -> int:
+        """The address less the base, modulo 2^64 (CGetOffset)."""
+        return self._parts.offset
+
+    @property
+    def perms(self) -> int:
+        """The permissions as a number (CGetPerm)."""
+        return self._parts.perms
+
+    @property
+    def permissions(self) -> FrozenSet[str]:
+        """The names of the permissions."""
+        perms = self._parts.perms
+        return frozenset(name for name, bit in PERMISSIONS.items() if perms & bit)
+
+    @property
+    def otype(self) -> int:
+        """The object type, of 18 bits. CGetType sign-extends those above LAST_SEALABLE."""
+        return self._parts.otype & UNSEALED
+
+    @property
+    def flags(self) -> int:
+        """The flag, 0 or 1 (CGetFlags)."""
+        return self._parts.flags
+
+    @property
+    def sealed(self) -> bool:
+        """Whether the type is any but unsealed (CGetSealed)."""
+        return self._parts.sealed
+
+    def __eq__(self, other: object) -> bool:
+        """Whether the tags and the words are equal (CSetEqualExact)."""
+        if not isinstance(other, Capability):
+            return NotImplemented
+        return _equal_exact(self._cap, other._cap)
+
+    def __hash__(self) -> int:
+        return hash((self._cap.addr, self._cap.upper, self._cap.tag))
+
+    def __reduce__(self) -> Tuple[Any, ...]:
+        return type(self), (self.word, self.tag)
+
+    def __repr__(self) -> str:
+        if not self.tag:
+            return f"<Capability untagged 0x{self.word:032x}>"
+        names = [name for name, bit in PERMISSIONS.items() if self.perms & bit]
+        perms = "all" if self.perms == ALL else "+".join(names) or "none"
+        kind = {UNSEALED: "", SENTRY: " sentry"}.get(self.otype, f" type {self.otype}")
+        return f"<Capability {self.address:#x} [{self.base:#x}, {self.top:#x}) {perms}{kind}>"
+
+
+# arrays: a call for each word costs some microseconds, a place of an array some nanoseconds
+
+_Table = Union[Sequence[Tuple[int, int]], Any]
+
+
+def _as_pairs(table: _Table, what: str) -> Any:
+    """A numpy array of pairs, as it is or copied to lie in one piece; or None for other sequences."""
+    if not hasattr(table, "__array_interface__"):
+        return None
+    import numpy
+
+    array = numpy.ascontiguousarray(table)
+    if array.dtype != numpy.uint64 or array.ndim != 2 or array.shape[1] != 2:
+        raise ValueError(f"{what} are not an array of uint64 with two columns")
+    return array
+
+
+def bounds_of(words: _Table) -> Any:
+    """The bounds that words are read with.
+
+    Of a numpy array of uint64 whose rows are (address, upper half) it is one whose rows are
+    (base, top modulo 2^64, top / 2^64). Of any other sequence of words it is a list of `decode`.
+
+    >>> bounds_of([0])
+    [(0, 18446744073709551616)]
+    """
+    array = _as_pairs(words, "words")
+    if array is None:
+        return [decode(word) for word in words]
+    import numpy
+
+    found = numpy.empty((len(array), 3), numpy.uint64)
+    _bounds_of(array.ctypes.data, len(array), found.ctypes.data, len(found))
+    return found
+
+
+def round_of(ranges: _Table) -> Any:
+    """The roundings of ranges.
+
+    Of a numpy array of uint64 whose rows are (base, length) it is an array of records with the
+    fields base, top, top_high, b, t, ie, e and exact. Of any other sequence of pairs it is a list
+    of `round_bounds`.
+
+    >>> round_of([(1, 4096)])[0].top
+    4104
+    """
+    array = _as_pairs(ranges, "ranges")
+    if array is None:
+        return [round_bounds(base, length) for base, length in ranges]
+    import numpy
+
+    found = numpy.zeros(len(array), numpy.dtype(_Rounded))
+    _round_of(array.ctypes.data, len(array), found.ctypes.data, len(found))
+    return found
