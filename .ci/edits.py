@@ -33,10 +33,35 @@ def load_rt() -> ModuleType:
     made = importlib.util.module_from_spec(spec)
     sys.modules["rt"] = made
     loader.exec_module(made)
-    for name in ("must_fail", "checked", "read_edit", "unread", "linked", "listing"):
+    if not hasattr(made, "linked"):
+        fill_in(made)
+    for name in ("must_fail", "checked", "read_edit", "unread", "linked", "listing", "SETTLED"):
         if not hasattr(made, name):
             sys.exit(f"edits: this kit's rt has no {name}: README.md names the kits that this script knows")
     return made
+
+
+def linked(kept: str, copy: str) -> None:
+    """A copy of a folder of kept work, by links to its files."""
+    shutil.copytree(kept, copy, copy_function=os.link)
+
+
+def listing(kept: str) -> list[tuple[str, int, int, int]]:
+    """The files of a folder of kept work, which show whether one of them was written since."""
+    found = []
+    for at, _, names in os.walk(kept):
+        for name in names:
+            status = os.stat(f"{at}/{name}")
+            found.append((f"{at}/{name}", status.st_size, status.st_mtime_ns, status.st_ino))
+    return sorted(found)
+
+
+def fill_in(made: ModuleType) -> None:
+    """What rt of kit 13b lacks of what 13f's has: both calls on kept work, and names for what must_fail answers, which
+    is only whether an edit was refused."""
+    made.linked, made.listing = linked, listing
+    made.REFUSED = made.AT_LIMIT = True
+    made.SETTLED = (True,)
 
 
 RT = load_rt()
