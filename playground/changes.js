@@ -111,7 +111,7 @@ const changes = (() => {
 
   function sweep() {
     if (!desk.isReady()) return;
-    const [low, high] = ["sweep-low", "sweep-high"].map((id) => fields.argumentOf(part(id).value));
+    const [low, high] = ["sweep-low", "sweep-high"].map((id) => part(id).value.trim());
     changeOrder(orders.withSweep(order.value, desk.position(), low, high), desk.position() + 1);
   }
 

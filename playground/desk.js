@@ -62,9 +62,10 @@ const desk = (() => {
       showStale(found.status === STATUS.ORDER ? "of the last good order" : "out of memory");
       return false;
     }
-    const words = shown?.listing === listing.value ? shown.words : source.wordsOf(listing.value);
-    const image = imageOf(listing.value);
-    shown = { listing: listing.value, order: order.value, words, image, length: found.at };
+    const ofListing = shown?.listing === listing.value ? shown : { listing: listing.value,
+      words: source.wordsOf(listing.value), registers: source.registersOf(listing.value),
+      image: runs.imageOf(listing.value) };
+    shown = { ...ofListing, order: order.value, length: found.at };
     events = [];
     showStale("");
     go(at ?? shown.length, isFollowed);
@@ -94,7 +95,7 @@ const desk = (() => {
     events = found.map((event) => facts.inWords(event, shown.words));
     list.mark(-1);
     list.show(events, false);
-    diagram.show(events, harts);
+    diagram.show(events, harts, shown.length);
   }
 
   /**

@@ -4,6 +4,8 @@
  */
 const editor = (() => {
   const { element } = draw;
+  /** So many harts are named beside a line; of more there is the count. */
+  const MOST_NAMED = 3;
 
   /**
    * `area` is the text area, `gutter` the place beside it, `bars` what lies behind it; `toggle(line)` is called where
@@ -38,7 +40,8 @@ const editor = (() => {
     }
 
     function rowOf(line) {
-      const next = marks.has(line) ? `\u25B6${marks.get(line)}` : "";
+      const harts = marks.get(line) ?? "";
+      const next = harts && `\u25B6${harts.length <= MOST_NAMED ? harts : `\u00D7${harts.length}`}`;
       const mark = line === faulty ? "\u2717" : (line === trapped ? "\u26a0" : "") + next;
       const kind = line === faulty ? "faulty" : mark ? "next" : null;
       return element("div", { class: kind, "data-line": line },

@@ -26,8 +26,8 @@ const help = (() => {
     }
     place.replaceChildren(
       element("p", {}, element("code", {}, `${row.name} ${row.written}`), ` ${row.computes}`),
-      element("p", {}, element("b", {}, "Tag: "), `${row.tag}. `, element("b", {}, "Traps: "), trapWords(row.traps), ". ",
-        element("a", { href: `instructions.html#${row.name}` }, "All instructions")));
+      element("p", {}, element("b", {}, "Tag: "), `${row.tag}. `, element("b", {}, "Traps: "),
+        `${trapWords(row.traps)}. `, element("a", { href: `instructions.html#${row.name}` }, "All instructions")));
   }
 
   return { begin, forms, show };

@@ -30,18 +30,18 @@ const moment = (() => {
   }
 
   /** Draws harts, memory and the reasons of a position of a run. */
-  function show({ listing, image, length }, { state, next }, event, changed) {
+  function show({ registers: named, image, length }, { state, next }, event, changed) {
     const isFull = part("full").checked;
     const focus = Object.keys(event?.leaves ?? event?.finds ?? {})[0] ?? event?.at?.address ?? null;
     view.showEvent(part("words"), element("div"), event, image,
       length > 0 ? "Before the first operation." : "The order is empty: step a hart, or press Run.");
     part("words").scrollTop = 0;
-    update("harts", (place) => registers.show(place, state, listing,
-      { changed, image, notes: notesOf(state, next, event), isFull }));
+    const notes = notesOf(state, next, event);
+    update("harts", (place) => registers.show(place, state, named, { changed, image, notes, isFull }));
     update("facts", (place) => facts.show(place, event, image, isFull));
     update("memory", (place) => memory.show(place, state, { changed, image, focus, isFull,
       form: part("memory-form").value, size: Number(part("memory-bytes").value) }));
-    part("listing-next").textContent = nextWords(next);
+    part("listing-next").textContent = part("listing-next").title = nextWords(next);
   }
 
   /** Buttons, slider and the position in words. */

@@ -39,9 +39,9 @@ const registers = (() => {
       table("values short", `PCC and registers of hart ${number}`, ["Register", ...values.COLUMNS], rows));
   }
 
-  /** Draws every hart into a place. `notes` has words for those, by number, that have some. */
-  function show(place, state, listing, { changed, image, notes, isFull }) {
-    const names = source.registersOf(listing).map((number) => `c${number}`);
+  /** Draws every hart with the registers that are named. `notes` has words for those, by number, that have some. */
+  function show(place, state, named, { changed, image, notes, isFull }) {
+    const names = named.map((number) => `c${number}`);
     place.replaceChildren(...state.harts.map((hart, number) =>
       hartPart(hart, number, names, { changed, image, note: notes[number], isFull })));
   }

@@ -36,13 +36,14 @@ const times = (() => {
     const moveRow = (from, to) => move(events[from].number, events[to].number);
     const dragging = drag.over(place, (target) => target.closest("button.box"), moveRow);
 
-    /** Draws these events of a run of so many harts. */
-    function show(shown, harts) {
+    /** Draws these events of a run of so many harts and operations. */
+    function show(shown, harts, length) {
       events = shown;
+      const part = events.length < length ? `: ${events[0].number} to ${events.at(-1).number} of ${length}` : "";
       const heads = ["Event", ...Array.from({ length: harts }, (_, hart) => `Hart ${hart}`)]
         .map((head) => element("th", { scope: "col" }, head));
       place.replaceChildren(element("table", {},
-        element("caption", {}, "Steps of the harts in time"),
+        element("caption", {}, `Steps of the harts in time${part}`),
         element("thead", {}, element("tr", {}, ...heads)),
         element("tbody", {}, ...events.map((event, index) => rowOf(event, index, harts)))));
     }

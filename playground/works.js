@@ -44,6 +44,7 @@ const works = (() => {
     const wasKept = isKept;
     isKept = store.write(current.id, { ...texts, name: current.name });
     if (isNew || isKept !== wasKept) show();
+    if (wasKept && !isKept) notice.say("This browser doesn't keep what you type: download it before you leave.");
   }
 
   /** Gives the open piece another name; an empty one is none. */

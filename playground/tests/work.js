@@ -97,6 +97,13 @@ async function checkNotices(one, say) {
       && (await textOf(one, "notice")).includes("listing is faulty"), await textOf(one, "notice"));
   }
   await forget(one);
+  await one.ask(() => {
+    Storage.prototype.setItem = () => { throw new DOMException("full", "QuotaExceededError"); };
+  });
+  await enter(one, "order", "0");
+  say("where the browser keeps nothing, that is said", (await textOf(one, "notice")).includes("doesn't keep")
+    && (await textOf(one, "work-state")).includes("not kept"), await textOf(one, "notice"));
+  await forget(one);
   await one.open("#1.AAAA");
   const said = await textOf(one, "notice");
   await enter(one, "order", "0");
