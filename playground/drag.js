@@ -2,27 +2,29 @@
 const drag = (() => {
   const FAR_PIXELS = 6;
 
+  const rowsOf = (place) => [...place.querySelectorAll("tbody tr")];
+
+  /** The number of the row at a height of the window: the nearest one. */
+  function rowAt(place, y) {
+    const rows = rowsOf(place);
+    const found = rows.findIndex((row) => y < row.getBoundingClientRect().bottom);
+    return found < 0 ? rows.length - 1 : found;
+  }
+
+  function showTarget(place, index) {
+    place.querySelector(".target")?.classList.remove("target");
+    if (index !== null) rowsOf(place)[index]?.classList.add("target");
+  }
+
   /** In `place`, boxes that `boxOf(target)` finds have rows; `move(from, to)` is called with the rows' numbers. */
   function over(place, boxOf, move) {
     let dragged = null;
     let wasDragged = false;
 
-    /** The number of the row at a height of the window: the nearest one. */
-    function rowAt(y) {
-      const rows = [...place.querySelectorAll("tbody tr")];
-      const found = rows.findIndex((row) => y < row.getBoundingClientRect().bottom);
-      return found < 0 ? rows.length - 1 : found;
-    }
-
-    function showTarget(index) {
-      place.querySelector(".target")?.classList.remove("target");
-      if (index !== null) place.querySelectorAll("tbody tr")[index]?.classList.add("target");
-    }
-
     function end(isDone) {
       const { from, to, isFar } = dragged;
       dragged = null;
-      showTarget(null);
+      showTarget(place, null);
       wasDragged = isDone && isFar;
       if (wasDragged && to !== from) move(from, to);
     }
@@ -39,8 +41,8 @@ const drag = (() => {
       if (!dragged) return;
       dragged.isFar ||= Math.abs(moved.clientY - dragged.y) > FAR_PIXELS;
       if (!dragged.isFar) return;
-      dragged.to = rowAt(moved.clientY);
-      showTarget(dragged.to);
+      dragged.to = rowAt(place, moved.clientY);
+      showTarget(place, dragged.to);
     });
     place.addEventListener("pointerup", () => dragged && end(true));
     place.addEventListener("pointercancel", () => dragged && end(false));

@@ -29,6 +29,13 @@ const times = (() => {
     return element("tr", { "data-index": index }, name, ...cells);
   }
 
+  function tableOf(events, harts, caption) {
+    const heads = ["Event", ...Array.from({ length: harts }, (_, hart) => `Hart ${hart}`)];
+    return element("table", {}, element("caption", {}, caption),
+      element("thead", {}, element("tr", {}, ...heads.map((head) => element("th", { scope: "col" }, head)))),
+      element("tbody", {}, ...events.map((event, index) => rowOf(event, index, harts))));
+  }
+
   /** `pick(index)` goes to an event; `move(from, to)` asks for the order in which a step comes at another's moment. */
   function over(place, pick, move) {
     let events = [];
@@ -40,12 +47,7 @@ const times = (() => {
     function show(shown, harts, length) {
       events = shown;
       const part = events.length < length ? `: ${events[0].number} to ${events.at(-1).number} of ${length}` : "";
-      const heads = ["Event", ...Array.from({ length: harts }, (_, hart) => `Hart ${hart}`)]
-        .map((head) => element("th", { scope: "col" }, head));
-      place.replaceChildren(element("table", {},
-        element("caption", {}, `Steps of the harts in time${part}`),
-        element("thead", {}, element("tr", {}, ...heads)),
-        element("tbody", {}, ...events.map((event, index) => rowOf(event, index, harts)))));
+      place.replaceChildren(tableOf(events, harts, `Steps of the harts in time${part}`));
     }
 
     /** Marks the event of the position; its box is in the order of the tab key, else the first. */
