@@ -108,10 +108,18 @@ const opening = (() => {
     document.documentElement.dataset.ready = "yes";
   }
 
-  /** Another link in the same tab: what was open stays in My work, and `undo` leads back. */
+  /**
+   * Another link in the same tab: what was open stays in My work, and `undo` leads back. One that can't be read changes
+   * nothing.
+   */
   async function openLink() {
     if (location.hash.length <= 1 || tools.ask(location.hash)) return;
     const old = openNow();
+    if (!await share.read(location.hash)) {
+      history.replaceState(null, "", withoutFragment());
+      notice.say("The link can't be read. What was open stays.");
+      return;
+    }
     await openFirst();
     changes.noteUndo(() => {
       history.replaceState(null, "", withoutFragment());

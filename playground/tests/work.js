@@ -171,14 +171,24 @@ async function checkLinks(one, say) {
   await one.open("#decode=000c000004188004_0000000080000000");
   const line = await textOf(one, "decode-line");
   say("a link asks a tool", line.includes("top=00000000080000064") && await textOf(one, "notice") === "", line);
+  await enter(one, "listing", LOOP);
+  await one.ask(() => { location.hash = "#1.AAAA"; });
+  await one.until(() => document.getElementById("notice").textContent !== "");
+  say("a broken link in the same tab leaves what is open", await valueOf(one, "listing") === LOOP
+    && (await textOf(one, "notice")).includes("stays") && await hashOf(one) === "", await textOf(one, "notice"));
+  await one.ask((fragment) => { location.hash = fragment; }, fragment);
+  const isOpened = await one.until(() => document.getElementById("work-name").value === "leak");
+  await click(one, "undo");
+  say("another link in the same tab is opened, and undone", isOpened && await valueOf(one, "listing") === LOOP);
   await one.open(`${fragment}&embed=1`);
   const isSeen = (id) => one.ask((id) => document.getElementById(id).getClientRects().length > 0, id);
   const seen = [];
   for (const id of ["listing", "harts", "steps", "example", "share"]) seen.push(await isSeen(id));
   say("embedded there are no gallery and no links", seen.join() === "true,true,true,false,false", seen);
+  const kept = () => one.ask(() => JSON.stringify(Object.entries(localStorage).sort()));
+  const before = await kept();
   await enter(one, "order", "1");
-  const kept = await one.ask(() => Object.keys(localStorage).filter((key) => key.includes("work")).length);
-  say("embedded nothing is kept", kept === 0, kept);
+  say("embedded nothing is kept", await kept() === before, await kept());
   const whole = await one.ask(() => document.getElementById("whole-page").href);
   say("embedded there is a link to the whole page", whole.includes("#1.") && !whole.includes("embed"), whole);
 }
