@@ -10,7 +10,7 @@ const path = require("node:path");
 
 const KEYS = {
   ArrowLeft: 37, ArrowUp: 38, ArrowRight: 39, ArrowDown: 40, Home: 36, End: 35, Tab: 9,
-  Enter: 13, " ": 32, Escape: 27, Delete: 46,
+  Enter: 13, " ": 32, Escape: 27, Delete: 46, F9: 120,
 };
 
 /** One connection to the browser; each message is answered by its number. */
@@ -107,6 +107,15 @@ class Tab {
     await this.send("Input.dispatchKeyEvent",
       { type: text ? "keyDown" : "rawKeyDown", text, ...named });
     await this.send("Input.dispatchKeyEvent", { type: "keyUp", ...named });
+  }
+
+  /** Presses the mouse at one place, and lets it go at another. */
+  async drag([x, y], [toX, toY]) {
+    const send = (type, x, y, more) => this.send("Input.dispatchMouseEvent", { type, x, y, button: "left", ...more });
+    await send("mousePressed", x, y, { clickCount: 1, buttons: 1 });
+    await send("mouseMoved", (x + toX) / 2, (y + toY) / 2, { buttons: 1 });
+    await send("mouseMoved", toX, toY, { buttons: 1 });
+    await send("mouseReleased", toX, toY, { clickCount: 1 });
   }
 
   /** The parts of the accessibility tree that are not ignored: role, name and so on. */

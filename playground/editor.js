@@ -1,64 +1,35 @@
 /**
- * An editor of a listing: a text area whose lines have numbers and marks beside them. Of a long
- * listing only the numbers in sight are drawn.
+ * An editor of a listing: a text area whose lines have numbers and marks beside them, and bars behind those that are
+ * faulty or next. Of a long listing only the numbers in sight are drawn.
  */
 const editor = (() => {
   const { element } = draw;
+  /** So many harts are named beside a line; of more there is the count. */
+  const MOST_NAMED = 3;
 
-  /** `area` is the text area, `gutter` the place beside it, `bar` what lies behind a marked line. */
-  function over(area, gutter, bar) {
-    let marks = new Map();
-    let faulty = null;
-    let height = 0;
+  /** How high a line of a text area is, and what is above the first. */
+  function sizesOf(area) {
+    const style = getComputedStyle(area);
+    return [style.lineHeight, style.paddingTop].map(parseFloat);
+  }
 
-    /** How high a line is, and what is above the first. */
-    function sizes() {
-      const style = getComputedStyle(area);
-      return [style.lineHeight, style.paddingTop].map(parseFloat);
+  /** The lines of a text area: which one the cursor is in, which lies at a height, and what brings one into sight. */
+  function linesOf(area) {
+    const caretLine = () => area.value.slice(0, area.selectionStart).split("\n").length;
+
+    /** The line at a height of the window, or nothing below the last. */
+    function lineAt(y) {
+      const [height, padding] = sizesOf(area);
+      const line = Math.floor((y - area.getBoundingClientRect().top + area.scrollTop - padding) / height) + 1;
+      return line >= 1 && line <= area.value.split("\n").length ? line : null;
     }
 
-    /** The rows of numbers and marks that are in sight. */
-    function show() {
-      const [lineHeight, padding] = sizes();
-      height = lineHeight;
-      const count = area.value.split("\n").length;
-      const first = Math.max(0, Math.floor((area.scrollTop - padding) / height));
-      const last = Math.min(count, first + Math.ceil(area.clientHeight / height) + 2);
-      const rows = [];
-      for (let line = first + 1; line <= last; line += 1) rows.push(rowOf(line));
-      gutter.replaceChildren(element("div", {}, ...rows));
-      gutter.firstChild.style.transform =
-        `translateY(${padding + first * height - area.scrollTop}px)`;
-      showBar(padding);
-    }
-
-    function rowOf(line) {
-      const mark = line === faulty ? "\u2717" : marks.has(line) ? `\u25B6${marks.get(line)}` : "";
-      return element("div", { class: line === faulty ? "faulty" : mark ? "next" : null },
-        element("span", { class: "mark-of-line" }, mark), String(line));
-    }
-
-    /** The bar behind the faulty line. */
-    function showBar(padding) {
-      bar.hidden = faulty === null;
-      if (faulty === null) return;
-      bar.style.height = `${height}px`;
-      bar.style.transform = `translateY(${padding + (faulty - 1) * height - area.scrollTop}px)`;
-    }
-
-    /** Marks a line as faulty, or none. */
-    function fault(line) {
-      faulty = line;
-      show();
-    }
-
-    /** Marks the lines of the next instructions: of each hart its line, or null. */
-    function next(lines) {
-      marks = new Map();
-      lines.forEach((line, hart) => {
-        if (line !== null) marks.set(line, (marks.get(line) ?? "") + hart);
-      });
-      show();
+    /** Scrolls a line into sight, where it isn't. */
+    function follow(line) {
+      const [height, padding] = sizesOf(area);
+      const top = padding + (line - 1) * height;
+      if (top >= area.scrollTop + height && top + 2 * height <= area.scrollTop + area.clientHeight) return;
+      area.scrollTop = Math.max(0, top - area.clientHeight / 2);
     }
 
     /** Puts the cursor to a line, and scrolls it into sight. */
@@ -67,13 +38,83 @@ const editor = (() => {
       const at = lines.slice(0, line - 1).reduce((sum, text) => sum + text.length + 1, 0);
       area.focus();
       area.setSelectionRange(at, at + (lines[line - 1]?.length ?? 0));
-      area.scrollTop = Math.max(0, (line - 4) * sizes()[0]);
+      area.scrollTop = Math.max(0, (line - 4) * sizesOf(area)[0]);
+    }
+
+    return { caretLine, follow, goTo, lineAt };
+  }
+
+  /** A row beside a line: its breakpoint, its fault or trap, the harts whose next instruction it has, its number. */
+  function rowOf(line, { marks, points, faulty, trapped }) {
+    const harts = marks.get(line) ?? "";
+    const next = harts && `\u25B6${harts.length <= MOST_NAMED ? harts : `\u00D7${harts.length}`}`;
+    const mark = line === faulty ? "\u2717" : (line === trapped ? "\u26a0" : "") + next;
+    const kind = line === faulty ? "faulty" : mark ? "next" : null;
+    return element("div", { class: kind, "data-line": line },
+      element("span", { class: "mark-of-line" }, points.has(line) ? "\u25CF" : "", mark), String(line));
+  }
+
+  /** The lines that have a bar behind them, each with its kind. */
+  function barsOf({ marks, faulty, trapped }) {
+    const kinds = new Map([...marks.keys()].map((line) => [line, "next"]));
+    for (const line of [trapped, faulty]) if (line !== null) kinds.set(line, "faulty");
+    return kinds;
+  }
+
+  /** A part of the editor at a height, which follows the scrolling of the text. */
+  function putAt(part, top, height = null) {
+    if (height !== null) part.style.height = `${height}px`;
+    part.style.transform = `translateY(${top}px)`;
+    return part;
+  }
+
+  /**
+   * `area` is the text area, `gutter` the place beside it, `bars` what lies behind it; `toggle(line)` is called where
+   * a line's number is clicked.
+   */
+  function over(area, gutter, bars, toggle) {
+    const shown = { marks: new Map(), points: new Set(), faulty: null, trapped: null };
+
+    /** The rows of numbers and marks that are in sight, and the bars. */
+    function show() {
+      const [height, padding] = sizesOf(area);
+      const count = area.value.split("\n").length;
+      const first = Math.max(0, Math.floor((area.scrollTop - padding) / height));
+      const last = Math.min(count, first + Math.ceil(area.clientHeight / height) + 2);
+      const topOf = (line) => padding + (line - 1) * height - area.scrollTop;
+      const rows = Array.from({ length: last - first }, (_, index) => rowOf(first + index + 1, shown));
+      gutter.replaceChildren(putAt(element("div", {}, ...rows), topOf(first + 1)));
+      bars.replaceChildren(...[...barsOf(shown)].map(([line, kind]) =>
+        putAt(element("div", { class: `bar-of-line ${kind}` }), topOf(line), height)));
+    }
+
+    /** Shows other marks than before. */
+    function mark(changed) {
+      Object.assign(shown, changed);
+      show();
+    }
+
+    /** Marks the lines of the next instructions, of each hart its line or null; and the one that trapped just now. */
+    function next(lines, trapped) {
+      const marks = new Map();
+      lines.forEach((line, hart) => {
+        if (line !== null) marks.set(line, (marks.get(line) ?? "") + hart);
+      });
+      mark({ marks, trapped });
     }
 
     area.addEventListener("scroll", show);
     area.addEventListener("input", show);
     new ResizeObserver(show).observe(area);
-    return { fault, goTo, next, show };
+    gutter.addEventListener("click", ({ target }) => {
+      const line = Number(target.closest("[data-line]")?.dataset.line);
+      if (line) toggle(line);
+    });
+    return {
+      ...linesOf(area), next, show,
+      breakpoints: (lines) => mark({ points: new Set(lines) }),
+      fault: (line) => mark({ faulty: line }),
+    };
   }
 
   return { over };

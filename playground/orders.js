@@ -37,5 +37,21 @@ const orders = (() => {
     return `${hasHeader(kept) ? "" : HEADER}${kept}[${low},${high}]`;
   }
 
-  return { firstOf, operationsOf, withStep, withSweep };
+  /** The text in which one operation comes where another is now. */
+  function withMoved(text, from, to) {
+    const operations = operationsOf(text);
+    const [begin, end] = operations[from];
+    const moved = text.slice(begin, end);
+    if (to > from) {
+      const after = operations[to][1];
+      return text.slice(0, begin) + text.slice(end, after) + moved + text.slice(after);
+    }
+    const before = operations[to][0];
+    return text.slice(0, before) + moved + text.slice(before, begin) + text.slice(end);
+  }
+
+  /** Whether a file's text is that of an order: a header, or digits of harts alone. */
+  const isOrder = (text) => hasHeader(text) || /^[0-7 \n]*[0-7][0-7 \n]*$/.test(text);
+
+  return { firstOf, isOrder, operationsOf, withMoved, withStep, withSweep };
 })();

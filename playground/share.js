@@ -1,4 +1,7 @@
-/** Links: `#1.` and the base64url of raw deflate of the listing, a byte 0 and the order. */
+/**
+ * Links: `#1.` and the base64url of raw deflate of the listing, a byte 0 and the order; then, each after `&`, `at=` a
+ * position, `name=` a name and `embed=1`.
+ */
 const share = (() => {
   const VERSION = "1.";
   const MOST_CHARACTERS = 32_000;
@@ -40,24 +43,37 @@ const share = (() => {
       (one) => one.charCodeAt(0));
   }
 
-  /** The fragment of a listing and an order. */
-  async function fragmentOf(listing, order) {
+  /** The fragment of a listing and an order, with what else it says. */
+  async function fragmentOf(listing, order, more = {}) {
     const bytes = new TextEncoder().encode(`${listing}\0${order}`);
-    return `#${VERSION}${toBase64url(await through(bytes, new CompressionStream("deflate-raw")))}`;
+    const data = toBase64url(await through(bytes, new CompressionStream("deflate-raw")));
+    const words = Object.entries(more).map(([key, value]) => `&${key}=${encodeURIComponent(value)}`);
+    return `#${VERSION}${data}${words.join("")}`;
   }
 
-  /** The listing and the order of a fragment, or nothing where it can't be read. */
+  /** What stands after the data: a position and a name, where they can be read. */
+  function wordsOf(parts) {
+    const words = new Map(parts.map((part) => part.split("=")));
+    const at = /^\d{1,6}$/.test(words.get("at") ?? "") ? Number(words.get("at")) : undefined;
+    return { at, name: decodeURIComponent(words.get("name") ?? "").slice(0, 60) };
+  }
+
+  /** Listing, order, position and name of a fragment, or nothing where it can't be read. */
   async function read(fragment) {
     if (!fragment.startsWith(`#${VERSION}`)) return null;
     try {
-      const bytes = await inflated(fromBase64url(fragment.slice(1 + VERSION.length)));
+      const [data, ...parts] = fragment.slice(1 + VERSION.length).split("&");
       const [listing, order, ...more] = new TextDecoder("utf-8", { fatal: true })
-        .decode(bytes).split("\0");
-      return order === undefined || more.length > 0 ? null : { listing, order };
+        .decode(await inflated(fromBase64url(data))).split("\0");
+      return order === undefined || more.length > 0 ? null : { listing, order, ...wordsOf(parts) };
     } catch {
       return null;
     }
   }
 
-  return { MOST_CHARACTERS, fragmentOf, read };
+  /** Whether the page is to be shown within another. */
+  const isEmbedded = ({ hash, search }) => /[#&]embed=1(&|$)/.test(hash)
+    || new URLSearchParams(search).get("embed") === "1";
+
+  return { MOST_CHARACTERS, fragmentOf, isEmbedded, read };
 })();

@@ -9,6 +9,7 @@ const path = require("node:path");
 const KEYS = {
   Enter: "\uE007", Tab: "\uE004", End: "\uE010", Home: "\uE011", ArrowLeft: "\uE012", ArrowUp: "\uE013",
   ArrowRight: "\uE014", ArrowDown: "\uE015", Delete: "\uE017", Alt: "\uE00A", Control: "\uE009",
+  F9: "\uE039",
 };
 
 /** One connection to the browser; each command is answered by its number. */
@@ -74,6 +75,28 @@ class Tab {
     return this.connection.send("input.performActions",
       { context: this.context, actions: [{ type: "key", id: "keys", actions }] });
   }
+
+  /** Presses the mouse at one place, and lets it go at another. */
+  drag([x, y], [toX, toY]) {
+    const move = (x, y) => ({ type: "pointerMove", x: Math.round(x), y: Math.round(y) });
+    const actions = [move(x, y), { type: "pointerDown", button: 0 }, move((x + toX) / 2, (y + toY) / 2), move(toX, toY),
+      { type: "pointerUp", button: 0 }];
+    return this.connection.send("input.performActions",
+      { context: this.context, actions: [{ type: "pointer", id: "mouse", actions }] });
+  }
+
+  /** The size of the page's window. */
+  screen(width, height) {
+    return this.connection.send("browsingContext.setViewport", { context: this.context, viewport: { width, height } });
+  }
+
+  reload() {
+    return this.connection.send("browsingContext.reload", { context: this.context, wait: "complete" });
+  }
+
+  close() {
+    return this.connection.send("browsingContext.close", { context: this.context });
+  }
 }
 
 /** The address of the socket, which the browser writes to its standard error. */
@@ -99,7 +122,7 @@ async function connected(address) {
   return new Connection(socket);
 }
 
-/** Starts Firefox with a profile of its own, runs `work` with a tab, and ends it. */
+/** Starts Firefox with a profile of its own, runs `work` with a maker of tabs, and ends it. */
 async function withFirefox(work) {
   const profile = fs.mkdtempSync(path.join(os.tmpdir(), "firefox-"));
   fs.writeFileSync(path.join(profile, "user.js"),
@@ -113,8 +136,11 @@ async function withFirefox(work) {
     const connection = await connected(await addressOf(browser));
     await connection.send("session.new", { capabilities: {} });
     await connection.send("session.subscribe", { events: ["log.entryAdded", "network.beforeRequestSent"] });
-    const { context } = await connection.send("browsingContext.create", { type: "tab" });
-    return await work(new Tab(connection, context));
+    const newTab = async () => {
+      const { context } = await connection.send("browsingContext.create", { type: "tab" });
+      return new Tab(connection, context);
+    };
+    return await work(newTab);
   } finally {
     const ended = new Promise((resolve) => browser.once("exit", resolve));
     browser.kill();

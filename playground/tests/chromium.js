@@ -12,23 +12,17 @@ const { withBrowser } = require("../../page/browser.js");
 const { check, checkFocus, checkQuiet, checkScreens, checkTree, end } = require("../../page/checks.js");
 const { isReady, positionTimes } = require("./asked.js");
 const { busyListing, checkCases, readLines, readPage, same } = require("./common.js");
+const { inChromium, until } = require("./drivers.js");
+const { checkPerson } = require("./person.js");
 
 const [page, answers, pictures] = process.argv.slice(2);
 const url = `file://${path.resolve(page)}`;
 const cases = readLines(answers);
 const { gallery } = readPage(page);
 const LAST = 4_294_967_295;
+const MOST_LOADING = 500;
 const CONTROL = 2;
 const ALT = 1;
-
-/** Waits until a question that is asked in the page is answered by true. */
-async function until(tab, what, ...words) {
-  for (let tries = 0; tries < 200; tries += 1) {
-    if (await tab.ask(what, ...words)) return true;
-    await new Promise((resolve) => setTimeout(resolve, 25));
-  }
-  return false;
-}
 
 async function open(tab, fragment = "") {
   await tab.send("Page.navigate", { url: "about:blank" });
@@ -173,11 +167,11 @@ async function checkPath(tab, newTab) {
 
 /** The link, opened in a new tab, gives the same page. */
 async function checkShare(tab, newTab) {
+  await pressOn(tab, "last", "Enter");
   await pressOn(tab, "share", "Enter");
   await until(tab, () => document.getElementById("share-link").value !== "");
   const link = await tab.ask(() => document.getElementById("share-link").value);
   check("a link is made", link.startsWith(`${url}#1.`), link.slice(0, 60));
-  await pressOn(tab, "run", "Enter");
   const mine = await seen(tab);
   const other = await newTab();
   await open(other, link.slice(url.length));
@@ -229,6 +223,25 @@ async function checkDownloads(tab) {
 
 // ---------------------------------------------------------- faults, fragments, markup
 
+/** The page with all that it may say at once: a fault of each text, a notice, a breakpoint, what changed before. */
+async function openFaulty(tab) {
+  await open(tab, "#1.AAAA");
+  await tab.ask((text) => {
+    const field = (id) => document.getElementById(id);
+    const enter = (id, text) => {
+      field(id).value = text;
+      field(id).dispatchEvent(new InputEvent("input"));
+    };
+    enter("listing", text);
+    enter("order", "00 11 22x");
+    field("point").click();
+    field("full").click();
+    enter("listing", `${text}add c1, c2\n`);
+    field("race").querySelector("button").click();
+    for (const details of document.querySelectorAll("details")) details.open = true;
+  }, gallery.find(({ name }) => name === "leak").text);
+}
+
 /** Each kind of fault of a listing, marked at its line. */
 async function checkFaults(tab) {
   await open(tab);
@@ -244,7 +257,7 @@ async function checkFaults(tab) {
   for (const [kind, text] of Object.entries(faults)) {
     await type(tab, "listing", text);
     const { fault, faulty } = await seen(tab);
-    const [, line, found] = /^listing line (\d+): (.*?)( Go to line \d+)?$/.exec(fault) ?? [];
+    const [, line, found] = /^listing line (\d+): (\d+ [A-Za-z]+) /.exec(fault) ?? [];
     if (found !== kind || faulty !== line || line === "0") wrong.push([kind, fault, faulty]);
   }
   check(`each of ${Object.keys(faults).length} kinds of faults is marked at its line`, wrong.length === 0, wrong);
@@ -303,7 +316,8 @@ async function checkFragments(tab) {
 /** How long it takes until the page is there and its first run is shown, and to answer a key. */
 async function checkSpeed(tab) {
   let loaded = Infinity;
-  for (let count = 0; count < 3; count += 1) {
+  // machines are busy: the best of some
+  for (let count = 0; count < 10 && loaded > MOST_LOADING; count += 1) {
     await tab.send("Page.navigate", { url: "about:blank" });
     const began = performance.now();
     await tab.go(url);
@@ -331,12 +345,53 @@ async function checkSpeed(tab) {
   });
   const [position, drawn] = await tab.ask(positionTimes, busyListing(), "01234567".repeat(625));
   console.log(`playground: Chromium: a position among 5,000 events, drawn and laid out: ${drawn.toFixed(1)} ms`);
-  const figures = { "the page is there": [loaded, 1000], "a key in a small listing": [key, 50],
+  const figures = { "the page is there": [loaded, MOST_LOADING], "a key in a small listing": [key, 50],
     "a check of 1 MiB": [large, 200], "a report of 100,000 steps": [run, 500],
     "the call for a position among 5,000 events": [position, 50] };
   for (const [name, [taken, most]] of Object.entries(figures)) {
     console.log(`playground: Chromium: ${name}: ${taken.toFixed(1)} ms`);
     check(`${name} in less than ${most} ms`, taken < most, taken);
+  }
+}
+
+/** Two tabs with one piece of work: what is typed in both is kept, in two pieces. */
+async function checkTabs(newTab) {
+  const [one, other] = [await newTab(), await newTab()];
+  await open(one);
+  await type(one, "order", "0");
+  await open(other);
+  await type(one, "order", "01");
+  await until(other, () => document.getElementById("work-state").textContent === "not changed");
+  await type(other, "order", "1");
+  const kept = await other.ask(() => store.all().map(({ order }) => order).sort());
+  check("what is typed in two tabs is kept in two pieces", same(kept, ["01", "1"]), kept);
+  await other.ask(() => localStorage.clear());
+  for (const tab of [one, other]) await tab.send("Page.close");
+}
+
+/** The documents beside the page: each link of the lesson opens a good listing, and both are made for every reader. */
+async function checkDocuments(tab) {
+  const document = (name) => path.join(path.dirname(path.resolve(__filename)), "../../docs", name);
+  const text = fs.readFileSync(document("lesson.html"), "utf8");
+  const links = [...text.matchAll(/href="playground\.html(#[^"]*)"/g)].map(([, link]) => link.replaceAll("&amp;", "&"));
+  await open(tab);
+  const wrong = await tab.ask(async (links) => {
+    const read = await Promise.all(links.map(async (link) => [link, await share.read(link)]));
+    return read.filter(([link, found]) => {
+      if (!found) return !tools.isAsked(link);
+      const end = runs.endOf(found.listing, found.order);
+      return !end.isRun || !(end.at >= (found.at ?? 0)) || found.name === "";
+    }).map(([link]) => link.slice(0, 60));
+  }, links);
+  check(`each of ${links.length} links of the lesson opens a listing that runs to its position`, wrong.length === 0
+    && links.length > 40, wrong);
+  const leak = links.find((link) => link.endsWith("&at=6&name=leak"));
+  await open(tab, leak);
+  const { words } = await seen(tab);
+  check("a link of the lesson opens at the event that its command shows",
+    words.includes("Clears c6: c5 has no load_cap"), words);
+  for (const name of ["lesson.html", "instructions.html"]) {
+    await checkScreens(tab, name, () => tab.go(`file://${document(name)}`), pictures);
   }
 }
 
@@ -365,10 +420,17 @@ withBrowser(async (newTab) => {
   await checkMarkup(tab);
   await checkFragments(tab);
   await checkScreens(tab, "playground", () => open(tab), pictures);
+  await checkScreens(tab, "playground with faults", () => openFaulty(tab), pictures);
+  await checkDocuments(tab);
   await tab.screen(1280, 900, false);
   await open(tab);
   await checkCases(tab, "Chromium", cases);
   await checkSpeed(tab);
   checkQuiet(tab, "the playground");
+  await tab.ask(() => localStorage.clear());
+  await checkTabs(newTab);
+  const one = await inChromium(url, newTab);
+  await checkPerson(one);
+  checkQuiet(one.tab(), "the playground at work");
   await checkBanner(await newTab());
 }).then(() => end(), end);

@@ -21,6 +21,7 @@ function readPage(file) {
     page,
     module: Buffer.from(dataOf(page, "module-data"), "base64"),
     gallery: JSON.parse(dataOf(page, "gallery-data")),
+    help: JSON.parse(dataOf(page, "help-data")),
   };
 }
 

@@ -8,6 +8,8 @@ const { check, checkQuiet, end } = require("../../page/checks.js");
 const { withFirefox } = require("./bidi.js");
 const { isReady } = require("./asked.js");
 const { checkCases, readLines, readPage } = require("./common.js");
+const { inFirefox } = require("./drivers.js");
+const { checkPerson } = require("./person.js");
 
 const [page, answers] = process.argv.slice(2);
 const url = `file://${path.resolve(page)}`;
@@ -54,7 +56,8 @@ async function checkPath(tab) {
     && await textOf(tab, "words") !== "" && link.startsWith(`${url}#1.`), [link.slice(0, 80), words]);
 }
 
-withFirefox(async (tab) => {
+withFirefox(async (newTab) => {
+  const tab = await newTab();
   let loaded = Infinity;
   for (let count = 0; count < 3; count += 1) loaded = Math.min(loaded, await open(tab));
   console.log(`playground: Firefox: the page is there: ${loaded.toFixed(0)} ms`);
@@ -62,4 +65,9 @@ withFirefox(async (tab) => {
   await checkPath(tab);
   await checkCases(tab, "Firefox", cases);
   checkQuiet({ ...tab, requests: tab.requests.filter((one) => !one.startsWith("about:")) }, "the playground in Firefox");
+  const one = await inFirefox(url, newTab);
+  await checkPerson(one);
+  const { requests, complaints } = one.tab();
+  checkQuiet({ complaints, requests: requests.filter((one) => !one.startsWith("about:")) },
+    "the playground in Firefox at work");
 }).then(() => end(), end);

@@ -52,6 +52,44 @@ function nextOf(state, listing) {
   });
 }
 
+/** Each fault of a listing is told in words, at a place of its line. */
+function checkFaults() {
+  const { faults } = scriptsOf(["page/draw.js", "playground/source.js", "playground/faults.js"], ["faults"]);
+  const forms = new Map(readPage(page).help.map(({ name, operands }) => [name, operands]));
+  const kinds = new Set();
+  const wrong = cases.filter(({ listing, check }) => {
+    if (check.status !== STATUS.LISTING || check.place === 0) return false;
+    const line = listing.split("\n")[check.place - 1];
+    const found = faults.explain(line, check.kind, forms);
+    kinds.add(check.kind);
+    const part = found && (line.slice(found.at, found.at + found.length) || "the end of the line");
+    return !found || !found.expected || (part !== found.found && found.found !== "the end of the line");
+  }).map(({ name, check }) => [name, check.line]);
+  check("each fault of a listing is told in words at its place", wrong.length === 0 && kinds.size >= 8, [wrong, [...kinds]]);
+}
+
+const HEAD_OF_EVENT = /^\d+ hart=.*? (?:trap cause=(\d+) reg=\d+|done|halt) \| line \d+: (\S+)/;
+
+/** The table of instructions beside the explanations of all cases: the causes of traps, and results without a tag. */
+function checkHelp() {
+  const table = new Map(readPage(page).help.map((row) => [row.name, row]));
+  const seen = new Set();
+  const wrong = new Set();
+  for (const { explain } of cases.filter((one) => one.explain)) {
+    for (const event of explain.text.split(/\n(?=\d)/)) {
+      const [, cause, name] = HEAD_OF_EVENT.exec(event) ?? [];
+      const row = table.get(name);
+      if (!name) continue;
+      if (!row || (cause && !row.traps.includes(Number(cause)))) wrong.add(`${name} traps ${cause}`);
+      if (row?.tag === "none: an integer" && /^ {2}sets c\d+ 1 /m.test(event)) wrong.add(`${name} sets a tag`);
+      seen.add(cause ? `${name} ${cause}` : name);
+    }
+  }
+  const missing = [...table.keys()].filter((name) => !seen.has(name));
+  check("the table of instructions holds of all cases, which have each instruction",
+    wrong.size === 0 && missing.length === 0, [[...wrong], missing]);
+}
+
 /** Each position: the state of `cheri_explain --html`, the program's events, and the next lines. */
 function checkLooks() {
   const looked = cases.filter((one) => one.look);
@@ -250,6 +288,8 @@ function checkRoom() {
 }
 
 checkCases();
+checkFaults();
+checkHelp();
 checkLooks();
 checkRefusedLooks();
 checkReplay();

@@ -1,0 +1,165 @@
+/** The two texts, the run that they mean, and the position that is shown of it. */
+const desk = (() => {
+  const part = (id) => document.getElementById(id);
+  const { STATUS } = machine;
+
+  /** So many events are listed before and after a multiple of it near the position. */
+  const WINDOW = 25;
+  /** A listing above it is judged at once, and run and kept a little later. */
+  const LARGE_LISTING = 65_536;
+  const LATER_MS = 150;
+
+  const listing = part("listing");
+  const order = part("order");
+  const code = editor.over(listing, part("gutter"), part("bars"), (line) => desk.onPoint(line));
+  const list = view.eventList(part("events"), "Events of the run, in order", pickEvent);
+  const diagram = times.over(part("times"), pickTime, (from, to) => desk.onMove(from, to));
+
+  /** The last good listing and order, how long they run, and what is shown of them. */
+  let shown = null;
+  let position = 0;
+  let events = [];
+  let later = 0;
+
+  // ----------------------------------------------------------------- judging
+
+  /** Judges the listing, and marks its faulty line. Gives its fault's line, or nothing where it is good. */
+  function judgeListing() {
+    const answer = machine.check(listing.value);
+    const isFaulty = answer.status !== STATUS.DONE;
+    code.fault(isFaulty && answer.place > 0 ? answer.place : null);
+    faulty.showListing(answer, listing.value, code.goTo);
+    return isFaulty ? answer.line : "";
+  }
+
+  /** Whether the listing can be run; else that is said. */
+  function isReady() {
+    const fault = judgeListing();
+    if (fault) notice.say(`Nothing is run: the listing is faulty (${fault}). Mend it first.`);
+    return fault === "";
+  }
+
+  /** The words that what is shown is no longer of the texts above; nothing where it is. */
+  function showStale(words) {
+    part("stale").textContent = shown ? words : "";
+    part("machine").classList.toggle("dimmed", Boolean(words) && shown !== null);
+  }
+
+  // --------------------------------------------------------------- the machine
+
+  const imageOf = (text) => (shown?.listing === text ? shown.image : runs.imageOf(text));
+
+  /** Runs both texts, and goes to a position of the run: its end for none. Gives whether there is one. */
+  function runTexts(at, isFollowed = true) {
+    clearTimeout(later);
+    if (judgeListing()) {
+      showStale("of the last good listing");
+      return false;
+    }
+    const found = runs.endOf(listing.value, order.value);
+    faulty.showOrder(found, order.value);
+    if (!found.isRun) {
+      showStale(found.status === STATUS.ORDER ? "of the last good order" : "out of memory");
+      return false;
+    }
+    const ofListing = shown?.listing === listing.value ? shown : { listing: listing.value,
+      words: source.wordsOf(listing.value), registers: source.registersOf(listing.value),
+      image: runs.imageOf(listing.value) };
+    shown = { ...ofListing, order: order.value, length: found.at };
+    events = [];
+    showStale("");
+    go(at ?? shown.length, isFollowed);
+    return true;
+  }
+
+  /** The same after a while, for long listings. */
+  function runTextsLater() {
+    clearTimeout(later);
+    if (listing.value.length < LARGE_LISTING) runTexts(position, false);
+    else if (judgeListing()) showStale("of the last good listing");
+    else later = setTimeout(() => runTexts(position, false), LATER_MS);
+  }
+
+  /** The numbers of the events to be listed at a position. */
+  function windowAt(at) {
+    if (shown.length <= 2 * WINDOW) return [0, Math.max(shown.length - 1, 0)];
+    const middle = Math.floor(at / WINDOW) * WINDOW;
+    return [Math.max(0, middle - WINDOW), middle + 2 * WINDOW - 1];
+  }
+
+  const lookAt = (at, from, to) => JSON.parse(machine.look(shown.listing, shown.order, at, from, to).text);
+
+  /** Lists these events, where others are listed. */
+  function showEvents(found, from, harts) {
+    if (events.length > 0 && events[0].number === from && events.length === found.length) return;
+    events = found.map((event) => facts.inWords(event, shown.words));
+    list.mark(-1);
+    list.show(events, false);
+    diagram.show(events, harts, shown.length);
+  }
+
+  /**
+   * Goes to the moment after so many operations. What reads sizes, the editor and the lists, is drawn
+   * first: so the browser lays the rest out once.
+   */
+  function go(count, isFollowed = true) {
+    if (!shown) return;
+    position = Math.min(Math.max(count, 0), shown.length);
+    const [from, to] = windowAt(position);
+    const now = lookAt(position, from, to);
+    const before = position > 0 ? lookAt(position - 1, 1, 0).state : now.state;
+    const event = facts.inWords(now.events.find(({ number }) => number === position - 1), shown.words);
+    const line = now.next[event?.hart ?? 0] ?? event?.line ?? now.next.find(Boolean);
+    if (isFollowed && line) code.follow(line);
+    code.next(now.next, event?.outcome === "trap" ? event.line ?? null : null);
+    showEvents(now.events, from, now.state.harts.length);
+    const index = events.findIndex(({ number }) => number === position - 1);
+    list.mark(index);
+    diagram.mark(index);
+    moment.show(shown, now, event, view.differences(before, now.state));
+    moment.showControls(position, shown.length, now.state, event);
+  }
+
+  /** The event that led to the position; none at the first. */
+  const lastEvent = () => events.find(({ number }) => number === position - 1);
+
+  /** Goes to the next event after the position that passes a test. Gives whether there is one. */
+  function goToNext(test) {
+    const found = shown && runs.find(shown.listing, shown.order, position, shown.length, test);
+    if (found) go(found.number + 1);
+    return Boolean(found);
+  }
+
+  /** Goes to the first trap or cleared tag, or to the end. */
+  function goToMarkedOrEnd() {
+    const marked = runs.find(shown.listing, shown.order, 0, shown.length, view.isMarked);
+    go(marked ? marked.number + 1 : shown.length);
+  }
+
+  function pickEvent(index) {
+    go(events[index].number + 1);
+    // The list may have been drawn anew around the event.
+    queueMicrotask(() => {
+      if (document.activeElement?.closest("#events") || document.activeElement === document.body) {
+        part("events").querySelector("tr[aria-current] button")?.focus();
+      }
+    });
+  }
+
+  function pickTime(index) {
+    const { number } = events[index];
+    go(number + 1);
+    diagram.focus(number);
+  }
+
+  return {
+    LATER_MS, code, diagram, go, goToMarkedOrEnd, goToNext, imageOf, isReady, lastEvent, listing, order,
+    runTexts, runTextsLater,
+    isLarge: () => listing.value.length >= LARGE_LISTING,
+    position: () => position,
+    shown: () => shown,
+    /** What is done where a breakpoint is asked for in the editor, or a step is moved in the diagram. */
+    onPoint: () => {},
+    onMove: () => {},
+  };
+})();

@@ -1,0 +1,41 @@
+/** The examples: a menu of them, what one shows, and buttons that open it in one of its orders. */
+const gallery = (() => {
+  const part = (id) => document.getElementById(id);
+  const { element } = draw;
+  let examples = [];
+
+  /** What the comments at the head of a listing say. */
+  function aboutOf(text) {
+    const lines = text.split("\n");
+    const end = lines.findIndex((line) => !line.startsWith("#"));
+    return lines.slice(0, end).map((line) => line.replace(/^# ?/, "")).join("\n");
+  }
+
+  function lessonWords({ lesson }) {
+    if (!lesson) return [];
+    return [element("a", { href: `lesson.html#part-${lesson}` }, `Part ${lesson} of the lesson`)];
+  }
+
+  function showExample(open) {
+    const example = examples[part("example").selectedIndex];
+    part("example-about").textContent = aboutOf(example.text) || example.shows;
+    part("example-lesson").replaceChildren(...lessonWords(example));
+    const buttons = example.orders.length ? example.orders : [{ name: "no order" }];
+    part("example-orders").replaceChildren(...buttons.map(({ name }, number) => {
+      const button = element("button", { type: "button" }, `Open with ${name}`);
+      button.addEventListener("click", () => open(example, number));
+      return button;
+    }));
+  }
+
+  /** Fills the menu; `open(example, number)` is called with what the person opens. */
+  function begin(list, open) {
+    examples = list;
+    part("example").replaceChildren(...examples.map(({ name, shows }) =>
+      element("option", { value: name }, `${name}: ${shows}`)));
+    part("example").addEventListener("change", () => showExample(open));
+    showExample(open);
+  }
+
+  return { begin };
+})();
