@@ -1,12 +1,13 @@
 -- Walks along labels.
-use Rattle.std.proofs.Common.{◌≡◌, ℕ, zero, suc, ◌+◌, ◌<◌, List, [], ◌∷◌, length, take, get_or, arith, ap, sym, ◌∙◌, refl, inl, inr, subst}
+use Rattle.std.proofs.Common.{◌≡◌, ℕ, zero, suc, ◌+◌, ◌<◌, ◌≤◌, List, [], ◌∷◌, length, take, get_or, arith, ap, sym, ◌∙◌, refl, inl, inr, subst}
 use Rattle.std.specs.Prelude.{Option, Some, None, IfSome, option_and_then}
-use Rattle.std.proofs.lemmas.Bool.{cases_eq}
-use Rattle.std.proofs.lemmas.List.{take_more}
+use Rattle.std.proofs.lemmas.Bool.{cases_eq, cases_lt}
+use Rattle.std.proofs.lemmas.List.{take_more, take_all}
 use Rattle.std.proofs.lemmas.Option.{none-some}
-use Rattle.graph_search.specs.Walks.{after}
+use Rattle.graph_search.specs.Trees.{IsFound}
+use Rattle.graph_search.specs.Walks.{after, IsWalk}
 use Rattle.graph_search.proofs.OrderLemmas.{after_more}
-use Rattle.graph_loops.specs.Loops.{Takes, AreMeant}
+use Rattle.graph_loops.specs.Loops.{Takes, StaysFound, AreMeant}
 
 pub takes_item : (ls : List ℕ) (i : ℕ) → i < length ls → Takes ls (get_or ls i 0)
 takes_item [] i low = absurd (omega arith)
@@ -24,6 +25,27 @@ walk_more {S} next at count i node here to ls meant below within before edge s i
     let t = meant here below in
     ap (after next s) (take_more ls i 0 within) ∙ (after_more next s (take i ls) (get_or ls i 0)
     ∙ (ap (λ (o : Option S). option_and_then (λ (u : S). next u (get_or ls i 0)) o) (before s is ∙ t.1) ∙ edge t.0 t.1))
+
+-- the states on the way so far were found, and so was the next one
+pub way_more : {S : Type 0} (next : S → ℕ → Option S) (at : ℕ → Option S) (i node to : ℕ) (ls : List ℕ) →
+    ((s : S) → at node ≡ Some s → after next s (take (i + 1) ls) ≡ at to) →
+    ((s : S) → at node ≡ Some s → (n : ℕ) (t : S) → n ≤ i → IsWalk next s (take n ls) t → IsFound at t) →
+    (s : S) → at node ≡ Some s → (n : ℕ) (t : S) → n ≤ i + 1 → IsWalk next s (take n ls) t → IsFound at t
+way_more {S} next at i node to ls walk before s is n t low goes = elim (cases_eq n (i + 1)) [
+  | inl same ↦ (to, sym (walk s is) ∙ (ap (λ (k : ℕ). after next s (take k ls)) (sym same) ∙ goes))
+  | inr other ↦ before s is n t (omega arith) goes
+]
+
+pub way_whole : {S : Type 0} (next : S → ℕ → Option S) (at : ℕ → Option S) (i node : ℕ) (ls : List ℕ) →
+    length ls ≤ i →
+    ((s : S) → at node ≡ Some s → (n : ℕ) (t : S) → n ≤ i → IsWalk next s (take n ls) t → IsFound at t) →
+    (s : S) → at node ≡ Some s → StaysFound next at s ls
+way_whole {S} next at i node ls all before s is n t goes = elim (cases_lt i n) [
+  | inr low ↦ before s is n t (omega arith) goes
+  | inl high ↦
+      let same : take n ls ≡ take i ls = take_all n ls (omega arith) ∙ sym (take_all i ls (omega arith)) in
+      before s is i t (omega arith) (subst (λ (ms : List ℕ). IsWalk next s ms t) same goes)
+]
 
 -- one more actor that has no edge, or is among the labels
 pub fair_more : {S : Type 0} (next : S → ℕ → Option S) (o : Option S) (ls : List ℕ) (actor : ℕ) →

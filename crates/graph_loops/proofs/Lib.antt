@@ -2,4 +2,4 @@ pub mod LoopLemmas
 pub mod ScanLemmas
 pub mod EdgeLemmas
 pub mod LabelLemmas
-pub mod RouteLemmas
+pub mod ChainLemmas

@@ -1,6 +1,18 @@
 //! The edges between the nodes that a search found.
 
-ghost use Rattle.std.specs.Prelude.{◌≡◌, ℕ, ◌<◌, length, Some, None, false, IfOk, IfSome};
+ghost use Rattle.std.specs.Prelude.{
+  ◌≡◌,
+  ℕ,
+  ◌<◌,
+  length,
+  Some,
+  None,
+  true,
+  false,
+  IsSome,
+  IfOk,
+  IfSome,
+};
 ghost use Rattle.graph_search.specs.Trees.{state_at};
 ghost use Rattle.graph_loops.specs.Loops.{AreMeant};
 
@@ -27,6 +39,9 @@ pub fn has_edge<G: Graph>(
         ≡ state_at (G.meaning graph.old) found.now.nodes }
     ensures meant { AreMeant (state_at (G.meaning graph.new) found.now.nodes)
         (length found.now.nodes) }
+    ensures edge { IfOk result (λ leads. leads ≡ true → (s : G.State) →
+        state_at (G.meaning graph.old) found.now.nodes node ≡ Some s →
+        IsSome (G.next graph.old s label)) }
     ensures none { IfOk result (λ leads. leads ≡ false → (s : G.State) →
         state_at (G.meaning graph.old) found.now.nodes node ≡ Some s →
         G.next graph.old s label ≡ None) }

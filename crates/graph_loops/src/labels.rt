@@ -9,12 +9,13 @@ ghost use Rattle.std.specs.Prelude.{
   Some,
   true,
   false,
+  IsSome,
   IfOk,
   IfSome,
 };
 ghost use Rattle.graph_search.specs.Trees.{state_at};
 ghost use Rattle.graph_search.specs.Walks.{after};
-ghost use Rattle.graph_loops.specs.Loops.{AreMeant, Takes, IsRound};
+ghost use Rattle.graph_loops.specs.Loops.{AreMeant, Takes, StaysFound, IsRound};
 
 use crate::edges::{has_edge, target_of};
 use graph_search::{Graph, Reached};
@@ -55,7 +56,8 @@ pub fn judge_labels<G: Graph>(
         (length found.now.nodes) }
     ensures round { IfOk result (λ round. (s : G.State) →
         state_at (G.meaning graph.old) found.now.nodes node ≡ Some s →
-        IsRound (G.next graph.old) actors s labels.now round) }
+        IsRound (G.next graph.old) actors (state_at (G.meaning graph.old) found.now.nodes) s
+        labels.now round) }
 {
     let Some(_actor) = first_actor(labels, actors) else {
         return Ok(Round::NoLoop);
@@ -120,6 +122,10 @@ fn walk_end<G: Graph>(
         state_at (G.meaning graph.old) found.now.nodes node ≡ Some s →
         after (G.next graph.old) s labels.now
         ≡ state_at (G.meaning graph.old) found.now.nodes to)) }
+    ensures way { IfOk result (λ end. IsSome end → (s : G.State) →
+        state_at (G.meaning graph.old) found.now.nodes node ≡ Some s →
+        StaysFound (G.next graph.old) (state_at (G.meaning graph.old) found.now.nodes) s
+        labels.now) }
 {
     let mut here = node;
     for label in labels {

@@ -2,7 +2,8 @@
 
 ghost use Rattle.std.specs.Prelude.{◌≡◌, length};
 ghost use Rattle.graph_search.specs.Graphs.{LeadsTo};
-ghost use Rattle.graph_loops.specs.Routes.{number_of, target_of};
+ghost use Rattle.graph_search.specs.Doubling.{number_of};
+ghost use Rattle.graph_loops.specs.Routes.{target_of};
 
 use crate::scans::{Loops, judge_loops};
 use graph_search::{Graph, NoProgress, explore};
@@ -17,7 +18,8 @@ struct Routes {
 
 impl Graph for Routes {
     ghost use Rattle.std.specs.Prelude.{ℕ};
-    ghost use Rattle.graph_loops.specs.Routes.{number_of, routed, routed_beyond};
+    ghost use Rattle.graph_search.specs.Doubling.{number_of};
+    ghost use Rattle.graph_loops.specs.Routes.{routed, routed_beyond};
 
     ghost State = { ℕ };
 
@@ -37,7 +39,7 @@ impl Graph for Routes {
         2
     }
 
-    #[tactic(auto, using(crate::specs::Routes::number_of_one))]
+    #[tactic(auto, using(graph_search::specs::Doubling::number_of_one))]
     fn step(&mut self, node: &[u32], label: u32, to: &mut [u32]) -> Result<bool, AllocError> {
         let &[number] = node else { unreachable!() };
         let at = number as usize * 2 + label as usize;
@@ -51,7 +53,7 @@ impl Graph for Routes {
 }
 
 /// Writes the state of a target, if it is one.
-#[tactic(auto, using(crate::proofs::RouteLemmas::number_of_set))]
+#[tactic(auto, using(graph_search::proofs::DoublingLemmas::number_of_set))]
 fn put_target(target: u32, to: &mut [u32]) -> bool
     requires { length to.old ≡ 1 }
     ensures { LeadsTo number_of result to.new (target_of target) }

@@ -38,20 +38,22 @@ meant_all {S} at n meant = meant
 -- labels that were followed
 pub loop_followed : {S : Type 0} (next : S → ℕ → Option S) (actors : ℕ) (at : ℕ → Option S) (n : ℕ) (given : FoundLoop) →
     AreMeant at n → given.node < n →
-    ((s : S) → at given.node ≡ Some s → IsRound next actors s given.labels.items round.Loop) →
+    ((s : S) → at given.node ≡ Some s → IsRound next actors at s given.labels.items round.Loop) →
     IsFoundLoop next actors at given
 loop_followed {S} next actors at n given meant low loops =
-    let s = meant_at at n given.node meant low in (s.0, s.1, loops s.0 s.1)
+    let s = meant_at at n given.node meant low in
+    let loop = loops s.0 s.1 in
+    (s.0, s.1, loop.0, loop.1)
 
 pub fair_followed : {S : Type 0} (next : S → ℕ → Option S) (actors : ℕ) (at : ℕ → Option S) (n : ℕ) (given : FoundLoop) →
     AreMeant at n → given.node < n →
-    ((s : S) → at given.node ≡ Some s → IsRound next actors s given.labels.items round.FairLoop) →
+    ((s : S) → at given.node ≡ Some s → IsRound next actors at s given.labels.items round.FairLoop) →
     IsFoundFair next actors at given
 fair_followed {S} next actors at n given meant low loops =
     let s = meant_at at n given.node meant low in
     let fair = loops s.0 s.1 in
-    (s.0, s.1, fair.0, fair.1)
+    (s.0, s.1, fair.0, fair.1, fair.2)
 
 pub fair_is_loop : {S : Type 0} (next : S → ℕ → Option S) (actors : ℕ) (at : ℕ → Option S) (given : FoundLoop) →
     IsFoundFair next actors at given → IsFoundLoop next actors at given
-fair_is_loop {S} next actors at given fair = (fair.0, fair.1, fair.2)
+fair_is_loop {S} next actors at given fair = (fair.0, fair.1, fair.2, fair.3)

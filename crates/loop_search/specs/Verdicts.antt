@@ -1,6 +1,6 @@
 -- What a search for loops found.
 use Rattle.std.specs.Prelude.{◌≡◌, ℕ, List, Option, Some, Bool, true}
-use Rattle.graph_loops.specs.Loops.{IsLoop, IsFair, IsKnown}
+use Rattle.graph_loops.specs.Loops.{IsLoop, IsFair, StaysFound, IsKnown}
 use Rattle.graph_loops.specs.declared.scans.Loops.TheVariants as known
 use Rattle.loop_search.specs.declared.judging.FoundLoop.{FoundLoop}
 use Rattle.loop_search.specs.declared.judging.Verdict.{Verdict}
@@ -8,15 +8,16 @@ use Rattle.loop_search.specs.declared.judging.Verdict.TheVariants as verdict
 use Rattle.loop_search.specs.declared.judging.Tried.{Tried}
 use Rattle.loop_search.specs.declared.judging.Tried.TheVariants as tried
 
--- the labels are those of a loop of the node's state; of a fair one
+-- the labels are those of a loop of the node's state, on which each state was found; of a fair one
 abbrev pub IsFoundLoop : {S : Type 0} → (S → ℕ → Option S) → ℕ → (ℕ → Option S) → FoundLoop → Type 0
 IsFoundLoop {S} next actors at given =
     (s : S) × (at given.node ≡ Some s) × IsLoop next actors s given.labels.items
+    × StaysFound next at s given.labels.items
 
 abbrev pub IsFoundFair : {S : Type 0} → (S → ℕ → Option S) → ℕ → (ℕ → Option S) → FoundLoop → Type 0
 IsFoundFair {S} next actors at given =
     (s : S) × (at given.node ≡ Some s) × IsLoop next actors s given.labels.items
-    × IsFair next actors s given.labels.items
+    × StaysFound next at s given.labels.items × IsFair next actors s given.labels.items
 
 -- what became of a loop that was looked for
 abbrev pub IsTried : {S : Type 0} → (S → ℕ → Option S) → ℕ → (ℕ → Option S) → Tried → Type 0

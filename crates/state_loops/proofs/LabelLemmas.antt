@@ -1,5 +1,5 @@
 -- Loops as labels and as operations.
-use Rattle.std.proofs.Common.{◌≡◌, ℕ, ◌-◌, ◌<◌, ◌≤◌, List, [], ◌∷◌, length, arith, ap, sym, ◌∙◌, refl, inl, inr, ◌⊎◌, subst, nat_lt}
+use Rattle.std.proofs.Common.{◌≡◌, ℕ, zero, suc, ◌+◌, ◌-◌, ◌<◌, ◌≤◌, List, [], ◌∷◌, length, take, arith, ap, sym, ◌∙◌, refl, inl, inr, ◌⊎◌, subst, nat_lt}
 use Rattle.std.specs.Prelude.{Option, Some, None, Bool, true, false, option_map, slice_get, if◌then◌else◌}
 use Rattle.std.proofs.lemmas.Bool.{cases_Bool}
 use Rattle.std.proofs.lemmas.Bool.Decides.{nat_tests}
@@ -9,14 +9,15 @@ use Rattle.cheri_model.specs.declared.operation.Op.TheVariants as operation
 use Rattle.cheri_model.specs.runs.Image.{ImageParts}
 use Rattle.cheri_model.specs.runs.Machine.{MachineState, may_take, state_after_one}
 use Rattle.cheri_model.specs.runs.Replay.{is_legal, state_after}
+use Rattle.graph_search.specs.Trees.{IsFound}
 use Rattle.graph_search.specs.Walks.{IsWalk}
-use Rattle.graph_loops.specs.Loops.{Takes}
+use Rattle.graph_loops.specs.Loops.{Takes, StaysFound, actor_count}
 use Rattle.graph_loops.specs.Loops as graphs
 use Rattle.schedules.specs.declared.ranges.SweepRange.{SweepRange}
 use Rattle.schedules.specs.Schedules.{sweep_of, operation_of_label, next, AreLabelsOf}
 use Rattle.schedules.proofs.WalkLemmas.{walk_legal, legal_walk, legal_labels}
-use Rattle.state_loops.proofs.OperationLemmas.{next_some, some_next, step_hart, label_of_step, allowed_labels}
-use Rattle.state_loops.specs.Endless.{Steps, IsLoop, IsFair}
+use Rattle.state_loops.proofs.OperationLemmas.{both_true, next_some, some_next, step_hart, label_of_step, allowed_labels}
+use Rattle.state_loops.specs.Endless.{Steps, IsLoop, IsFair, step_count}
 
 -- labels have one order
 same_order : (image : ImageParts) (sweeps : List SweepRange) (ls : List ℕ) (order other : List Op) →
@@ -29,6 +30,13 @@ same_order image sweeps (l ∷ ls) (x ∷ order) [] are also = absurd also
 same_order image sweeps (l ∷ ls) (x ∷ order) (y ∷ other) are also =
     ap (λ (o : Op). o ∷ order) (same_Some x y (sym are.0 ∙ also.0))
     ∙ ap (λ (os : List Op). y ∷ os) (same_order image sweeps ls order other are.1 also.1)
+
+step_is_no_sweep : (image : ImageParts) (sweeps : List SweepRange) (l lo hi : ℕ) → l < length image.harts →
+    operation_of_label image sweeps l ≡ Some (operation.Sweep lo hi) → ⊥
+step_is_no_sweep image sweeps l lo hi low is =
+    let e : operation.Step l ≡ operation.Sweep lo hi =
+    same_Some (operation.Step l) (operation.Sweep lo hi) (sym (label_of_step image sweeps l low) ∙ is) in
+    absurd (cc)
 
 -- the label of a step is its hart
 sweeps_no_step : (o : Option SweepRange) (hart : ℕ) → option_map sweep_of o ≡ Some (operation.Step hart) → ⊥
@@ -70,6 +78,55 @@ steps_takes image sweeps (l ∷ ls) (op ∷ order) hart are steps = elim steps [
       (inl s.0, subst (λ (k : ℕ). k < length image.harts) s.0 s.1)
   | inr later ↦ let s = steps_takes image sweeps ls order hart are.1 later in (inr s.0, s.1)
 ]
+
+-- labels of harts are those of steps
+labels_steps_of : (image : ImageParts) (sweeps : List SweepRange) (l : ℕ) (op : Op) (ls : List ℕ) (order : List Op) →
+    operation_of_label image sweeps l ≡ Some op → actor_count (length image.harts) ls ≡ step_count order →
+    actor_count (length image.harts) (l ∷ ls) ≡ step_count (op ∷ order)
+labels_steps_of image sweeps l (operation.Step hart) ls order is same =
+    let label = step_label image sweeps l hart is in
+    let low : nat_lt l (length image.harts) ≡ true = grind (arith, nat_tests) in
+    rw low (ap (λ (n : ℕ). n + 1) same)
+labels_steps_of image sweeps l (operation.Sweep lo hi) ls order is same =
+    elim (cases_Bool (nat_lt l (length image.harts))) [
+      | inl low ↦ absurd (step_is_no_sweep image sweeps l lo hi (grind (arith, nat_tests)) is)
+      | inr high ↦ rw high same
+    ]
+
+pub labels_steps : (image : ImageParts) (sweeps : List SweepRange) (ls : List ℕ) (order : List Op) →
+    AreLabelsOf image sweeps ls order → actor_count (length image.harts) ls ≡ step_count order
+labels_steps image sweeps [] [] are = refl
+labels_steps image sweeps [] (op ∷ order) are = absurd are
+labels_steps image sweeps (l ∷ ls) [] are = absurd are
+labels_steps image sweeps (l ∷ ls) (op ∷ order) are =
+    labels_steps_of image sweeps l op ls order are.0 (labels_steps image sweeps ls order are.1)
+
+-- the first labels are those of the first operations
+labels_take : (image : ImageParts) (sweeps : List SweepRange) (n : ℕ) (ls : List ℕ) (order : List Op) →
+    AreLabelsOf image sweeps ls order → AreLabelsOf image sweeps (take n ls) (take n order)
+labels_take image sweeps zero ls order are = tt
+labels_take image sweeps (suc n) [] [] are = tt
+labels_take image sweeps (suc n) [] (op ∷ order) are = absurd are
+labels_take image sweeps (suc n) (l ∷ ls) [] are = absurd are
+labels_take image sweeps (suc n) (l ∷ ls) (op ∷ order) are = (are.0, labels_take image sweeps n ls order are.1)
+
+legal_take : (image : ImageParts) (n : ℕ) (s : MachineState) (order : List Op) → is_legal image s order ≡ true →
+    is_legal image s (take n order) ≡ true
+unfolding is_legal
+legal_take image zero s order legal = refl
+legal_take image (suc n) s [] legal = refl
+legal_take image (suc n) s (op ∷ order) legal =
+    let parts = both_true (may_take s op) (is_legal image (state_after_one image s op) order) legal in
+    rw (parts.0) (legal_take image n (state_after_one image s op) order parts.1)
+
+-- the states on the way of a loop's labels are those on the way of its operations
+pub way_of_labels : (image : ImageParts) (sweeps : List SweepRange) (at : ℕ → Option MachineState) (s : MachineState)
+    (ls : List ℕ) (cycle : List Op) → AreLabelsOf image sweeps ls cycle → is_legal image s cycle ≡ true →
+    StaysFound (next image sweeps) at s ls → (n : ℕ) → IsFound at (state_after image s (take n cycle))
+way_of_labels image sweeps at s ls cycle are legal stays n =
+    stays n (state_after image s (take n cycle))
+    (legal_walk image sweeps s (take n ls) (take n cycle) (labels_take image sweeps n ls cycle are)
+    (legal_take image n s cycle legal))
 
 module _ (image : ImageParts) (sweeps : List SweepRange) (s : MachineState) (size : length s.harts ≡ length image.harts) where
   -- the operations of a loop's labels

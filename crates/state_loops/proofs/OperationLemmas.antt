@@ -11,7 +11,7 @@ use Rattle.cheri_model.specs.runs.Machine.{MachineState, may_take, state_after_o
 use Rattle.schedules.specs.declared.ranges.SweepRange.{SweepRange}
 use Rattle.schedules.specs.Schedules.{sweep_of, operation_of_label, taken, next, AreLabelsOf, IsAllowed, AreAllowed}
 
-both_true : (a b : Bool) → (a && b) ≡ true → (a ≡ true) × (b ≡ true)
+pub both_true : (a b : Bool) → (a && b) ≡ true → (a ≡ true) × (b ≡ true)
 both_true true b e = (refl, e)
 both_true false b e = absurd (cc)
 

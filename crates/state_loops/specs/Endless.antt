@@ -1,15 +1,20 @@
 -- Runs that go on for ever: an order leads from a state back to it, and can be taken again and
 -- again. All of it is said of the machine's own replay.
-use Rattle.std.specs.Prelude.{◌≡◌, ℕ, List, [], ◌∷◌, Some, true, ◌⊎◌}
+use Rattle.std.specs.Prelude.{◌≡◌, ℕ, ◌+◌, ◌<◌, List, [], ◌∷◌, length, take, Some, true, ◌⊎◌}
 use Rattle.cheri_model.specs.declared.operation.Op.{Op}
 use Rattle.cheri_model.specs.declared.operation.Op.TheVariants as operation
 use Rattle.cheri_model.specs.runs.Image.{ImageParts}
 use Rattle.cheri_model.specs.runs.Machine.{MachineState, opening_state, may_take}
 use Rattle.cheri_model.specs.runs.Replay.{is_legal, state_after, replayed_state}
+use Rattle.graph_search.specs.Trees.{IsFound}
+use Rattle.graph_search.specs.Walks.{IsWalk}
+use Rattle.graph_loops.specs.Loops.{actor_count}
 use Rattle.schedules.specs.declared.ranges.SweepRange.{SweepRange}
-use Rattle.schedules.specs.Schedules.{AreAllowed, AreLabelsOf}
-use Rattle.states.specs.Kept.{KeptParts, at, IsWitnessOrder}
+use Rattle.schedules.specs.Schedules.{next, AreAllowed, AreLabelsOf}
+use Rattle.states.specs.Kept.{KeptParts, at, count, IsWitnessOrder}
 use Rattle.loop_search.specs.declared.judging.FoundLoop.{FoundLoop}
+use Rattle.loop_search.specs.declared.judging.Verdict.{Verdict}
+use Rattle.loop_search.specs.declared.judging.Verdict.TheVariants as verdict
 use Rattle.state_loops.specs.declared.endless.Lasso.{Lasso}
 use Rattle.state_loops.specs.declared.endless.Endless.{Endless}
 use Rattle.state_loops.specs.declared.endless.Endless.TheVariants.{Yes, Unknown, Unfair, No}
@@ -44,12 +49,52 @@ HasNoFairLoop image sweeps = (order cycle : List Op) → AreAllowed sweeps order
     IsLoop image sweeps (replayed_state image order) cycle →
     ¬ IsFair (replayed_state image order) cycle
 
--- the order is the witness of a kept state, and the cycle a loop of it
+-- how many steps of harts an order has
+abbrev pub step_count : List Op → ℕ
+step_count [] = 0
+step_count (operation.Step hart ∷ order) = step_count order + 1
+step_count (operation.Sweep lo hi ∷ order) = step_count order
+
+-- a walk from the opening state has fewer edges of harts than there are kept states
+abbrev pub HasShortWalks : KeptParts → Type 0
+HasShortWalks kept = (labels : List ℕ) (state : MachineState) →
+    IsWalk (next kept.image kept.sweeps) (opening_state kept.image) labels state →
+    actor_count (length kept.image.harts) labels < count kept
+
+-- a legal order of steps and of these sweeps has fewer steps than there are kept states
+abbrev pub HasFewSteps : KeptParts → Type 0
+HasFewSteps kept = (order : List Op) → AreAllowed kept.sweeps order →
+    is_legal kept.image (opening_state kept.image) order ≡ true → step_count order < count kept
+
+-- A round from a state: an order that is legal there, with at least one step, and with one of each
+-- hart that runs in the state.
+pub record IsFairRound (image : ImageParts) (sweeps : List SweepRange) (state : MachineState)
+    (round : List Op) : Type 0 where
+  pub allowed : AreAllowed sweeps round
+  pub legal : is_legal image state round ≡ true
+  pub steps : (hart : ℕ) × Steps round hart
+  pub fair : IsFair state round
+
+-- such rounds, one after the other
+abbrev pub AreFairRounds : ImageParts → List SweepRange → MachineState → List (List Op) → Type 0
+AreFairRounds image sweeps state [] = Unit {0}
+AreFairRounds image sweeps state (round ∷ rounds) =
+    IsFairRound image sweeps state round
+    × AreFairRounds image sweeps (state_after image state round) rounds
+
+-- an order that is made of such rounds has fewer of them than there are kept states
+abbrev pub HasFewRounds : KeptParts → Type 0
+HasFewRounds kept = (rounds : List (List Op)) →
+    AreFairRounds kept.image kept.sweeps (opening_state kept.image) rounds →
+    length rounds < count kept
+
+-- the order is the witness of a kept state, and the cycle a loop of it through kept states
 pub record IsLasso (kept : KeptParts) (lasso : Lasso) (state : MachineState) : Type 0 where
   pub number : ℕ
   pub there : at kept number ≡ Some state
   pub witness : IsWitnessOrder kept.image kept.sweeps state lasso.order.items
   pub loops : IsLoop kept.image kept.sweeps state lasso.cycle.items
+  pub way : (n : ℕ) → IsFound (at kept) (state_after kept.image state (take n lasso.cycle.items))
 
 -- what is made of a loop that was found: its node's witness, and the operations of its labels
 abbrev pub IsLassoOf : KeptParts → FoundLoop → Lasso → Type 0
@@ -64,9 +109,19 @@ IsEndless kept (Yes lasso) =
     (state : MachineState) × IsLasso kept lasso state × IsFair state lasso.cycle.items
 IsEndless kept Unknown = Unit {0}
 IsEndless kept (Unfair lasso) =
-    (kept.complete ≡ true) × HasNoFairLoop kept.image kept.sweeps
+    (kept.complete ≡ true) × HasNoFairLoop kept.image kept.sweeps × HasFewRounds kept
     × ((state : MachineState) × IsLasso kept lasso state)
-IsEndless kept No = (kept.complete ≡ true) × HasNoLoop kept.image kept.sweeps
+IsEndless kept No =
+    (kept.complete ≡ true) × HasNoLoop kept.image kept.sweeps × HasShortWalks kept
+    × HasFewSteps kept
+
+-- the answer of a verdict
+abbrev pub IsAnswerOf : Verdict → Endless → Type 0
+IsAnswerOf (verdict.Fair given) (Yes lasso) = Unit {0}
+IsAnswerOf verdict.Unknown Unknown = Unit {0}
+IsAnswerOf (verdict.Unfair given) (Unfair lasso) = Unit {0}
+IsAnswerOf verdict.NoLoop No = Unit {0}
+IsAnswerOf given answer = ⊥
 
 -- the same search, whose states have the same numbers and witnesses
 pub record IsSame (old new : KeptParts) : Type 0 where

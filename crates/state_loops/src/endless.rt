@@ -4,7 +4,7 @@ ghost use Rattle.std.specs.Prelude.{◌≡◌, length, IfOk};
 ghost use Rattle.loop_search.specs.Verdicts.{IsVerdict, IsFoundLoop};
 ghost use Rattle.schedules.specs.Schedules.{next};
 ghost use Rattle.states.specs.Kept.{at};
-ghost use Rattle.state_loops.specs.Endless.{IsEndless, IsSame, IsLassoOf};
+ghost use Rattle.state_loops.specs.Endless.{IsEndless, IsAnswerOf, IsSame, IsLassoOf};
 
 use cheri_model::Op;
 use loop_search::{FoundLoop, Verdict, search_loops};
@@ -62,7 +62,8 @@ pub fn endless_of(alloc: Global, kept: Kept) -> Result<Judged, AllocError>
 fn endless_by(alloc: Global, kept: &Kept, verdict: &Verdict) -> Result<Endless, AllocError>
     requires { IsVerdict (next kept.now.image kept.now.sweeps) (length kept.now.image.harts)
         (at kept.now) kept.now.complete verdict.now }
-    ensures { IfOk result (IsEndless kept.now) }
+    ensures answer { IfOk result (IsAnswerOf verdict.now) }
+    ensures endless { IfOk result (IsEndless kept.now) }
 {
     // Its clause says that these are the states of a search.
     let _count = kept.len();

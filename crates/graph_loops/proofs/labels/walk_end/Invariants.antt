@@ -1,7 +1,7 @@
-use Rattle.std.proofs.Common.{◌≡◌, ◌<◌, length, take}
+use Rattle.std.proofs.Common.{◌≡◌, ℕ, ◌<◌, ◌≤◌, length, take}
 use Rattle.std.specs.Prelude.{Some}
-use Rattle.graph_search.specs.Trees.{state_at}
-use Rattle.graph_search.specs.Walks.{after}
+use Rattle.graph_search.specs.Trees.{IsFound, state_at}
+use Rattle.graph_search.specs.Walks.{after, IsWalk}
 use Rattle.graph_loops.specs.Loops.{AreMeant}
 use Rattle.graph_loops.proofs.labels.walk_end.Given as goal
 
@@ -17,4 +17,7 @@ invariant-loop-label g l = record {
   walk : (s : g.G.Graph.State) → state_at (g.G.Graph.meaning l.fn.graph) l.found.nodes l.node ≡ Some s →
       after (g.G.Graph.next l.fn.graph) s (take l.label-index l.labels)
       ≡ state_at (g.G.Graph.meaning l.fn.graph) l.found.nodes l.here;
+  way : (s : g.G.Graph.State) → state_at (g.G.Graph.meaning l.fn.graph) l.found.nodes l.node ≡ Some s →
+      (n : ℕ) (t : g.G.Graph.State) → n ≤ l.label-index → IsWalk (g.G.Graph.next l.fn.graph) s (take n l.labels) t →
+      IsFound (state_at (g.G.Graph.meaning l.fn.graph) l.found.nodes) t;
 }

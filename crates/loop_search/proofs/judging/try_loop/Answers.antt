@@ -19,7 +19,8 @@ returns-in-Loop-clause-tried g c =
     (loop_followed (g.G.Graph.next c.shortest_loop.new.graph) c.args.wanted.actors
     (state_at (g.G.Graph.meaning c.shortest_loop.new.graph) c.args.found.now.nodes) (length c.args.found.now.nodes)
     given c.shortest_loop.ensures.meant c.requires.there
-    (λ s is. subst (IsRound (g.G.Graph.next c.shortest_loop.new.graph) c.args.wanted.actors s c.in-Some.labels.items)
+    (λ s is. subst (IsRound (g.G.Graph.next c.shortest_loop.new.graph) c.args.wanted.actors
+    (state_at (g.G.Graph.meaning c.shortest_loop.new.graph) c.args.found.now.nodes) s c.in-Some.labels.items)
     c.in-Loop.is (rw c.as_slice.ensures.value at (c.in_ok-judge_labels.ensures.round s is))))
 
 pub returns-in-FairLoop-clause-tried : goal.returns-in-FairLoop-clause-tried
@@ -34,5 +35,6 @@ returns-in-FairLoop-clause-tried g c =
     (fair_followed (g.G.Graph.next c.shortest_loop.new.graph) c.args.wanted.actors
     (state_at (g.G.Graph.meaning c.shortest_loop.new.graph) c.args.found.now.nodes) (length c.args.found.now.nodes)
     given c.shortest_loop.ensures.meant c.requires.there
-    (λ s is. subst (IsRound (g.G.Graph.next c.shortest_loop.new.graph) c.args.wanted.actors s c.in-Some.labels.items)
+    (λ s is. subst (IsRound (g.G.Graph.next c.shortest_loop.new.graph) c.args.wanted.actors
+    (state_at (g.G.Graph.meaning c.shortest_loop.new.graph) c.args.found.now.nodes) s c.in-Some.labels.items)
     c.in-FairLoop.is (rw c.as_slice.ensures.value at (c.in_ok-judge_labels.ensures.round s is))))
