@@ -1,5 +1,5 @@
 -- A step that asks for no access does the same in every memory.
-use Rattle.std.proofs.Common.{◌≡◌, ℕ, List, [], ◌∷◌, length, refl}
+use Rattle.std.proofs.Common.{◌≡◌, ℕ, List, [], length, ap, sym, ◌∙◌, refl}
 use Rattle.std.specs.Prelude.{Bool, true, false, Result, Ok, Err}
 use Rattle.cap_model.specs.results.Addresses.{address_of}
 use Rattle.cap_model.specs.values.CapValue.{CapValue}
@@ -51,3 +51,10 @@ unfolding asks_memory own_step hart_step
 own_step_alone program h m fails =
     same_fetched (first_failing (fetch_table h.pcc (length program)))
     (action (instruction_at program (address_of h.pcc)) h) h m [] fails
+
+pub alone_stepped : (program : List Instr) (h : HartState) (m : List CapValue) (after : Stepped) →
+    asks_memory program h ≡ false → hart_step program h m ≡ after →
+    (after.hart ≡ own_step program h) × (after.memory ≡ m)
+alone_stepped program h m after alone is =
+    let same = own_step_alone program h m alone in
+    (sym (ap (λ (t : Stepped). t.hart) is) ∙ same.0, sym (ap (λ (t : Stepped). t.memory) is) ∙ same.1)

@@ -1,10 +1,10 @@
 -- The way of a hart to its rest.
-use Rattle.std.proofs.Common.{◌≡◌, ℕ, zero, suc, ◌+◌, ◌<◌, ◌≤◌, List, [], ◌∷◌, map, arith, ap, sym, ◌∙◌, refl, inl, inr, ◌⊎◌, subst, cond}
+use Rattle.std.proofs.Common.{◌≡◌, ℕ, zero, suc, ◌+◌, ◌-◌, ◌<◌, ◌≤◌, List, [], ◌∷◌, map, arith, ap, sym, ◌∙◌, refl, inl, inr, ◌⊎◌, subst, cond}
 use Rattle.std.specs.Prelude.{Option, Some, None, Bool, true, false, not, ◌&&◌, ◌==◌, slice_get, unwrap_or}
 use Rattle.std.specs.List.{count_by}
 use Rattle.std.proofs.lemmas.Bool.{cases_Bool, and_parts, not-true, both_ways, eqb-true}
 use Rattle.std.proofs.lemmas.List.Sums.{sum_by-cons}
-use Rattle.std.proofs.lemmas.Option.{none-some, same_Some}
+use Rattle.std.proofs.lemmas.Option.{none-some, same_Some, cond_some}
 use Rattle.cap_model.specs.results.Swept.{is_in_sweep, swept}
 use Rattle.cap_model.specs.values.CapValue.{CapValue}
 use Rattle.cheri_model.specs.declared.instr.Instr.{Instr}
@@ -310,3 +310,35 @@ module _ (program : List Instr) (sweeps : List SweepRange) (hides : HartState �
         let after = go_whole (own h) is.whole_after in
         let less = go_less most h g moves.0 moves.1 in
         omega arith
+
+    -- a loop over quiet steps: the way from where it stands is the rest of the way
+    abbrev pub IsOnWay : ℕ → HartState → HartState → Type 0
+    IsOnWay i h at = way (most - i) at ≡ way most h
+
+    pub on_way : (i : ℕ) (h at : HartState) → IsOnWay i h at → i < most → quiet at ≡ true → IsOnWay (i + 1) h (own at)
+    on_way i h at is below quiet_at =
+        let more : most - i ≡ suc (most - (i + 1)) = omega arith in
+        sym (come_on (most - (i + 1)) at quiet_at) ∙ (sym (ap (λ (k : ℕ). way k at) more) ∙ is)
+
+    pub rest_here : (i : ℕ) (h at : HartState) → IsOnWay i h at → quiet at ≡ false → rested h ≡ at
+    rest_here i h at is stays = rest_some h at (sym is ∙ come_stop (most - i) at stays)
+
+    pub rest_never : (i : ℕ) (h at : HartState) → IsOnWay i h at → most ≤ i → quiet at ≡ true → rested h ≡ h
+    rest_never i h at is past quiet_at =
+        let zero_left : most - i ≡ 0 = omega arith in
+        rest_none h (sym is ∙ (ap (λ (k : ℕ). way k at) zero_left ∙ come_none at quiet_at))
+
+  -- what a step that may be quiet answers
+  abbrev pub quiet_or_none : HartState → Option HartState
+  quiet_or_none h = cond (quiet h) (Some (own h)) None
+
+  pub was_quiet : (h after : HartState) → quiet_or_none h ≡ Some after → (quiet h ≡ true) × (own h ≡ after)
+  was_quiet h after is = cond_some (quiet h) (own h) after is
+
+  pub was_not_quiet : (h : HartState) → quiet_or_none h ≡ None → quiet h ≡ false
+  was_not_quiet h is = elim (cases_Bool (quiet h)) [
+    | inl holds ↦
+        let some : quiet_or_none h ≡ Some (own h) = rw holds in
+        absurd (none-some (own h) (sym is ∙ some))
+    | inr fails ↦ fails
+  ]

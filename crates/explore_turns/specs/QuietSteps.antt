@@ -1,7 +1,8 @@
 -- Quiet steps: those that no other hart, no sweep and no question can see. What a question sees of a
 -- step is a test of the hart before and after it, true where it sees nothing.
 use Rattle.std.specs.Prelude.{ℕ, zero, suc, ◌==◌, Bool, true, false, not, ◌&&◌, if◌then◌else◌}
-use Rattle.std.specs.Prelude.{List, [], ◌∷◌, length, Option, Some, None, unwrap_or, Result, Ok, Err}
+use Rattle.std.specs.List.{list_all}
+use Rattle.std.specs.Prelude.{List, [], length, Option, Some, None, unwrap_or, Result, Ok, Err}
 use Rattle.cap_model.specs.results.Addresses.{address_of}
 use Rattle.cheri_model.specs.declared.instr.Instr.{Instr}
 use Rattle.cheri_model.specs.declared.trace.Trap.{Trap}
@@ -45,9 +46,7 @@ own_step program hart = (hart_step program hart []).hart
 
 -- no sweep of these clears a tag of the hart
 abbrev pub is_whole : List SweepRange → HartState → Bool
-is_whole [] hart = true
-is_whole (range ∷ sweeps) hart =
-    (cleared_in_hart range.lo range.hi hart == 0) && is_whole sweeps hart
+is_whole sweeps hart = list_all (λ range. cleared_in_hart range.lo range.hi hart == 0) sweeps
 
 -- the hart runs, and its next step asks for no access, changes nothing that a sweep would, and isn't
 -- seen

@@ -3,3 +3,8 @@
 #![tactic(auto)]
 
 pub mod laws;
+mod quiet;
+mod sights;
+
+pub use quiet::{MAX_QUIET_STEPS, rest};
+pub use sights::{EveryStep, NoStep, Sight};
