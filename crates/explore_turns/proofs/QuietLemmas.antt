@@ -1,6 +1,6 @@
 -- A step that asks for no access does the same in every memory.
-use Rattle.std.proofs.Common.{◌≡◌, ℕ, List, [], length, ap, sym, ◌∙◌, refl}
-use Rattle.std.specs.Prelude.{Bool, true, false, Result, Ok, Err}
+use Rattle.std.proofs.Common.{◌≡◌, List, [], length, ap, sym, ◌∙◌, refl}
+use Rattle.std.specs.Prelude.{true, false, Result, Ok, Err}
 use Rattle.cap_model.specs.results.Addresses.{address_of}
 use Rattle.cap_model.specs.values.CapValue.{CapValue}
 use Rattle.cheri_model.specs.declared.instr.Instr.{Instr}

@@ -1,6 +1,6 @@
 -- The states with each hart at its rest stand for all states.
 use Rattle.std.proofs.Common.{◌≡◌, ◌≢◌, ℕ, zero, suc, ◌+◌, ◌<◌, ◌≤◌, List, [], ◌∷◌, ◌++◌, length, map, take, drop, set, get_or, arith, ap, sym, ◌∙◌, refl, inl, inr, ◌⊎◌, subst, nat_lt, length-set}
-use Rattle.std.specs.Prelude.{Option, Some, None, Bool, true, false, ◌&&◌, ◌==◌, slice_get}
+use Rattle.std.specs.Prelude.{Some, Bool, true, slice_get}
 use Rattle.std.proofs.lemmas.Bool.{cases_Bool, eqb-true, eq-eqb, and_parts, and_from, lt-ltb}
 use Rattle.std.proofs.lemmas.List.{length-map, map-set, set-set, set-get_or, get_or-set_same, get_or-set_other, get_or-map, take_all, drop_all, append-nil}
 use Rattle.std.proofs.lemmas.List.Edits.{map_over_more}
@@ -14,15 +14,15 @@ use Rattle.cheri_model.specs.runs.Sweeps.{swept_hart, swept_memory}
 use Rattle.cheri_model.specs.steps.Hart.{HartState}
 use Rattle.cheri_model.specs.steps.HartStep.{hart_step}
 use Rattle.explore_turns.proofs.QuietLemmas.{own_step_alone}
-use Rattle.explore_turns.proofs.RestLemmas.{Moves, rested, moves_or_rests, rest_twice, rest_own, running_rest, swept_rest, to_go, go_swept, go_own, quiet, quiet_is, rest_none, rest_some, option_cases, come_on, come_none, stopped_at}
-use Rattle.explore_turns.specs.QuietSteps.{own_step, come, rest}
+use Rattle.explore_turns.proofs.RestLemmas.{rested, moves_or_rests, rest_twice, rest_own, running_rest, swept_rest, to_go, go_swept, go_own, quiet, quiet_is, rest_none, rest_some, option_cases, come_on, come_none, stopped_at}
+use Rattle.explore_turns.specs.QuietSteps.{own_step, come}
 use Rattle.explore_turns.specs.Turns.{rest_of, has_harts_of}
 use Rattle.graph_merging.proofs.MergingLemmas.{walk_on, walk_from, walk_fits}
 use Rattle.graph_merging.specs.Merging.{IsMerging, Stays}
-use Rattle.graph_search.specs.Walks.{after, IsWalk}
+use Rattle.graph_search.specs.Walks.{IsWalk}
 use Rattle.schedules.proofs.WalkLemmas.{next_some, some_next, step_hart, label_of_step, step_label, allowed_of, same_harts}
 use Rattle.schedules.specs.declared.ranges.SweepRange.{SweepRange}
-use Rattle.schedules.specs.Schedules.{next, operation_of_label, sweep_of}
+use Rattle.schedules.specs.Schedules.{next, operation_of_label}
 
 -- two states with equal harts and memories are equal
 same_state : (harts harts' : List HartState) (memory memory' : List CapValue) → harts ≡ harts' → memory ≡ memory' →
@@ -291,9 +291,10 @@ module _ (image : ImageParts) (sweeps : List SweepRange) (hides : HartState → 
       let size = fits_is s fit in
       let below : l < length s.harts = omega (arith, low, size) in
       let runs : is_running (resting (hart_at s l)).status ≡ true =
-      subst (λ (h : HartState). is_running h.status ≡ true) (hart_rested s l below) edge.1 in
-      (state_after_step image s l,
-      step_next s l size low (running_rest image.program sweeps hides most (hart_at s l) runs))
+      subst (λ (h : HartState). is_running h.status ≡ true) (hart_rested s l below) edge.1 in (
+        state_after_step image s l,
+        step_next s l size low (running_rest image.program sweeps hides most (hart_at s l) runs),
+      )
 
   -- a hart in its own place
   own_place : (s : MachineState) (l : ℕ) (g : HartState) → hart_at s l ≡ g → s ≡ with_hart s l g
