@@ -15,7 +15,7 @@ use Rattle.graph_search.specs.Walks.{after, IsWalk, IsReachable}
 use Rattle.schedules.specs.declared.ranges.SweepRange.{SweepRange}
 use Rattle.schedules.specs.Schedules.{sweep_of, operation_of_label, taken, next, label_count, AreLabelsOf, IsAllowed, AreAllowed}
 
-both_true : (a b : Bool) → (a && b) ≡ true → (a ≡ true) × (b ≡ true)
+pub both_true : (a b : Bool) → (a && b) ≡ true → (a ≡ true) × (b ≡ true)
 both_true true b e = (refl, e)
 both_true false b e = absurd (cc)
 
@@ -36,13 +36,13 @@ some_taken : (image : ImageParts) (s : MachineState) (op : Op) → may_take s op
 unfolding taken
 some_taken image s op may = rw may
 
-next_some : (image : ImageParts) (sweeps : List SweepRange) (s u : MachineState) (l : ℕ) →
+pub next_some : (image : ImageParts) (sweeps : List SweepRange) (s u : MachineState) (l : ℕ) →
     next image sweeps s l ≡ Some u → (op : Op) × (operation_of_label image sweeps l ≡ Some op)
     × (may_take s op ≡ true) × (state_after_one image s op ≡ u)
 unfolding next
 next_some image sweeps s u l e = taken_some image s u (operation_of_label image sweeps l) e
 
-some_next : (image : ImageParts) (sweeps : List SweepRange) (s : MachineState) (l : ℕ) (op : Op) →
+pub some_next : (image : ImageParts) (sweeps : List SweepRange) (s : MachineState) (l : ℕ) (op : Op) →
     operation_of_label image sweeps l ≡ Some op → may_take s op ≡ true →
     next image sweeps s l ≡ Some (state_after_one image s op)
 unfolding next
@@ -79,17 +79,17 @@ legal_walk image sweeps s (l ∷ ls) (op ∷ ops) labels legal =
     ∙ legal_walk image sweeps (state_after_one image s op) ls ops labels.1 parts.1
 
 -- an operation keeps the harts' number
-same_harts : (image : ImageParts) (s : MachineState) (op : Op) →
+pub same_harts : (image : ImageParts) (s : MachineState) (op : Op) →
     length (state_after_one image s op).harts ≡ length s.harts
 unfolding state_after_one state_after_step swept_state
 same_harts image s (operation.Step hart) = length-set s.harts hart (stepped image s hart).hart
 same_harts image s (operation.Sweep lo hi) = length-map s.harts (swept_hart lo hi)
 
-step_hart : (s : MachineState) (hart : ℕ) → may_take s (operation.Step hart) ≡ true → hart < length s.harts
+pub step_hart : (s : MachineState) (hart : ℕ) → may_take s (operation.Step hart) ≡ true → hart < length s.harts
 unfolding may_take
 step_hart s hart may = grind (arith, nat_tests)
 
-label_of_step : (image : ImageParts) (sweeps : List SweepRange) (hart : ℕ) → hart < length image.harts →
+pub label_of_step : (image : ImageParts) (sweeps : List SweepRange) (hart : ℕ) → hart < length image.harts →
     operation_of_label image sweeps hart ≡ Some (operation.Step hart)
 unfolding operation_of_label
 label_of_step image sweeps hart below = let e : nat_lt hart (length image.harts) ≡ true = grind (arith, nat_tests) in rw e
@@ -124,8 +124,27 @@ legal_labels image sweeps s (op ∷ ops) same allowed legal =
     parts.1 in
     (first.0 ∷ rest.0, (first.1, rest.1))
 
+-- the label of a step is its hart
+sweeps_no_step : (o : Option SweepRange) (hart : ℕ) → option_map sweep_of o ≡ Some (operation.Step hart) → ⊥
+sweeps_no_step None hart is = none-some (operation.Step hart) is
+sweeps_no_step (Some range) hart is =
+    let e : operation.Sweep range.lo range.hi ≡ operation.Step hart = same_Some (sweep_of range) (operation.Step hart) is in
+    absurd (cc)
+
+pub step_label : (image : ImageParts) (sweeps : List SweepRange) (l hart : ℕ) →
+    operation_of_label image sweeps l ≡ Some (operation.Step hart) → (l ≡ hart) × (l < length image.harts)
+unfolding operation_of_label
+step_label image sweeps l hart is = elim (cases_Bool (nat_lt l (length image.harts))) [
+  | inl low ↦
+      let e : operation.Step l ≡ operation.Step hart = same_Some (operation.Step l) (operation.Step hart) (rw low at is) in
+      let same : l ≡ hart = cc in
+      (same, grind (arith, nat_tests))
+  | inr high ↦
+      absurd (sweeps_no_step (slice_get sweeps (l - length image.harts)) hart (rw high at is))
+]
+
 -- an operation with a label is allowed
-allowed_of : (image : ImageParts) (sweeps : List SweepRange) (l : ℕ) (op : Op) →
+pub allowed_of : (image : ImageParts) (sweeps : List SweepRange) (l : ℕ) (op : Op) →
     operation_of_label image sweeps l ≡ Some op → IsAllowed sweeps op
 unfolding operation_of_label
 allowed_of image sweeps l op is = elim (cases_Bool (nat_lt l (length image.harts))) [

@@ -1,0 +1,3 @@
+pub mod QuietLemmas
+pub mod RestLemmas
+pub mod TurnLemmas
