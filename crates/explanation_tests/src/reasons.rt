@@ -106,25 +106,29 @@ const CLEARED: &[Row] = &[
         "cap 0x80000000 16 0x80000000 load+store",
         WORD,
         "cbuildcap c7, c5, c6",
-        "clears c7: c6 has global+execute+load_cap+store_cap+store_local+seal+cinvoke+unseal+sysregs+set_cid+sw0+sw1+sw2+sw3 that c5 lacks",
+        "clears c7: c6 has global+execute+load_cap+store_cap+store_local+seal+cinvoke+unseal+\
+         sysregs+set_cid+sw0+sw1+sw2+sw3 that c5 lacks",
     ),
     (
         WHOLE,
         "word 0x00000000020018000000000000000000",
         "cbuildcap c7, c5, c6",
-        "clears c7: address 0000000000000000 is outside the representable region of 2^14 bytes at 7ffffffffffff800",
+        "clears c7: address 0000000000000000 is outside the representable region of 2^14 bytes \
+         at 7ffffffffffff800",
     ),
     (
         GRANULE,
         "int 0x7ffff7ff",
         "csetaddr c7, c5, c6",
-        "clears c7: address 000000007ffff7ff is outside the representable region of 2^14 bytes at 000000007ffff800",
+        "clears c7: address 000000007ffff7ff is outside the representable region of 2^14 bytes \
+         at 000000007ffff800",
     ),
     (
         "",
         "",
         "auipcc c7, 4",
-        "clears c7: address 0000000010004000 is outside the representable region of 2^14 bytes at 000000000ffff800",
+        "clears c7: address 0000000010004000 is outside the representable region of 2^14 bytes \
+         at 000000000ffff800",
     ),
     (
         GRANULE,
@@ -265,7 +269,8 @@ const TRAPPED: &[Row] = &[
         GRANULE,
         "",
         "ld c7, 16(c5)",
-        "traps Length: 8 bytes at 0000000080000010 are not in 0000000080000000 00000000080000010 of c5",
+        "traps Length: 8 bytes at 0000000080000010 are not in 0000000080000000 00000000080000010 \
+         of c5",
     ),
     (NONE, "", "ld c7, 0(c5)", "traps Load: c5 has no load"),
     (LOAD, "", "sd c7, 0(c5)", "traps Store: c5 has no store"),

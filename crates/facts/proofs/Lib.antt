@@ -12,5 +12,7 @@ pub mod Derived
 pub mod Written
 pub mod Exact
 pub mod TrapsSo
+pub mod Told
 pub mod SweptPlaces
+pub mod SweptTags
 pub mod Links

@@ -2,15 +2,16 @@
 use Rattle.std.specs.Prelude.{◌≡◌, Bool, true, false, List, [], ◌∷◌, Option, Some, None, is_none}
 use Rattle.std.proofs.Common.{refl, sym, ◌∙◌, ap}
 use Rattle.std.specs.Option.{option_map}
+use Rattle.std.proofs.lemmas.List.Elements.{All-nil, All-cons}
 use Rattle.cap_model.specs.declared.reason.Reason.{Reason}
 use Rattle.cap_model.specs.values.CapValue.{IsLawfulValue, tag_of}
 use Rattle.cap_model.specs.results.CapInstructions.{CapInstruction, capability_result}
 use Rattle.cap_model.specs.results.Reasons.{first_reason, no_reason, reasons}
-use Rattle.cap_model.proofs.Results.ReasonTables.{tag_kept, told_holds}
+use Rattle.cap_model.proofs.Results.ReasonTables.{tag_kept}
 use Rattle.facts.specs.declared.operands.Operands.{Operands}
 use Rattle.facts.specs.declared.why.Why.{Why}
 use Rattle.facts.specs.Losses.{first_why, why_of, why_lost}
-use Rattle.facts.specs.ClearsLaw.{IsReason}
+use Rattle.facts.specs.ClearsLaw.{IsFirst, IsReason}
 
 why_line : (op : CapInstruction) (o : Operands) (b : Bool) (reason : Reason) (rest : List (Bool × Reason)) →
     first_why op o rest ≡ option_map (why_of op o) (first_reason rest) →
@@ -37,13 +38,34 @@ kept_without_why op o lawful =
     ∙ sym (none_mapped (why_of op o) (first_reason (reasons op o.v o.w)))
     ∙ ap (λ why. is_none why) (sym (first_why_is op o (reasons op o.v o.w)))
 
--- a reason that is given is one of the table's
+-- the reason that a table tells is that of its first line that holds
+first_line : (b : Bool) (line : Reason) (rest : List (Bool × Reason)) (reason : Reason) → (first_reason rest ≡ Some reason → IsFirst rest reason) →
+    first_reason ((b, line) ∷ rest) ≡ Some reason → IsFirst ((b, line) ∷ rest) reason
+unfolding first_reason
+first_line true line rest reason later is = let same : line ≡ reason = cc in record {
+  before = [];
+  after = rest;
+  lines = ap (λ r. (true, r) ∷ rest) same;
+  none_before = All-nil (λ l. l.0 ≡ false);
+}
+first_line false line rest reason later is = let first = later is in record {
+  before = (false, line) ∷ first.before;
+  after = first.after;
+  lines = ap (λ table. (false, line) ∷ table) first.lines;
+  none_before = All-cons (λ l. l.0 ≡ false) (false, line) first.before refl first.none_before;
+}
+
+first_holds : (table : List (Bool × Reason)) (reason : Reason) → first_reason table ≡ Some reason → IsFirst table reason
+unfolding first_reason
+first_holds [] reason is = absurd (cc)
+first_holds (line ∷ rest) reason is = first_line line.0 line.1 rest reason (first_holds rest reason) is
+
 mapped_reason : (op : CapInstruction) (o : Operands) (why : Why) (first : Option Reason) → first_reason (reasons op o.v o.w) ≡ first →
     option_map (why_of op o) first ≡ Some why → IsReason op o why
 mapped_reason op o why None is given = absurd (cc)
 mapped_reason op o why (Some reason) is given = record {
   reason = reason;
-  holds = told_holds (reasons op o.v o.w) reason is;
+  first = first_holds (reasons op o.v o.w) reason is;
   said = cc;
 }
 

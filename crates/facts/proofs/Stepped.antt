@@ -34,6 +34,10 @@ fetch_is : (program : List Instr) (pcc : CapValue) (fetched : Fetched) → fetch
 unfolding fetched_of
 fetch_is program pcc fetched is = let by = fetch_by _ program pcc fetched is in record { passed = by.0; instr = by.1 }
 
+pub fetched_instr : (program : List Instr) (pcc : CapValue) (fetched : Fetched) → fetched_of program pcc ≡ Some fetched →
+    fetched.instr ≡ instruction_at program (address_of pcc)
+fetched_instr program pcc fetched is = (fetch_is program pcc fetched is).instr
+
 -- a step whose fetch passed does what the instruction asks for
 pub step_executes : (program : List Instr) (hart : HartState) (memory : List CapValue) (fetched : Fetched) → fetched_of program hart.pcc ≡ Some fetched →
     hart_step program hart memory ≡ execute (action fetched.instr hart) hart memory

@@ -1,7 +1,7 @@
 -- The reason for a trap is so: it is what the first line that fails of the step's checks says.
 use Rattle.std.proofs.Common.{◌≡◌, ℕ, ◌<◌, ◌%◌, ◌==◌, Bool, true, false, List, [], ◌∷◌, length, refl, sym, ◌∙◌, ap, subst, arith}
 use Rattle.std.specs.Prelude.{not, nat_lt, ◌&&◌, ◌||◌, find, cond, Option, Some, None, Result, Ok, Err, if◌then◌else◌}
-use Rattle.std.specs.Option.{option_map}
+use Rattle.std.specs.Option.{option_map, ForSome}
 use Rattle.std.proofs.lemmas.Bool.Decides.{nat_tests}
 use Rattle.cap_model.specs.declared.permission.TheConstants as permission
 use Rattle.cap_model.specs.values.CapValue.{CapValue, tag_of}
@@ -313,12 +313,13 @@ module _ (count : ℕ) (hart : HartState) (memory : List CapValue) where
 -- ---- a step
 
 by_fetch : (r : Result (Unit {0}) Trap) (program : List Instr) (hart : HartState) (memory : List CapValue) (trap : Trap) →
-    first_failing (fetch_table hart.pcc (length program)) ≡ r → ReadsRegisters program hart →
+    first_failing (fetch_table hart.pcc (length program)) ≡ r →
+    ForSome (fetched_by r program hart.pcc) (λ f. EachIs (IsSpot 0) (reads_of (form_of f.instr))) →
     (unless_trapped r hart memory (execute (action (instruction_at program (address_of hart.pcc)) hart) hart memory)).outcome ≡ outcome.Trap trap →
     IsTrapSo (length program) hart memory (trap_why (option_map (λ f. f.instr) (fetched_by r program hart.pcc)) hart trap)
 unfolding trapped
 by_fetch (Ok u) program hart memory trap passed reads is =
-    instr_so (length program) hart memory (instruction_at program (address_of hart.pcc)) trap reads is
+    instr_so (length program) hart memory (instruction_at program (address_of hart.pcc)) trap (reads _ refl) is
 by_fetch (Err other) program hart memory trap passed reads is =
     let same : other ≡ trap = cc in
     fetch_so (length program) hart memory trap (passed ∙ ap (λ t. Err t) same)

@@ -1,7 +1,7 @@
 -- What the laws of cleared tags say: where a tag is lost, and which reasons are so.
 use Rattle.std.specs.Prelude.{◌≡◌, ℕ, ◌==◌, Bool, true, false, not, ◌&&◌, if◌then◌else◌, List, []}
-use Rattle.std.specs.Prelude.{◌∷◌}
-use Rattle.std.specs.Prelude.{Option, Some, None, Contains, ⊤}
+use Rattle.std.specs.Prelude.{◌∷◌, ◌++◌, All}
+use Rattle.std.specs.Prelude.{Option, Some, None, ⊤}
 use Rattle.cap_model.specs.declared.reason.Reason.{Reason}
 use Rattle.cap_model.specs.values.CapValue.{CapValue, tag_of}
 use Rattle.cap_model.specs.results.CapInstructions.{CapInstruction, capability_result}
@@ -69,10 +69,17 @@ abbrev pub found_by : Instr → HartState → List CapValue → Origins → ℕ 
 found_by i hart memory origins number =
     option_map (named_at hart memory origins number) (granule_accessed (access_of (action i hart)))
 
--- the reason of a line of the instruction's table that holds, with its numbers
+-- the reason of the first line of a table that holds: no line before it does
+pub record IsFirst (table : List (Bool × Reason)) (reason : Reason) : Type 0 where
+  pub before : List (Bool × Reason)
+  pub after : List (Bool × Reason)
+  pub lines : table ≡ before ++ (true, reason) ∷ after
+  pub none_before : All (λ line. line.0 ≡ false) before
+
+-- the first reason of the instruction's table that holds, with its numbers
 pub record IsReason (op : CapInstruction) (o : Operands) (why : Why) : Type 0 where
   pub reason : Reason
-  pub holds : Contains (reasons op o.v o.w) (true, reason)
+  pub first : IsFirst (reasons op o.v o.w) reason
   pub said : why ≡ why_of op o reason
 
 -- an action writes the result of a derivation, and without one no tagged value but by a load

@@ -9,3 +9,5 @@ pub mod EventFacts
 pub mod Stepping
 pub mod ClearsLaw
 pub mod TrapsLaw
+pub mod StepLaw
+pub mod SweepLaw

@@ -1,9 +1,9 @@
 -- What a reason for a trap claims of the hart and the memory before the step.
 use Rattle.std.specs.Prelude.{◌≡◌, ℕ, ◌%◌, ◌==◌, true, false, List}
-use Rattle.std.specs.Option.{option_map}
+use Rattle.std.specs.Option.{option_map, ForSome}
 use Rattle.cap_model.specs.declared.permission.TheConstants as permission
 use Rattle.cap_model.specs.values.CapValue.{CapValue, tag_of}
-use Rattle.cap_model.specs.results.Addresses.{address_of, has_permission, in_bounds}
+use Rattle.cap_model.specs.results.Addresses.{has_permission, in_bounds}
 use Rattle.cap_model.specs.results.Readings.{base_of, top_of, object_type_of, is_sealed}
 use Rattle.cap_model.specs.results.Seals.{is_sealable}
 use Rattle.cheri_model.specs.declared.instr.Instr.{Instr}
@@ -12,7 +12,6 @@ use Rattle.cheri_model.specs.instructions.Form.{form_of}
 use Rattle.cheri_model.specs.steps.Hart.{HartState}
 use Rattle.cheri_model.specs.steps.Memory.{is_in_ram}
 use Rattle.cheri_model.specs.steps.Checks.{is_in_code}
-use Rattle.cheri_model.specs.steps.HartStep.{instruction_at}
 use Rattle.origins.specs.Places.{value_at_spot}
 use Rattle.origins.specs.Flows.{IsSpot}
 use Rattle.facts.specs.declared.why.TrapWhy.{TrapWhy}
@@ -49,10 +48,10 @@ IsTrapSo count hart memory (why.NotInRam bytes address) = is_in_ram memory addre
 IsTrapSo count hart memory (why.NoInstruction address) = is_in_code count address ≡ false
 IsTrapSo count hart memory (why.TypesDiffer code pair) = (code == pair) ≡ false
 
--- the registers that the next instruction of a hart reads are registers
+-- the registers that the next instruction of a hart reads are registers, if it is fetched
 abbrev pub ReadsRegisters : List Instr → HartState → Type 0
 ReadsRegisters program hart =
-    EachIs (IsSpot 0) (reads_of (form_of (instruction_at program (address_of hart.pcc))))
+    ForSome (fetched_of program hart.pcc) (λ f. EachIs (IsSpot 0) (reads_of (form_of f.instr)))
 
 -- why a step of a hart trapped so
 abbrev pub step_trap_why : List Instr → HartState → Trap → TrapWhy

@@ -14,6 +14,7 @@ ghost use Rattle.cheri_model.specs.declared.trace.Outcome.TheVariants as outcome
 ghost use Rattle.cheri_model.specs.steps.Actions.{action};
 ghost use Rattle.cheri_model.specs.steps.HartStep.{hart_step};
 ghost use Rattle.cheri_model.specs.runs.Authority.{EachOfHart};
+ghost use Rattle.cheri_model.specs.runs.Machine.{MachineState, swept_state, cleared};
 ghost use Rattle.origins.specs.Origins.{Origins};
 ghost use Rattle.facts.specs.declared.operands.Operands.{Operands};
 ghost use Rattle.facts.specs.declared.why.Why.{Why};
@@ -21,6 +22,10 @@ ghost use Rattle.facts.specs.Operands.{derivation_of};
 ghost use Rattle.facts.specs.Losses.{why_lost, clears_of};
 ghost use Rattle.facts.specs.ClearsLaw.{loses_tag, found_by, IsReason, IsWritten};
 ghost use Rattle.facts.specs.TrapsLaw.{IsTrapSo, ReadsRegisters, step_trap_why};
+ghost use Rattle.facts.specs.StepFacts.{hart_facts};
+ghost use Rattle.facts.specs.EventFacts.{swept_places};
+ghost use Rattle.facts.specs.StepLaw.{IsTrapTold, IsLossTold};
+ghost use Rattle.facts.specs.SweepLaw.{HaveRegisters, AreTagsLost};
 
 /// A result is tagged exactly where there is no reason for it to have no tag.
 pub fn tags_are_kept_without_reasons()
@@ -28,7 +33,8 @@ pub fn tags_are_kept_without_reasons()
         tag_of (capability_result op o.v o.w) ≡ is_none (why_lost op o) }
 {}
 
-/// The reason that is given is that of a line of the instruction's table which holds.
+/// The reason that is given is that of the first line of the instruction's table which holds: no
+/// line before it does.
 pub fn reasons_are_so()
     ensures { (op : CapInstruction) (o : Operands) (why : Why) → why_lost op o ≡ Some why →
         IsReason op o why }
@@ -58,11 +64,34 @@ pub fn rebuilt_bounds_are_aligned()
 {}
 
 /// The reason for a trap is so: what it claims holds of the hart and the memory before the step.
+/// That the instruction's registers are registers is what `before_step` says.
 pub fn trap_reasons_are_so()
     ensures { (program : List Instr) (hart : HartState) (memory : List CapValue) (trap : Trap) →
         ReadsRegisters program hart →
         (hart_step program hart memory).outcome ≡ outcome.Trap trap →
         IsTrapSo (length program) hart memory (step_trap_why program hart trap) }
+{}
+
+/// The facts of a step tell a trap where it trapped, and for a reason that is so; they tell a lost
+/// tag exactly where the step lost one, for the first reason that holds, and of a place that has
+/// no tag after it.
+pub fn steps_tell_traps_and_losses()
+    ensures traps { (program : List Instr) (number : ℕ) (hart : HartState)
+        (memory : List CapValue) (origins : Origins) → ReadsRegisters program hart →
+        IsTrapTold (length program) hart memory (hart_step program hart memory).outcome
+        (hart_facts program number hart memory origins).traps }
+    ensures losses { (program : List Instr) (number : ℕ) (hart : HartState)
+        (memory : List CapValue) (origins : Origins) → EachOfHart IsLawfulValue hart →
+        IsLossTold program hart memory (hart_facts program number hart memory origins).clears }
+{}
+
+/// A place is listed of a sweep exactly where its tag went, and there are as many as the event
+/// counts.
+pub fn sweeps_list_lost_tags()
+    ensures listed { (lo hi : ℕ) (state : MachineState) → HaveRegisters state.harts →
+        AreTagsLost state (swept_state lo hi state) (swept_places lo hi state) }
+    ensures counted { (lo hi : ℕ) (state : MachineState) → HaveRegisters state.harts →
+        length (swept_places lo hi state) ≡ cleared lo hi state }
 {}
 
 /// No other value loses a tag: the link of a jump whose fetch passed has one, and what is unsealed,

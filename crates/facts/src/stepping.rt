@@ -6,8 +6,10 @@ ghost use Rattle.std.specs.Option.{option_map, ForSome};
 ghost use Rattle.origins.specs.Places.{value_at_spot, place_of};
 ghost use Rattle.origins.specs.Flows.{IsSpot};
 ghost use Rattle.origins.specs.Origins.{Origins};
-ghost use Rattle.facts.specs.Names.{EachIs, each_of};
+ghost use Rattle.facts.specs.Names.{EachIs, each_of, reads_of};
 ghost use Rattle.facts.specs.Stepping.{IsTableFor, Tells, IsPlaced, IsSeen, IsSeenBefore};
+ghost use Rattle.facts.specs.TrapsLaw.{ReadsRegisters};
+ghost use Rattle.cheri_model.specs.instructions.Form.{form_of};
 ghost use Rattle.facts.specs.StepFacts.{
   named_at,
   fetched_of,
@@ -151,6 +153,7 @@ fn seen_before(
 ) -> Seen
     requires { IsTableFor origins.now number (length ram.now) }
     ensures same { result.fetched ≡ fetched.now }
+    ensures registers { EachIs (IsSpot 0) (reads_of (form_of fetched.now.instr)) }
     ensures seen { (from : Origins) → Tells origins.now from →
         IsSeen result facts.new number hart.now ram.now from }
 {
@@ -167,7 +170,8 @@ fn seen_before(
     }
 }
 
-/// What is seen before a step of the hart with this number: nothing where its fetch traps.
+/// What is seen before a step of the hart with this number: nothing where its fetch traps. The
+/// registers that its instruction reads are registers, which the laws of traps ask.
 #[tactic(auto)]
 pub fn before_step(
     program: &[Instr],
@@ -178,8 +182,9 @@ pub fn before_step(
     facts: &mut StepFacts,
 ) -> Option<Seen>
     requires { IsTableFor origins.now number (length ram.now) }
-    ensures { (from : Origins) → Tells origins.now from →
+    ensures seen { (from : Origins) → Tells origins.now from →
         IsSeenBefore result facts.new program.now number hart.now ram.now from }
+    ensures registers { ReadsRegisters program.now hart.now }
 {
     match fetched(program, hart.pcc()) {
         Some(fetched) => Some(seen_before(&fetched, number, hart, ram, origins, facts)),

@@ -22,6 +22,7 @@ ghost use Rattle.facts.specs.EventFacts.{
   swept_in_harts,
   swept_places,
 };
+ghost use Rattle.facts.specs.SweepLaw.{HasRegisters, HaveRegisters};
 
 use cap_ops::Cap;
 use cheri_model::{NoMemory, Reg};
@@ -63,7 +64,7 @@ fn add_registers(
     Ok(())
 }
 
-/// The same of PCC and the registers.
+/// The same of PCC and the registers, of which there are 32.
 fn add_hart(
     places: &mut Vec<Place>,
     number: u8,
@@ -71,8 +72,9 @@ fn add_hart(
     lo: u64,
     hi: u128,
 ) -> Result<(), NoMemory>
-    ensures { OnOk result (places.new.items
+    ensures places { OnOk result (places.new.items
         ≡ places.old.items ++ swept_in_hart lo hi number hart.now) }
+    ensures registers { HasRegisters hart.now }
 {
     add(places, Place::PccOf(number), hart.pcc(), lo, hi)?;
     add_registers(places, number, hart, lo, hi)
@@ -81,8 +83,9 @@ fn add_hart(
 /// The same of all harts, of which there are at most 256.
 fn add_harts(places: &mut Vec<Place>, harts: &[Hart], lo: u64, hi: u128) -> Result<(), NoMemory>
     requires { length harts.now ≤ 255 }
-    ensures { OnOk result (places.new.items
+    ensures places { OnOk result (places.new.items
         ≡ places.old.items ++ swept_in_harts lo hi harts.now (length harts.now)) }
+    ensures registers { OnOk result (HaveRegisters harts.now) }
 {
     for i in 0..harts.len() {
         add_hart(places, i as u8, hart_in(harts, i), lo, hi)?;
@@ -102,7 +105,8 @@ fn add_granules(places: &mut Vec<Place>, ram: &Ram, lo: u64, hi: u128) -> Result
 }
 
 /// The places whose tag a sweep of the addresses from `lo` up to `hi` clears: the harts in order,
-/// PCC first, then the granules. Fails only when out of memory.
+/// PCC first, then the granules. Fails only when out of memory. The harts have their registers,
+/// which the law of sweeps asks.
 pub fn swept_places(
     alloc: Global,
     harts: &[Hart],
@@ -111,8 +115,9 @@ pub fn swept_places(
     hi: u128,
 ) -> Result<Vec<Place>, NoMemory>
     requires { length harts.now ≤ 255 }
-    ensures { IfOk result (λ places. places.items
+    ensures places { IfOk result (λ places. places.items
         ≡ swept_places lo hi (record { harts = harts.now; memory = ram.now })) }
+    ensures registers { OnOk result (HaveRegisters harts.now) }
 {
     let mut places = Vec::new(alloc);
     add_harts(&mut places, harts, lo, hi)?;

@@ -2,8 +2,9 @@
 use Rattle.std.proofs.Common.{◌≡◌, ℕ, ◌+◌, ◌*◌, ◌<◌, ◌∙◌, List, [], ◌∷◌, ◌++◌, length, refl, sym, ap, subst, arith, length-set, get_or-set_same}
 use Rattle.std.specs.Prelude.{slice_set, slice_index_or, Some, None, Result, Ok, Err, IfOk}
 use Rattle.std.proofs.lemmas.List.{length-map}
+use Rattle.std.proofs.lemmas.List.Elements.{All-nil}
 use Rattle.std.proofs.lemmas.Bool.Decides.{nat_tests}
-use Rattle.cap_model.specs.values.CapValue.{CapValue}
+use Rattle.cap_model.specs.values.CapValue.{CapValue, IsLawfulValue}
 use Rattle.cheri_model.specs.declared.operation.Op.{Op}
 use Rattle.cheri_model.specs.declared.operation.Op.TheVariants as operation
 use Rattle.cheri_model.specs.steps.Hart.{HartState}
@@ -27,7 +28,15 @@ use Rattle.cheri_model.specs.declared.instr.Instr.{Instr}
 use Rattle.cheri_model.specs.declared.trace.Outcome.{Outcome}
 use Rattle.facts.specs.declared.step_facts.StepFacts.{StepFacts}
 use Rattle.facts.specs.StepFacts.{fetched_of, facts_by, hart_facts}
-use Rattle.following.specs.Following.{IsFollowed, IsPlaceOf}
+use Rattle.cheri_model.specs.declared.operation.Event.TheVariants as event
+use Rattle.cheri_model.specs.runs.Authority.{EachOfHart, IsLawfulState}
+use Rattle.cheri_model.proofs.Runs.RunsConfined.{run_lawful}
+use Rattle.origins.proofs.Writes.{at_each}
+use Rattle.facts.specs.TrapsLaw.{ReadsRegisters}
+use Rattle.facts.specs.SweepLaw.{HaveRegisters, AreTagsLost}
+use Rattle.facts.proofs.Told.{trap_told, loss_told}
+use Rattle.facts.proofs.SweptTags.{tags_lost, tags_counted}
+use Rattle.following.specs.Following.{IsFollowed, IsPlaceOf, origins_now, next_facts, next_swept, TellsTrap, TellsLoss}
 
 -- a core before its first operation
 pub opened : (core : CoreParts) (table : Table) → IsCore core → core.trace ≡ [] →
@@ -177,6 +186,40 @@ applied_accepted core op none = rw none refl
 pub applied_refused : (core : CoreParts) (op : Op) (fault : StepFault) → refused core op ≡ Some fault → core ≡ applied core op
 unfolding applied
 applied_refused core op fault some = rw some refl
+
+-- ---- what is told of an operation is so
+
+-- the values of a core's harts are lawful
+hart_lawful : (core : CoreParts) (number : ℕ) → IsCore core → EachOfHart IsLawfulValue (hart_at core.state number)
+unfolding hart_at
+hart_lawful core number is =
+    let lawful : IsLawfulState core.state = subst IsLawfulState (sym is.replay.state) (run_lawful core.image (operations_of core.trace) is.lawful).0 in
+    at_each (EachOfHart IsLawfulValue) core.state.harts number no_hart
+    record { pcc = omega arith; regs = All-nil IsLawfulValue } lawful.harts
+
+pub next_trap : (core : CoreParts) (number : ℕ) (facts : StepFacts) → ReadsRegisters core.image.program (hart_at core.state number) →
+    facts ≡ next_facts core number → TellsTrap core number facts
+next_trap core number facts reads is =
+    subst (TellsTrap core number) (sym is) (trap_told core.image.program number (hart_at core.state number) core.state.memory (origins_now core) reads)
+
+pub next_loss : (core : CoreParts) (number : ℕ) (facts : StepFacts) → IsCore core → facts ≡ next_facts core number → TellsLoss core number facts
+next_loss core number facts kept is =
+    subst (TellsLoss core number) (sym is)
+    (loss_told (hart_at core.state number) core.state.memory (origins_now core) number core.image.program (hart_lawful core number kept))
+
+pub next_lost : (core now : CoreParts) (lo hi : ℕ) (places : List Place) → HaveRegisters core.state.harts →
+    places ≡ next_swept core lo hi → now ≡ core_after core (operation.Sweep lo hi) → AreTagsLost core.state now.state places
+unfolding core_after state_after_one
+next_lost core now lo hi places registers is after =
+    rw (is, after) (tags_lost lo hi core.state registers)
+
+pub next_counted : (core now : CoreParts) (lo hi : ℕ) (places : List Place) → HaveRegisters core.state.harts →
+    places ≡ next_swept core lo hi → now ≡ core_after core (operation.Sweep lo hi) →
+    now.trace ≡ core.trace ++ event.Sweep (length places) lo hi ∷ []
+unfolding core_after event_of
+next_counted core now lo hi places registers is after =
+    ap (λ c. c.trace) after
+    ∙ ap (λ count. core.trace ++ event.Sweep count lo hi ∷ []) (sym (ap (λ list. length list) is ∙ tags_counted lo hi core.state registers))
 
 -- what a result says says more
 pub ok_weaker : {E : Type 0} → (r : Result Table E) (P Q : Table → Type 0) → ((table : Table) → P table → Q table) → IfOk r P → IfOk r Q

@@ -1,7 +1,7 @@
 //! The core that is followed.
 
 ghost use Rattle.std.specs.Prelude.{◌≡◌, ◌↔◌, ◌<◌, [], IfOk, IfErr, OnOk, OnErr, Err, None, false};
-ghost use Rattle.std.specs.Prelude.{length};
+ghost use Rattle.std.specs.Prelude.{length, ◌++◌, ◌∷◌};
 ghost use Rattle.cap_model.specs.values.Capability.{Capability};
 ghost use Rattle.cap_model.specs.values.CapValue.{valid};
 ghost use Rattle.cheri_model.specs.runs.Replay.{operations_of};
@@ -19,7 +19,12 @@ ghost use Rattle.following.specs.Following.{
   next_swept,
   answered_step,
   IsPlaceOf,
+  TellsTrap,
+  TellsLoss,
 };
+ghost use Rattle.cheri_model.specs.declared.operation.Event.TheVariants as event;
+ghost use Rattle.facts.specs.TrapsLaw.{ReadsRegisters};
+ghost use Rattle.facts.specs.SweepLaw.{HaveRegisters, AreTagsLost};
 
 use crate::fault::SweepFault;
 use cheri_model::{Image, Instr, NoMemory, Op, Outcome};
@@ -93,6 +98,7 @@ fn follow_step(core: &mut Core, origins: &mut OriginTable, number: u8, facts: &m
     requires accepted { refused core.old (Op.Step number) ≡ None }
     requires followed { IsFollowed core.old origins.old }
     ensures facts { facts.new ≡ next_facts core.old number }
+    ensures registers { ReadsRegisters core.old.image.program (hart_at core.old.state number) }
     ensures after { core.new ≡ core_after core.old (Op.Step number) }
     ensures followed_on { IsFollowed core.new origins.new }
 {
@@ -109,7 +115,8 @@ fn follow_step(core: &mut Core, origins: &mut OriginTable, number: u8, facts: &m
 /// The places whose tag a sweep clears.
 fn swept_of(alloc: Global, core: &Core, lo: u64, hi: u128) -> Result<Vec<Place>, NoMemory>
     requires { IsCore core.now }
-    ensures { IfOk result (λ places. places.items ≡ next_swept core.now lo hi) }
+    ensures places { IfOk result (λ places. places.items ≡ next_swept core.now lo hi) }
+    ensures registers { OnOk result (HaveRegisters core.now.state.harts) }
 {
     let view = core.view();
     // The granules' clause says that the image has few harts.
@@ -166,11 +173,14 @@ impl Follower {
         self.core.refusal(op)
     }
 
-    /// One step of this hart, whose facts are put in the place of others. It is refused exactly
-    /// where `refusal` says so, and then nothing changes. Takes no memory.
+    /// One step of this hart, whose facts are put in the place of others: they tell a trap and a
+    /// lost tag exactly where there was one, and each for a reason that holds before the step. It
+    /// is refused exactly where `refusal` says so, and then nothing changes. Takes no memory.
     pub fn step(&mut self, hart: u8, facts: &mut StepFacts) -> Result<(), StepFault>
         ensures answered { result ≡ answered_step self.old hart }
         ensures facts { OnOk result (facts.new ≡ next_facts self.old hart) }
+        ensures traps { OnOk result (TellsTrap self.old hart facts.new) }
+        ensures losses { OnOk result (TellsLoss self.old hart facts.new) }
         ensures kept { OnErr result (facts.new ≡ facts.old) }
         ensures applied { self.new ≡ applied self.old (Op.Step hart) }
     {
@@ -184,11 +194,15 @@ impl Follower {
     }
 
     /// Clears the tag of every capability whose base lies from `lo` up to, not including, `hi`, and
-    /// gives the places that had one, in the order of the harts, PCC first, and then the granules.
-    /// It is refused exactly where `refusal` says so, and otherwise fails only when out of memory;
-    /// then nothing changes.
+    /// gives the places that had one, in the order of the harts, PCC first, and then the granules:
+    /// those that lose their tag, as many as the event counts. It is refused exactly where `refusal`
+    /// says so, and otherwise fails only when out of memory; then nothing changes.
     pub fn sweep(&mut self, alloc: Global, lo: u64, hi: u128) -> Result<Vec<Place>, SweepFault>
         ensures places { IfOk result (λ places. places.items ≡ next_swept self.old lo hi) }
+        ensures lost { IfOk result (λ places.
+            AreTagsLost self.old.state self.new.state places.items) }
+        ensures counted { IfOk result (λ places. self.new.trace
+            ≡ self.old.trace ++ event.Sweep (length places.items) lo hi ∷ []) }
         ensures after { OnOk result (self.new ≡ core_after self.old (Op.Sweep lo hi)) }
         ensures err { IfErr result (λ fault. IsSweepFault self.old lo hi fault) }
         ensures kept { OnErr result (self.new ≡ self.old) }

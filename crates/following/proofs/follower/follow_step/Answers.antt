@@ -50,7 +50,7 @@ returns-clause-facts c =
     let from = origins_now core in
     let there = hart_there core number c.requires.accepted in
     let hart = c.hart_of-hart.ensures in
-    let seen = rw (c.program_of.ensures, c.ram_of-memory.ensures) at (c.before_step-seen.ensures from c.requires.followed.tells) in
+    let seen = rw (c.program_of.ensures, c.ram_of-memory.ensures) at (c.before_step-seen.ensures.seen from c.requires.followed.tells) in
     let parts = step_parts core number c.stepped-outcome.new.core c.hart_of-after.result.now c.ram_of-now.result.now c.stepped-outcome.result
     c.stepped-outcome.ensures.after there c.hart_of-after.ensures c.ram_of-now.ensures c.stepped-outcome.ensures.outcome in
     let stepped : Stepped = record { hart = c.hart_of-after.result.now; memory = c.ram_of-now.result.now; outcome = c.stepped-outcome.result } in
@@ -64,6 +64,10 @@ returns-clause-facts c =
     facts_joined program number c.hart_of-hart.result.now memory from stepped _ is (c.after_step.ensures program c.hart_of-hart.result.now memory from _ seen tells is)
     ∙ ap (λ h. hart_facts program number h memory from) hart
 
+pub returns-clause-registers : goal.returns-clause-registers
+returns-clause-registers c =
+    rw (c.program_of.ensures, c.hart_of-hart.ensures) at c.before_step-seen.ensures.registers
+
 pub returns-clause-followed_on : goal.returns-clause-followed_on
 returns-clause-followed_on c =
     let core = c.args.core.now in
@@ -73,7 +77,7 @@ returns-clause-followed_on c =
     let from = origins_now core in
     let there = hart_there core number c.requires.accepted in
     let hart = c.hart_of-hart.ensures in
-    let seen = rw (c.program_of.ensures, c.ram_of-memory.ensures) at (c.before_step-seen.ensures from c.requires.followed.tells) in
+    let seen = rw (c.program_of.ensures, c.ram_of-memory.ensures) at (c.before_step-seen.ensures.seen from c.requires.followed.tells) in
     let parts = step_parts core number c.stepped-outcome.new.core c.hart_of-after.result.now c.ram_of-now.result.now c.stepped-outcome.result
     c.stepped-outcome.ensures.after there c.hart_of-after.ensures c.ram_of-now.ensures c.stepped-outcome.ensures.outcome in
     let stepped : Stepped = record { hart = c.hart_of-after.result.now; memory = c.ram_of-now.result.now; outcome = c.stepped-outcome.result } in
