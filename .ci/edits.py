@@ -41,9 +41,14 @@ def load_rt() -> ModuleType:
     return made
 
 
+def take(file: str, copy: str) -> None:
+    """A file of kept work: a link, but for the one that the prover writes in place, which says when it was used."""
+    (shutil.copy2 if os.path.basename(file) == "rattle-last-used" else os.link)(file, copy)
+
+
 def linked(kept: str, copy: str) -> None:
-    """A copy of a folder of kept work, by links to its files."""
-    shutil.copytree(kept, copy, copy_function=os.link)
+    """A copy of a folder of kept work."""
+    shutil.copytree(kept, copy, copy_function=take)
 
 
 def listing(kept: str) -> list[tuple[str, int, int, int]]:
