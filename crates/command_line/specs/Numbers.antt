@@ -1,17 +1,7 @@
 -- The numbers that arguments write.
-use Rattle.std.specs.Prelude.{ℕ, nat_lt, nat_le, Bool, ◌&&◌, if◌then◌else◌, length, Option, Some, None, option_and_then}
-use Rattle.std.specs.List.{list_all}
-use Rattle.std.specs.Char.{is_digit}
-use Rattle.std.specs.Str.Parse.{digits_value}
+use Rattle.std.specs.Prelude.{ℕ, nat_le, ◌&&◌, if◌then◌else◌, Option, Some, None, option_and_then}
 use Rattle.clap.specs.Words.{Text}
-
--- whether a text has digits of a base alone, and at least one
-abbrev pub is_numeral : ℕ → Text → Bool
-is_numeral base text = nat_lt 0 (length text) && list_all (λ b. is_digit b base) text
-
--- the number that a text writes in a base
-unfoldable pub number_in : ℕ → Text → Option ℕ
-number_in base text = if is_numeral base text then Some (digits_value base text) else None
+use Rattle.text_numbers.specs.Numerals.{number_in}
 
 -- a number from a least one to a greatest one
 abbrev pub within : ℕ → ℕ → ℕ → Option ℕ

@@ -1,15 +1,17 @@
 -- The sweeps that arguments write, one by one.
 use Rattle.std.proofs.Common.{◌≡◌, ◌∙◌, ◌<◌, ◌≤◌, ◌+◌, ◌-◌, ◌^◌, ◌==◌, ◌&&◌, nat_lt, nat_le, ℕ, suc, Bool, true, false, cond, inl, inr, arith, take, List, [], ◌∷◌, ◌++◌, map, length, drop, Option, Some, None, refl, sym, ap, append-nil, append_assoc, drop-cons, drop_of_length-le}
-use Rattle.std.proofs.lemmas.Bool.{cases_lt}
 use Rattle.std.proofs.lemmas.List.{length-map}
 use Rattle.std.proofs.lemmas.Bool.Decides.{nat_tests}
 use Rattle.std.specs.Borrow.{Bor}
 use Rattle.std.specs.List.{slice_index_or}
 use Rattle.std.specs.List.{position}
-use Rattle.std.specs.Prelude.{option_map, ◌⊎◌}
+use Rattle.std.specs.Prelude.{option_map}
 use Rattle.clap.specs.Words.{Text}
-use Rattle.explore_line.specs.Sweeps.{few_sweeps_of, number_of, sweep_of, sweep_within, sweeps_of}
-use Rattle.command_line.proofs.NumberLemmas.{both_false, kept_of}
+use Rattle.text_numbers.specs.Numerals.{number_of}
+use Rattle.text_numbers.proofs.NumeralLemmas.{kept_of, number_read, none_read}
+use Rattle.command_line.specs.Found.{◌>>=◌}
+use Rattle.command_line.proofs.NumberLemmas.{both_false}
+use Rattle.explore_line.specs.Sweeps.{few_sweeps_of, sweep_of, sweep_within, sweeps_of}
 use Rattle.explore_line.specs.declared.sweeps.Sweep.{Sweep}
 use Rattle.explore_line.specs.declared.sweeps.TheConstants.{MAX_SWEEPS}
 
@@ -22,75 +24,49 @@ pub no_comma : (arg : Text) → None ≡ position is_comma arg → None ≡ swee
 unfolding sweep_of
 no_comma arg is = rw (← is) refl
 
-number_none : (text : Text) → None ≡ option_map kept_of (number_of text) → number_of text ≡ None
-number_none text is = by (number_of text) refl is
-  where
-    by : (found : Option ℕ) → number_of text ≡ found → None ≡ option_map kept_of found → number_of text ≡ None
-    by None e is = e
-    by (Some whole) e is = (let bad : None ≡ Some (kept_of whole) = is in cc)
+-- a range that ends, or begins, outside the address space
+none_of_low : (lo hi : ℕ) → 2 ^ 128 ≤ lo → None ≡ sweep_within lo hi
+none_of_low lo hi beyond =
+    let above : nat_lt lo (2 ^ 64) ≡ false = grind (arith, nat_tests) in
+    rw (above, both_false (nat_le lo hi && nat_le hi (2 ^ 64))) refl
 
-number_some : (text : Text) (number : ℕ) → Some number ≡ option_map kept_of (number_of text) →
-    (whole : ℕ) × (number_of text ≡ Some whole) × (number ≡ kept_of whole)
-number_some text number is = by (number_of text) refl is
-  where
-    by : (found : Option ℕ) → number_of text ≡ found → Some number ≡ option_map kept_of found →
-        (whole : ℕ) × (number_of text ≡ Some whole) × (number ≡ kept_of whole)
-    by None e is = (let bad : Some number ≡ option_map kept_of None = is in cc)
-    by (Some whole) e is = (whole, e, (let same : number ≡ kept_of whole = cc in same))
+none_of_high : (lo hi : ℕ) → 2 ^ 128 ≤ hi → None ≡ sweep_within lo hi
+none_of_high lo hi beyond =
+    let above : nat_le hi (2 ^ 64) ≡ false = grind (arith, nat_tests) in
+    rw (above, both_false (nat_le lo hi)) refl
+
+-- whatever the other end is
+none_from : (lo : ℕ) (high : Option ℕ) → 2 ^ 128 ≤ lo → None ≡ (high >>= (λ hi. sweep_within lo hi))
+none_from lo None beyond = refl
+none_from lo (Some hi) beyond = none_of_low lo hi beyond
 
 pub no_low : (arg : Text) (comma : ℕ) → Some comma ≡ position is_comma arg →
-    None ≡ option_map kept_of (number_of (take comma arg)) → None ≡ sweep_of arg
+    None ≡ kept_of (number_of (take comma arg)) → None ≡ sweep_of arg
 unfolding sweep_of
-no_low arg comma at is = rw (← at, number_none (take comma arg) is) refl
+no_low arg comma at is = elim (none_read (number_of (take comma arg)) is) [
+  | inl none ↦ rw (← at, none) refl
+  | inr beyond ↦ rw (← at, beyond.1) (none_from beyond.0 (number_of (drop (comma + 1) arg)) beyond.2)
+]
 
 pub no_high : (arg : Text) (comma lo : ℕ) → Some comma ≡ position is_comma arg →
-    Some lo ≡ option_map kept_of (number_of (take comma arg)) →
-    None ≡ option_map kept_of (number_of (drop (comma + 1) arg)) → None ≡ sweep_of arg
+    Some lo ≡ kept_of (number_of (take comma arg)) →
+    None ≡ kept_of (number_of (drop (comma + 1) arg)) → None ≡ sweep_of arg
 unfolding sweep_of
 no_high arg comma lo at low is =
-    let whole = number_some (take comma arg) lo low in
-    rw (← at, whole.1, number_none (drop (comma + 1) arg) is) refl
-
--- a range that ends, or begins, outside the address space
-none_of_low : (lo hi : ℕ) → nat_lt lo (2 ^ 64) ≡ false → sweep_within lo hi ≡ None
-none_of_low lo hi above = rw (above, both_false (nat_le lo hi && nat_le hi (2 ^ 64))) refl
-
-none_of_high : (lo hi : ℕ) → nat_le hi (2 ^ 64) ≡ false → sweep_within lo hi ≡ None
-none_of_high lo hi above = rw (above, both_false (nat_le lo hi)) refl
-
--- a range as far as it is kept
-range_kept : (lo hi : ℕ) → sweep_within (kept_of lo) (kept_of hi) ≡ sweep_within lo hi
-range_kept lo hi = by (cases_lt lo (2 ^ 128 - 1)) (cases_lt hi (2 ^ 128 - 1))
-  where
-    by : (lo < 2 ^ 128 - 1) ⊎ (2 ^ 128 - 1 ≤ lo) → (hi < 2 ^ 128 - 1) ⊎ (2 ^ 128 - 1 ≤ hi) →
-        sweep_within (kept_of lo) (kept_of hi) ≡ sweep_within lo hi
-    by (inl low) (inl high) =
-        let lo_is : kept_of lo ≡ lo = omega arith in
-        let hi_is : kept_of hi ≡ hi = omega arith in
-        rw (lo_is, hi_is) refl
-    by (inr low) high =
-        let kept_above : nat_lt (kept_of lo) (2 ^ 64) ≡ false = grind (arith, nat_tests) in
-        let whole_above : nat_lt lo (2 ^ 64) ≡ false = grind (arith, nat_tests) in
-        none_of_low (kept_of lo) (kept_of hi) kept_above ∙ sym (none_of_low lo hi whole_above)
-    by (inl low) (inr high) =
-        let kept_above : nat_le (kept_of hi) (2 ^ 64) ≡ false = grind (arith, nat_tests) in
-        let whole_above : nat_le hi (2 ^ 64) ≡ false = grind (arith, nat_tests) in
-        none_of_high (kept_of lo) (kept_of hi) kept_above ∙ sym (none_of_high lo hi whole_above)
-
-swept_by : (arg : Text) (comma lo hi whole_lo whole_hi : ℕ) → Some comma ≡ position is_comma arg →
-    number_of (take comma arg) ≡ Some whole_lo → lo ≡ kept_of whole_lo →
-    number_of (drop (comma + 1) arg) ≡ Some whole_hi → hi ≡ kept_of whole_hi → sweep_within lo hi ≡ sweep_of arg
-unfolding sweep_of
-swept_by arg comma lo hi whole_lo whole_hi at low lo_is high hi_is =
-    rw (← at, low, high, lo_is, hi_is) (range_kept whole_lo whole_hi)
+    let start = number_read (number_of (take comma arg)) lo low in
+    elim (none_read (number_of (drop (comma + 1) arg)) is) [
+      | inl none ↦ rw (← at, start, none) refl
+      | inr beyond ↦ rw (← at, start, beyond.1) (none_of_high lo beyond.0 beyond.2)
+    ]
 
 pub swept : (arg : Text) (comma lo hi : ℕ) → Some comma ≡ position is_comma arg →
-    Some lo ≡ option_map kept_of (number_of (take comma arg)) →
-    Some hi ≡ option_map kept_of (number_of (drop (comma + 1) arg)) → sweep_within lo hi ≡ sweep_of arg
+    Some lo ≡ kept_of (number_of (take comma arg)) →
+    Some hi ≡ kept_of (number_of (drop (comma + 1) arg)) → sweep_within lo hi ≡ sweep_of arg
+unfolding sweep_of
 swept arg comma lo hi at low high =
-    let whole_lo = number_some (take comma arg) lo low in
-    let whole_hi = number_some (drop (comma + 1) arg) hi high in
-    swept_by arg comma lo hi whole_lo.0 whole_hi.0 at whole_lo.1 whole_lo.2 whole_hi.1 whole_hi.2
+    let start = number_read (number_of (take comma arg)) lo low in
+    let end = number_read (number_of (drop (comma + 1) arg)) hi high in
+    rw (← at, start, end) refl
 
 pub ruleset sweep_parts = (no_comma, no_low, no_high, swept)
 

@@ -1,19 +1,11 @@
 -- The sweeps that arguments write.
-use Rattle.std.specs.Prelude.{ℕ, ◌==◌, ◌+◌, ◌^◌, nat_lt, nat_le, Bool, ◌&&◌, List, [], ◌∷◌, length, take, drop, slice_index, Option, Some, None, option_map, if◌then◌else◌}
+use Rattle.std.specs.Prelude.{ℕ, ◌==◌, ◌+◌, ◌^◌, nat_lt, nat_le, ◌&&◌, List, [], ◌∷◌, length, take, drop, Option, Some, None, option_map, if◌then◌else◌}
 use Rattle.std.specs.List.{position}
 use Rattle.clap.specs.Words.{Text}
 use Rattle.command_line.specs.Found.{◌>>=◌}
-use Rattle.command_line.specs.Numbers.{number_in}
+use Rattle.text_numbers.specs.Numerals.{number_of}
 use Rattle.explore_line.specs.declared.sweeps.TheConstants.{MAX_SWEEPS}
 use Rattle.explore_line.specs.declared.sweeps.Sweep.{Sweep}
-
--- the number that a text writes: decimal digits, or `0x` and hexadecimal digits of either case
-abbrev pub begins_hexadecimal : Text → Bool
-begins_hexadecimal text =
-    nat_le 2 (length text) && (slice_index text 0 == 0x30) && (slice_index text 1 == 0x78)
-
-unfoldable pub number_of : Text → Option ℕ
-number_of text = if begins_hexadecimal text then number_in 16 (drop 2 text) else number_in 10 text
 
 -- the sweep of a range
 abbrev pub sweep_within : ℕ → ℕ → Option Sweep

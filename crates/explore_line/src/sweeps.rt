@@ -7,8 +7,6 @@ ghost use Rattle.std.specs.Prelude.{
   ◌≤◌,
   ◌==◌,
   ◌+◌,
-  ◌-◌,
-  ◌^◌,
   Err,
   IfOk,
   IfSome,
@@ -18,17 +16,16 @@ ghost use Rattle.std.specs.Prelude.{
   drop,
   length,
   map,
-  min,
   option_map,
 };
 ghost use Rattle.std.specs.List.{position};
 ghost use Rattle.clap.specs.Words.{all_of, found_of, rows_of};
-ghost use Rattle.explore_line.specs.Sweeps.{few_sweeps_of, number_of, sweep_of, sweep_within, sweeps_in};
+ghost use Rattle.explore_line.specs.Sweeps.{few_sweeps_of, sweep_of, sweep_within, sweeps_in};
 
 use clap::ArgMatches;
 use command_line::CommandFault;
-use command_line::numbers::number_in;
 use std::alloc::Global;
+use text_numbers::number_of;
 
 /// The most sweeps that a search may take.
 pub const MAX_SWEEPS: usize = 8;
@@ -38,18 +35,6 @@ pub const MAX_SWEEPS: usize = 8;
 pub struct Sweep {
     pub lo: u64,
     pub hi: u128,
-}
-
-/// The number that a text writes, in decimal digits or as `0x` and hexadecimal ones, or the
-/// greatest of 128 bits where it is greater.
-#[tactic(auto, unfolding(command_line::specs::Numbers::number_in, crate::specs::Sweeps::number_of))]
-fn number_written(text: &[u8]) -> Option<u128>
-    ensures { result ≡ option_map (λ number. min number (2 ^ 128 - 1)) (number_of text.now) }
-{
-    match text {
-        [b'0', b'x', digits @ ..] => number_in(16, digits),
-        _ => number_in(10, text),
-    }
 }
 
 /// The sweep of a range, where `lo` is no greater than `hi`, and both lie in the address space.
@@ -86,8 +71,8 @@ fn sweep_written(arg: &str) -> Option<Sweep>
 {
     let bytes = arg.as_bytes();
     let comma = comma_at(bytes)?;
-    let lo = number_written(&bytes[..comma])?;
-    let hi = number_written(after(bytes, comma))?;
+    let lo = number_of(&bytes[..comma]).flatten()?;
+    let hi = number_of(after(bytes, comma)).flatten()?;
     sweep_within(lo, hi)
 }
 

@@ -1,5 +1,4 @@
 pub mod ChainLemmas
-pub mod DigitTable
 pub mod DirectiveLemmas
 pub mod EachToken
 pub mod FirstToken
@@ -7,7 +6,6 @@ pub mod LabelLemmas
 pub mod LawfulTypes
 pub mod LineLemmas
 pub mod Rulesets
-pub mod NumeralLemmas
 pub mod Unfold
 pub mod OperandLemmas
 pub mod PermissionTexts

@@ -16,7 +16,8 @@ use Rattle.cheri_model.specs.declared.operation.Op.TheVariants as operation
 use Rattle.cheri_model.specs.runs.Sweeps.{is_range}
 use Rattle.orders.specs.declared.fault.OrderFault.{OrderFault}
 use Rattle.orders.specs.Faults.{◌>>=◌}
-use Rattle.orders.specs.Numbers.{begins_hexadecimal, digits_of, number_of, has_byte, digits_end, number_end}
+use Rattle.text_numbers.specs.Numerals.{begins_hexadecimal}
+use Rattle.orders.specs.Numbers.{digits_of, number_of, has_byte, digits_end, number_end}
 use Rattle.orders.specs.Sweeps.{sweep_at}
 use Rattle.orders.specs.Orders.{operations_from, header, is_version_2, is_hart_digit, token_at, from_place, within_limit, order_limit, order_of}
 use Rattle.orders.proofs.OrderLemmas.{token_first, whole_text}

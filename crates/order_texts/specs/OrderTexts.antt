@@ -1,14 +1,10 @@
 -- An order as text: a digit for each step, `[LO,HI]` for each sweep (this project's own format).
-use Rattle.std.specs.Prelude.{ℕ, ◌<◌, ◌≤◌, false, List, [], ◌∷◌, ◌++◌, codes, decimal}
-use Rattle.std.specs.Fmt.{digits}
+use Rattle.std.specs.Prelude.{ℕ, ◌<◌, ◌≤◌, List, [], ◌∷◌, ◌++◌, codes, decimal}
 use Rattle.cap_model.specs.declared.encoding.TheConstants.{ADDRESS_SPACE}
 use Rattle.cheri_model.specs.declared.operation.Op.{Op}
 use Rattle.cheri_model.specs.declared.operation.Op.TheVariants as operation
 use Rattle.report_lines.specs.Texts.{◌+++◌}
-
--- a number in hexadecimal: lower case, without leading zeros
-abbrev pub number_text : ℕ → List ℕ
-number_text n = codes "0x" ++ digits 16 false n
+pub use Rattle.text_numbers.specs.Hexadecimal.{number_text}
 
 abbrev pub operation_text : Op → List ℕ
 operation_text (operation.Step hart) = decimal hart

@@ -2,8 +2,7 @@
 #![tactic(auto)]
 
 pub mod laws;
-mod numbers;
 mod operations;
 
-pub use numbers::NumberText;
 pub use operations::{OperationText, write_order};
+pub use text_numbers::NumberText;

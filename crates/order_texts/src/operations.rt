@@ -4,9 +4,9 @@ ghost use Rattle.std.specs.Prelude.{◌≡◌, ◌++◌, OnOk, Some, string_byte
 ghost use Rattle.std.specs.Fmt.{DisplaysOnOk};
 ghost use Rattle.order_texts.specs.OrderTexts.{operation_text, operations_text, order_text};
 
-use crate::numbers::NumberText;
 use cheri_model::{NoMemory, Op};
 use std::fmt;
+use text_numbers::NumberText;
 
 /// An operation of an order: the digit of a hart, or a sweep `[LO,HI]`.
 #[derive(Clone, Copy)]

@@ -1,18 +1,15 @@
 -- The numbers of a sweep: decimal digits, or `0x` and hexadecimal digits of either case (this
 -- project's own format).
-use Rattle.std.specs.Prelude.{ℕ, ◌+◌, ◌==◌, nat_lt, nat_le, Bool, ◌&&◌, if◌then◌else◌, List, length, drop, slice_index, Result, Ok, Err}
+use Rattle.std.specs.Prelude.{ℕ, ◌+◌, ◌==◌, nat_lt, Bool, ◌&&◌, if◌then◌else◌, List, length, drop, slice_index, Result, Ok, Err}
 use Rattle.std.specs.List.{take_while}
 use Rattle.std.specs.Char.{is_digit}
 use Rattle.std.specs.Str.Parse.{digits_value}
+use Rattle.text_numbers.specs.Numerals.{begins_hexadecimal}
 use Rattle.orders.specs.declared.fault.OrderFault.{OrderFault}
 use Rattle.orders.specs.Faults.{byte_fault}
 
 -- The number that a text begins with: its base and prefix, its digits, which are as many as there
 -- are, and its value.
-abbrev pub begins_hexadecimal : List ℕ → Bool
-begins_hexadecimal text =
-    nat_le 2 (length text) && (slice_index text 0 == 0x30) && (slice_index text 1 == 0x78)
-
 abbrev pub base_of : List ℕ → ℕ
 base_of text = if begins_hexadecimal text then 16 else 10
 

@@ -1,22 +1,6 @@
 //! The numbers of a sweep.
 
-ghost use Rattle.std.specs.Prelude.{
-  ◌≡◌,
-  ◌+◌,
-  ◌-◌,
-  ◌*◌,
-  ◌^◌,
-  ◌<◌,
-  ◌≤◌,
-  IfOk,
-  length,
-  drop,
-  min,
-  fold,
-};
-ghost use Rattle.std.specs.List.{take_while};
-ghost use Rattle.std.specs.Char.{digit_value, is_digit};
-ghost use Rattle.std.specs.Str.Parse.{digits_value};
+ghost use Rattle.std.specs.Prelude.{◌≡◌, ◌-◌, ◌^◌, ◌<◌, ◌≤◌, IfOk, length, drop, min};
 ghost use Rattle.orders.specs.Numbers.{
   base_of,
   prefix_bytes,
@@ -27,9 +11,10 @@ ghost use Rattle.orders.specs.Numbers.{
 };
 
 use crate::fault::OrderFault;
+use text_numbers::{digit_count, digits_value};
 
 /// The base of the number that a text begins with.
-fn base_of(text: &[u8]) -> u32
+fn base_of(text: &[u8]) -> u8
     ensures { result ≡ base_of text.now }
 {
     match text {
@@ -48,49 +33,12 @@ fn prefix_bytes(text: &[u8]) -> usize
     }
 }
 
-/// How many digits of the base a text begins with.
-fn digit_count(base: u32, text: &[u8]) -> usize
-    requires lower_bound { 2 ≤ base }
-    requires upper_bound { base ≤ 36 }
-    ensures { result ≡ length (take_while (λ b. is_digit b base) text.now) }
-{
-    text.iter()
-        .take_while(|byte| char::from(**byte).is_digit(base))
-        .count()
-}
-
 /// Its digits.
 fn digits_of(text: &[u8]) -> &[u8]
     ensures { result.now ≡ digits_of text.now }
 {
     let digits = &text[prefix_bytes(text)..];
     &digits[..digit_count(base_of(text), digits)]
-}
-
-/// What a digit of either case stands for: 10 for `a`, 35 for `z`, and 36 for what is no digit.
-fn digit_value(byte: u8) -> u32
-    ensures { result ≡ digit_value byte }
-{
-    char::from(byte).to_digit(36).unwrap_or(36)
-}
-
-/// The number with one more digit after it, or the greatest of 128 bits.
-fn with_digit(base: u32, number: u128, byte: u8) -> u128
-    ensures { result ≡ min (number * base + digit_value byte) (2 ^ 128 - 1) }
-{
-    number
-        .saturating_mul(u128::from(base))
-        .saturating_add(u128::from(digit_value(byte)))
-}
-
-/// The number that digits of a base write, or the greatest of 128 bits where it is greater.
-fn digits_value(base: u32, digits: &[u8]) -> u128
-    requires { 1 ≤ base }
-    ensures { result ≡ min (digits_value base digits.now) (2 ^ 128 - 1) }
-{
-    digits
-        .iter()
-        .fold(0, |number, byte| with_digit(base, number, *byte))
 }
 
 /// The number from a place on, or the greatest of 128 bits where it is greater: no range goes as
@@ -101,7 +49,7 @@ pub fn number_at(text: &[u8], place: usize) -> u128
     ensures { result ≡ min (number_of (drop place text.now)) (2 ^ 128 - 1) }
 {
     let rest = &text[place..];
-    digits_value(base_of(rest), digits_of(rest))
+    digits_value(base_of(rest), digits_of(rest)).unwrap_or(u128::MAX)
 }
 
 /// Whether a text has this byte at a place.

@@ -1,5 +1,5 @@
 -- The text of a step that was done: its length, and its bytes.
-use Rattle.std.proofs.Common.{◌≡◌, ℕ, ◌<◌, ◌≤◌, ◌^◌, List, [], ◌∷◌, ◌++◌, codes, length, length-append, arith}
+use Rattle.std.proofs.Common.{ℕ, ◌<◌, ◌≤◌, [], ◌++◌, codes, length, length-append, arith}
 use Rattle.std.specs.Fmt.{decimal}
 use Rattle.std.specs.Str.{IsAscii}
 use Rattle.std.proofs.lemmas.Fmt.{length-decimal-le, IsAscii-decimal}
@@ -7,7 +7,7 @@ use Rattle.std.proofs.lemmas.Str.{IsAscii-append}
 use Rattle.std.proofs.lemmas.Str.Ascii.{IsAscii-nil, IsAscii-cons}
 use Rattle.report_lines.specs.EventText.{done_text}
 use Rattle.report_lines.specs.ValueText.{hex_text}
-use Rattle.report_lines.proofs.HexDigits.{digits_ascii, digits_length}
+use Rattle.text_numbers.proofs.HexDigits.{digits_ascii, digits_length}
 
 pub byte_length : (n : ℕ) → n < 256 → length (decimal n) ≤ 3
 byte_length n small = length-decimal-le 3 n (omega arith) (omega arith) (omega arith)

@@ -15,7 +15,7 @@ use Rattle.cheri_model.specs.declared.trace.Outcome.TheVariants as outcome
 use Rattle.report_lines.specs.EventData.{step_members}
 use Rattle.report_lines.specs.ValueData.{count}
 use Rattle.report_lines.specs.ValueText.{hex_text}
-use Rattle.report_lines.proofs.HexDigits.{first_digit, low_part}
+use Rattle.text_numbers.proofs.HexDigits.{first_digit, low_part}
 
 -- ---- digits in quotes
 

@@ -1,15 +1,9 @@
 -- How numbers, object types, words and values are written.
-use Rattle.std.specs.Prelude.{ℕ, ◌/◌, ◌%◌, ◌^◌, ◌==◌, if◌then◌else◌, List, [], ◌∷◌, ◌++◌}
-use Rattle.std.specs.Prelude.{codes, decimal, zero, suc}
-use Rattle.std.specs.Char.{digit_char}
+use Rattle.std.specs.Prelude.{ℕ, ◌/◌, ◌%◌, ◌^◌, ◌==◌, if◌then◌else◌, List, codes, decimal}
 use Rattle.cap_model.specs.values.Capability.{Capability, unsealed_type, sentry_type}
 use Rattle.cap_model.specs.values.CapValue.{CapValue, bits_of, tag_of, parts_of}
 use Rattle.report_lines.specs.Texts.{◌+++◌}
-
--- a number's lowest hexadecimal digits, this many, in lower case
-unfoldable pub hex_text : ℕ → ℕ → List ℕ
-hex_text zero n = []
-hex_text (suc width) n = hex_text width (n / 16) ++ digit_char (n % 16) ∷ []
+unfoldable pub use Rattle.text_numbers.specs.Hexadecimal.{hex_text}
 
 -- an object type: by its name where it has one, else in decimal
 abbrev pub type_text : ℕ → List ℕ

@@ -10,13 +10,10 @@ use bitflags::Flags;
 use cheri_model::Perms;
 use itoa::{Buffer, Integer};
 use std::fmt;
-use std::simd::prelude::*;
+use text_numbers::{BUFFER, word_digits};
 
 /// The most hexadecimal digits that stand together in a report: those of the top of a capability.
 pub const MOST_DIGITS: usize = 17;
-
-/// The bytes of `itoa`'s buffer, into which an `Integer` is written.
-pub const BUFFER: usize = 40;
 
 /// A number's lowest hexadecimal digits in lower case, `width` of them: at most `MOST_DIGITS`.
 #[derive(Clone, Copy)]
@@ -65,22 +62,6 @@ fn hex_digit(digit: u8) -> u8
     }
 }
 
-/// The sixteen digits of a number of 64 bits. A vector makes all of them at once: digits that are
-/// stored one by one make the next read of them wait.
-pub(crate) fn word_digits(number: u64) -> [u8; 16]
-    ensures { result ≡ hex_text 16 number }
-{
-    let bytes = u64x2::from_array([number, 0]).to_le_bytes();
-    let (upper, lower) = (bytes / u8x16::splat(16), bytes % u8x16::splat(16));
-    let digits: u8x16 = upper.shuffle(
-        lower,
-        [7, 23, 6, 22, 5, 21, 4, 20, 3, 19, 2, 18, 1, 17, 0, 16],
-    );
-    let letters = digits.simd_gt(u8x16::splat(9));
-    let signs = letters.select(u8x16::splat(b'a' - 10), u8x16::splat(b'0'));
-    (signs + digits).to_array()
-}
-
 /// The lowest digits of a number, `MOST_DIGITS` of them.
 pub(crate) fn most_digits(number: u128) -> [u8; MOST_DIGITS]
     ensures { result ≡ hex_text MOST_DIGITS number }
@@ -126,32 +107,6 @@ impl Integer for Hex {
 
 impl fmt::Display for Hex {
     ghost output = { λ h. Some (hex_text h.width h.number) };
-
-    fn fmt<W: fmt::Write>(&self, f: &mut fmt::Formatter<W>) -> fmt::Result {
-        f.write_str(Buffer::new().format(*self))
-    }
-}
-
-/// All sixteen hexadecimal digits of a number of 64 bits, as an address is, in lower case. It is
-/// written faster than a `Hex`, and most numbers of a report are such.
-#[derive(Clone, Copy)]
-pub struct Hex64(pub u64);
-
-impl Integer for Hex64 {
-    const MAX_STR_LEN: usize = 16;
-
-    ghost MAX_STR_LEN = { 16 };
-
-    ghost text = { λ h. hex_text 16 h.0 };
-
-    fn write(self, buf: &mut [u8; BUFFER]) -> usize {
-        buf[BUFFER - 16..].copy_from_slice(&word_digits(self.0));
-        BUFFER - 16
-    }
-}
-
-impl fmt::Display for Hex64 {
-    ghost output = { λ h. Some (hex_text 16 h.0) };
 
     fn fmt<W: fmt::Write>(&self, f: &mut fmt::Formatter<W>) -> fmt::Result {
         f.write_str(Buffer::new().format(*self))

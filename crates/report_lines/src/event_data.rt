@@ -10,10 +10,11 @@ ghost use Rattle.report_lines.specs.EventData.{ended_members, event_data, event_
 ghost use Rattle.report_lines.specs.EventData.{image_data, trapped_members};
 ghost use Rattle.report_lines.specs.ValueData.{count};
 
-use crate::digits::{Hex, Hex64};
+use crate::digits::Hex;
 use cheri_model::{Entry, Event, Image, NoMemory, Outcome, Trap};
 use serde_json::{Map, Value, json, put};
 use std::alloc::Global;
+use text_numbers::Hex64;
 
 /// The members of a step without a trap, by the word for how it ended.
 fn ended_members(

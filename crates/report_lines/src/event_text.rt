@@ -9,10 +9,11 @@ ghost use Rattle.report_lines.specs.EventText.{cause_text, done_text, event_text
 ghost use Rattle.report_lines.specs.EventText.{status_text};
 ghost use Rattle.report_lines.specs.declared.event_text.TheConstants.{FIRST_LONG_NUMBER};
 
-use crate::digits::{BUFFER, Hex, Hex64, put_before, word_digits};
+use crate::digits::{Hex, put_before};
 use cheri_model::{Entry, Event, NoMemory, Outcome, Status, Trap};
 use itoa::{Buffer, Integer, write_digits};
 use std::fmt;
+use text_numbers::{BUFFER, Hex64, word_digits};
 
 /// A trap's cause and register.
 #[derive(Clone, Copy)]

@@ -11,12 +11,12 @@ ghost use Rattle.report_lines.specs.EventData.{event_data, step_members};
 ghost use Rattle.report_lines.specs.ValueData.{count};
 ghost use Rattle.report_lines.specs.ValueText.{hex_text};
 
-use crate::digits::Hex64;
 use crate::event_data::event_json;
 use cheri_model::{Entry, Event, NoMemory, Outcome};
 use itoa::Buffer;
 use serde_json::Value;
 use std::alloc::Global;
+use text_numbers::Hex64;
 
 /// Appends the compact text of a value that has no float.
 pub fn write_json_value(alloc: Global, out: &mut String, value: Value) -> Result<(), NoMemory>

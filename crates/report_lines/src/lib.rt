@@ -11,7 +11,7 @@ mod names;
 mod value_data;
 mod value_text;
 
-pub use digits::{BUFFER, Hex, Hex64, MOST_DIGITS, put_before};
+pub use digits::{Hex, MOST_DIGITS, put_before};
 pub use event_data::{event_json, event_members, image_json};
 pub use event_text::{OutcomeText, StatusText, write_event};
 pub use json_text::{write_comma, write_event_json, write_json_value};
@@ -20,5 +20,6 @@ pub use lines::{
     write_register_line, write_status_line,
 };
 pub use names::{CauseName, PlaceName, granule_address};
+pub use text_numbers::{BUFFER, Hex64};
 pub use value_data::{put_granule, put_register, value_json, value_members};
 pub use value_text::{TypeText, ValueText, Word, is_listed, write_type, write_value, write_word};

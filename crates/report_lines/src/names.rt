@@ -5,9 +5,10 @@ ghost use Rattle.std.specs.Fmt.{DisplaysOnOk};
 ghost use Rattle.report_lines.specs.Names.{address_of_granule, cause_name, place_name};
 ghost use Rattle.report_lines.specs.Names.{trapped_place};
 
-use crate::digits::{Hex, Hex64};
+use crate::digits::Hex;
 use cheri_model::{GRANULE_BYTES, RAM_BASE, Trap};
 use std::fmt;
+use text_numbers::Hex64;
 
 /// A place that has a value: `c5`, `pcc`, or `mem` and the address of a granule.
 #[derive(Clone, Copy, Debug, PartialEq, Eq)]

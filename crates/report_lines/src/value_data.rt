@@ -9,13 +9,14 @@ ghost use Rattle.report_lines.specs.ValueData.{capability_members, put_listed, u
 ghost use Rattle.report_lines.specs.ValueData.{value_data, value_members};
 ghost use Rattle.report_lines.specs.ValueText.{hex_text};
 
-use crate::digits::{Hex, Hex64};
+use crate::digits::Hex;
 use crate::names::granule_address;
 use crate::value_text::{TypeText, Word, is_listed};
 use cap_ops::Cap;
 use cheri_model::NoMemory;
 use serde_json::{Map, Value, put};
 use std::alloc::Global;
+use text_numbers::Hex64;
 
 /// The members of a capability that is tagged, by the texts of its parts.
 fn capability_members(

@@ -13,12 +13,13 @@ ghost use Rattle.report_lines.specs.ValueText.{
   word_text,
 };
 
-use crate::digits::{BUFFER, Hex, Hex64, most_digits, put_before, word_digits};
+use crate::digits::{Hex, most_digits, put_before};
 use bitflags::Flags;
 use cap_ops::Cap;
 use cheri_model::{NoMemory, OType, SENTRY_TYPE, UNSEALED_TYPE};
 use itoa::{Buffer, Integer};
 use std::fmt;
+use text_numbers::{BUFFER, Hex64, word_digits};
 
 /// Whether a value is tagged or not all 0: the others have no line in a report.
 pub fn is_listed(value: Cap) -> bool

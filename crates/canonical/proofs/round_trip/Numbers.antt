@@ -7,7 +7,8 @@ use Rattle.std.specs.List.{list_all}
 use Rattle.std.specs.Str.Parse.{AllDigits, IsNumeral, digits_value}
 use Rattle.std.proofs.lemmas.Bool.Decides.{nat_tests}
 use Rattle.std.proofs.lemmas.Fmt.{digits_is_IsNumeral, decimal_is_IsNumeral_wide}
-use Rattle.grammar.specs.Numerals.{begins_hexadecimal, number_of_digits, number_of}
+use Rattle.text_numbers.specs.Numerals.{begins_hexadecimal, number_in, number_of as written_number}
+use Rattle.grammar.specs.Numerals.{number_of_digits, number_of}
 use Rattle.grammar.specs.Tokens.{is_filled, is_blank}
 use Rattle.canonical.proofs.round_trip.Words.{is_open, is_word_byte, IsWord, both, filled_where, filled_cons}
 
@@ -46,13 +47,14 @@ decimal_digits (a ∷ b ∷ ds) h = and_false (nat_le 2 (suc (suc (length ds))) 
     and_false false q e = refl
 
 pub number_where : (base : ℕ) (ds : List ℕ) (n : ℕ) → IsNumeral base ds → digits_value base ds ≡ n → n < 2 ^ 128 → number_of_digits base ds ≡ Ok (Some n)
+unfolding number_in
 number_where base ds n h e low =
     let filled : is_filled ds ≡ true = filled_where ds h.0 in
     let all = all_digits base ds h.1 in
     rw (filled, all, e, test_lt n (2 ^ 128) low) refl
 
 pub decimal_reads : (n : ℕ) → n < 2 ^ 128 → number_of (decimal n) ≡ Ok (Some n)
-unfolding number_of
+unfolding number_of written_number
 decimal_reads n low =
     let shape = decimal_is_IsNumeral_wide n (omega arith) in
     rw (decimal_digits (decimal n) shape.0.1) (number_where 10 (decimal n) n shape.0 shape.1 low)
@@ -67,7 +69,7 @@ hex_begins ds = both _ true (both (nat_le 2 (suc (suc (length ds)))) true (long 
     long n = grind (arith, nat_tests)
 
 pub after_0x : (ds : List ℕ) → number_of (0x30 ∷ 0x78 ∷ ds) ≡ number_of_digits 16 ds
-unfolding number_of
+unfolding number_of written_number
 after_0x ds = rw (hex_begins ds) refl
 
 pub hex_reads : (n : ℕ) → n < 2 ^ 128 → number_of (codes "0x" ++ digits 16 false n) ≡ Ok (Some n)

@@ -1,6 +1,7 @@
 use Rattle.std.proofs.Common.{refl}
 use Rattle.clap.proofs.OnLiterals.{clap_on_literals}
-use Rattle.command_line.specs.Numbers.{decimal_within, number_in}
+use Rattle.command_line.specs.Numbers.{decimal_within}
+use Rattle.text_numbers.specs.Numerals.{number_in}
 use Rattle.command_line.specs.Requests.{asked, asked_of}
 use Rattle.command_line.proofs.laws.known_command_lines.Goals as goal
 

@@ -1,7 +1,8 @@
 use Rattle.std.proofs.Common.{refl}
 use Rattle.clap.proofs.OnLiterals.{clap_on_literals}
 use Rattle.explain_line.specs.Requests.{explain_asked, explain_asked_of, filter_named}
-use Rattle.command_line.specs.Numbers.{decimal_within, number_in}
+use Rattle.command_line.specs.Numbers.{decimal_within}
+use Rattle.text_numbers.specs.Numerals.{number_in}
 use Rattle.explain_line.proofs.laws.known_explain_lines.Goals as goal
 
 pub returns-clause-plain : goal.returns-clause-plain

@@ -1,8 +1,9 @@
 use Rattle.std.proofs.Common.{refl}
 use Rattle.clap.proofs.OnLiterals.{clap_on_literals}
-use Rattle.command_line.specs.Numbers.{decimal_within, number_in}
+use Rattle.command_line.specs.Numbers.{decimal_within}
+use Rattle.text_numbers.specs.Numerals.{number_in, number_of}
 use Rattle.explore_line.specs.Requests.{explore_asked, explore_asked_of, question_of}
-use Rattle.explore_line.specs.Sweeps.{number_of, sweep_of, sweeps_of}
+use Rattle.explore_line.specs.Sweeps.{sweep_of, sweeps_of}
 use Rattle.explore_line.proofs.laws.known_explore_lines.Goals as goal
 
 pub returns-clause-outcomes : goal.returns-clause-outcomes

@@ -1,5 +1,6 @@
 use Rattle.std.proofs.Common.{refl, arith}
-use Rattle.report_lines.proofs.HexDigits.{digits_ascii, digits_length, end_digits}
+use Rattle.text_numbers.proofs.HexDigits.{digits_ascii, digits_length}
+use Rattle.report_lines.proofs.HexDigits.{end_digits}
 use Rattle.report_lines.proofs.digits.HexInteger.write.Goals as goal
 
 pub returns-clause-written : goal.returns-clause-written

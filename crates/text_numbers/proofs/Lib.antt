@@ -1,0 +1,5 @@
+pub mod Counts
+pub mod DigitTable
+pub mod NumeralLemmas
+pub mod HexDigits
+pub mod NumberTexts

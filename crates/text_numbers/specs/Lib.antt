@@ -1,0 +1,3 @@
+-- What numbers are as text.
+pub mod Numerals
+pub mod Hexadecimal
