@@ -1,5 +1,5 @@
 -- What a verdict says of the machine's runs.
-use Rattle.std.proofs.Common.{◌≡◌, ℕ, zero, suc, ◌+◌, ◌<◌, List, [], ◌∷◌, ◌++◌, length, arith, ap, sym, ◌∙◌, refl, subst}
+use Rattle.std.proofs.Common.{◌≡◌, ℕ, zero, suc, ◌<◌, List, [], ◌∷◌, ◌++◌, length, sym, refl, subst}
 use Rattle.std.specs.Prelude.{Option, Some, IsSome, true, slice_get}
 use Rattle.std.proofs.lemmas.Option.{slice_get_within, none-some, same_Some}
 use Rattle.cheri_model.specs.declared.operation.Op.{Op}
@@ -10,7 +10,6 @@ use Rattle.graph_search.proofs.TreeLemmas.{row_of}
 use Rattle.graph_search.specs.Walks.{IsReachable}
 use Rattle.graph_loops.proofs.ChainLemmas.{Chain, LeadsFairly, walk_append, walk_short, fair_chain_short}
 use Rattle.graph_loops.specs.Loops.{IsKnown}
-use Rattle.graph_loops.specs.Loops as graphs
 use Rattle.graph_loops.specs.declared.scans.Loops.TheVariants as known
 use Rattle.loop_search.specs.declared.judging.FoundLoop.{FoundLoop}
 use Rattle.loop_search.specs.Verdicts.{IsFoundLoop, IsFoundFair}
@@ -19,7 +18,7 @@ use Rattle.schedules.specs.declared.ranges.SweepRange.{SweepRange}
 use Rattle.schedules.specs.Schedules.{AreAllowed}
 use Rattle.schedules.proofs.WalkLemmas.{walk_legal, legal_walk, legal_labels, replayed_reachable}
 use Rattle.states.specs.Graphs.{state_in}
-use Rattle.states.specs.Kept.{KeptParts, graph_of, at, count, IsSearch, IsWitnessOrder}
+use Rattle.states.specs.Kept.{KeptParts, graph_of, at, count, IsSearch}
 use Rattle.states.proofs.NodeLemmas.{node_of}
 use Rattle.state_loops.specs.declared.endless.Lasso.{Lasso}
 use Rattle.state_loops.specs.Endless.{IsLasso, IsLassoOf, IsFair, HasNoLoop, HasNoFairLoop, HasShortWalks, HasFewSteps, AreFairRounds, HasFewRounds}

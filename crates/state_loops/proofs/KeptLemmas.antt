@@ -13,7 +13,7 @@ use Rattle.loop_search.proofs.VerdictLemmas.{on_same}
 use Rattle.schedules.specs.declared.ranges.SweepRange.{SweepRange}
 use Rattle.schedules.specs.Schedules.{next}
 use Rattle.states.specs.Graphs.{GraphParts, state_in}
-use Rattle.states.specs.Kept.{KeptParts, kept_of, graph_of, at, IsKept, IsSearch}
+use Rattle.states.specs.Kept.{kept_of, at, IsKept}
 use Rattle.state_store.specs.Stores.{state_of}
 use Rattle.state_loops.specs.Endless.{IsSame}
 

@@ -1,6 +1,6 @@
 -- Loops as labels and as operations.
-use Rattle.std.proofs.Common.{◌≡◌, ℕ, zero, suc, ◌+◌, ◌-◌, ◌<◌, ◌≤◌, List, [], ◌∷◌, length, take, arith, ap, sym, ◌∙◌, refl, inl, inr, ◌⊎◌, subst, nat_lt}
-use Rattle.std.specs.Prelude.{Option, Some, None, Bool, true, false, option_map, slice_get, if◌then◌else◌}
+use Rattle.std.proofs.Common.{◌≡◌, ℕ, zero, suc, ◌+◌, ◌-◌, ◌<◌, List, [], ◌∷◌, length, take, arith, ap, sym, ◌∙◌, refl, inl, inr, subst, nat_lt}
+use Rattle.std.specs.Prelude.{Option, Some, None, true, option_map, slice_get}
 use Rattle.std.proofs.lemmas.Bool.{cases_Bool}
 use Rattle.std.proofs.lemmas.Bool.Decides.{nat_tests}
 use Rattle.std.proofs.lemmas.Option.{none-some, same_Some}
@@ -10,7 +10,6 @@ use Rattle.cheri_model.specs.runs.Image.{ImageParts}
 use Rattle.cheri_model.specs.runs.Machine.{MachineState, may_take, state_after_one}
 use Rattle.cheri_model.specs.runs.Replay.{is_legal, state_after}
 use Rattle.graph_search.specs.Trees.{IsFound}
-use Rattle.graph_search.specs.Walks.{IsWalk}
 use Rattle.graph_loops.specs.Loops.{Takes, StaysFound, actor_count}
 use Rattle.graph_loops.specs.Loops as graphs
 use Rattle.schedules.specs.declared.ranges.SweepRange.{SweepRange}

@@ -1,5 +1,5 @@
 -- The operations of labels.
-use Rattle.std.proofs.Common.{◌≡◌, ℕ, ◌-◌, ◌<◌, List, [], ◌∷◌, length, arith, ap, sym, ◌∙◌, refl, inl, inr, subst, nat_lt}
+use Rattle.std.proofs.Common.{◌≡◌, ℕ, ◌-◌, ◌<◌, List, [], ◌∷◌, length, arith, ap, ◌∙◌, refl, inl, inr, subst, nat_lt}
 use Rattle.std.specs.Prelude.{Option, Some, None, Bool, true, false, ◌&&◌, option_map, slice_get}
 use Rattle.std.proofs.lemmas.Bool.{cases_Bool}
 use Rattle.std.proofs.lemmas.Bool.Decides.{nat_tests}

@@ -10,7 +10,7 @@ use Rattle.cheri_model.specs.declared.operation.Event.{Event}
 use Rattle.cheri_model.specs.declared.operation.Event.TheVariants as event
 use Rattle.cheri_model.specs.runs.Image.{ImageParts}
 use Rattle.cheri_model.specs.runs.Machine.{MachineState, opening_state, may_take, state_after_step, entry_of, state_after_one, event_of}
-use Rattle.cheri_model.specs.runs.Replay.{state_after, events_of, is_legal, operation_of, operations_of, replayed_state, replayed_events, IsReplay, IsPrefixOf, state_after_steps, entries_of_steps}
+use Rattle.cheri_model.specs.runs.Replay.{state_after, events_of, is_legal, operation_of, operations_of, replayed_state, replayed_events, IsReplay, IsPrefixOf, state_after_steps, are_legal_steps, entries_of_steps}
 
 module _ (image : ImageParts) where
   pub state_after-append : (state : MachineState) (first later : List Op) →
@@ -70,6 +70,14 @@ pub state_after-steps : (image : ImageParts) (state : MachineState) (numbers : L
 unfolding state_after state_after_one state_after_steps
 state_after-steps image state [] = refl
 state_after-steps image state (number ∷ numbers) = state_after-steps image (state_after_step image state number) numbers
+
+pub is_legal-steps : (image : ImageParts) (state : MachineState) (numbers : List ℕ) →
+    is_legal image state (map operation.Step numbers) ≡ are_legal_steps image state numbers
+unfolding is_legal may_take state_after_one are_legal_steps
+is_legal-steps image state [] = refl
+is_legal-steps image state (number ∷ numbers) =
+    ap (λ rest. may_take state (operation.Step number) && rest)
+    (is_legal-steps image (state_after_step image state number) numbers)
 
 pub events_of-steps : (image : ImageParts) (state : MachineState) (numbers : List ℕ) →
     events_of image state (map operation.Step numbers) ≡ map event.Step (entries_of_steps image state numbers)

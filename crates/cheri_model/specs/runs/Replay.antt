@@ -1,7 +1,7 @@
 -- Replay: an order of operations run from an image, one after another. These equations are what the
 -- machine is compared with at every moment.
 use Rattle.std.specs.Prelude.{◌≡◌, ℕ, ◌==◌, Bool, true, false, ◌&&◌, List, [], ◌∷◌, ◌++◌, map, fold}
-use Rattle.std.specs.Prelude.{count_by, IsTrue}
+use Rattle.std.specs.Prelude.{count_by, IsTrue, length, nat_lt}
 use Rattle.cheri_model.specs.declared.operation.Op.{Op}
 use Rattle.cheri_model.specs.declared.operation.Op.TheVariants as operation
 use Rattle.cheri_model.specs.declared.operation.Event.{Event}
@@ -9,7 +9,7 @@ use Rattle.cheri_model.specs.declared.operation.Event.TheVariants as event
 use Rattle.cheri_model.specs.declared.trace.Entry.{Entry}
 use Rattle.cheri_model.specs.runs.Image.{ImageParts}
 use Rattle.cheri_model.specs.runs.Machine.{MachineState, opening_state, may_take, state_after_step}
-use Rattle.cheri_model.specs.runs.Machine.{entry_of, state_after_one, event_of}
+use Rattle.cheri_model.specs.runs.Machine.{entry_of, state_after_one, event_of, hart_at, is_running}
 
 -- the state after an order, run from this one
 unfoldable pub state_after : ImageParts → MachineState → List Op → MachineState
@@ -38,6 +38,13 @@ replayed_events image order = events_of image (opening_state image) order
 -- Steps alone, of harts with these numbers: the state that they leave, and their entries.
 unfoldable pub state_after_steps : ImageParts → MachineState → List ℕ → MachineState
 state_after_steps image state numbers = fold (state_after_step image) state numbers
+
+-- steps alone are legal where each hart is there and runs in its turn
+unfoldable pub are_legal_steps : ImageParts → MachineState → List ℕ → Bool
+are_legal_steps image state [] = true
+are_legal_steps image state (number ∷ numbers) =
+    (nat_lt number (length state.harts) && is_running (hart_at state number).status)
+    && are_legal_steps image (state_after_step image state number) numbers
 
 unfoldable pub entries_of_steps : ImageParts → MachineState → List ℕ → List Entry
 entries_of_steps image state [] = []

@@ -7,7 +7,7 @@ ghost use Rattle.cheri_model.specs.declared.operation.Op.TheVariants as operatio
 ghost use Rattle.cheri_model.specs.declared.operation.Event.TheVariants as event;
 ghost use Rattle.cheri_model.specs.runs.Machine.{MachineState};
 ghost use Rattle.cheri_model.specs.runs.Replay.{state_after, events_of, is_legal, IsPrefixOf};
-ghost use Rattle.cheri_model.specs.runs.Replay.{state_after_steps, entries_of_steps};
+ghost use Rattle.cheri_model.specs.runs.Replay.{state_after_steps, are_legal_steps, entries_of_steps};
 
 /// An order followed by another runs the second from where the first has ended: its state, its
 /// events, and whether it is legal.
@@ -35,7 +35,7 @@ pub fn prefixes_of_runs()
 {}
 
 /// An order without sweeps is what it says of its harts alone: one step after another, each with
-/// its entry.
+/// its entry, and legal where each hart runs in its turn.
 pub fn orders_of_steps_are_steps()
     ensures state { (image : ImageParts) (state : MachineState) (numbers : List ℕ)
         → state_after image state (map operation.Step numbers)
@@ -43,4 +43,7 @@ pub fn orders_of_steps_are_steps()
     ensures events { (image : ImageParts) (state : MachineState) (numbers : List ℕ)
         → events_of image state (map operation.Step numbers)
         ≡ map event.Step (entries_of_steps image state numbers) }
+    ensures legal { (image : ImageParts) (state : MachineState) (numbers : List ℕ)
+        → is_legal image state (map operation.Step numbers)
+        ≡ are_legal_steps image state numbers }
 {}

@@ -1,4 +1,4 @@
-use Rattle.std.proofs.Common.{◌≡◌, ℕ, ◌≤◌, length, ap, sym, ◌∙◌, subst, arith}
+use Rattle.std.proofs.Common.{◌≡◌, ℕ, length, ap, sym, subst, arith}
 use Rattle.schedules.specs.Schedules.{next}
 use Rattle.graph_search.specs.Trees.{state_at}
 use Rattle.states.specs.Graphs.{state_in}
