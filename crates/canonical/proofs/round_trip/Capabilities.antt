@@ -13,6 +13,7 @@ use Rattle.grammar.specs.declared.operands.TypeOperand.TheVariants.{Unsealed, Se
 use Rattle.grammar.specs.declared.capability.CapOperands.{CapOperands}
 use Rattle.grammar.specs.declared.capability.CapParts.{CapParts}
 use Rattle.grammar.specs.Tokens.{token_at, is_blank}
+use Rattle.text_numbers.specs.Numerals.{number_in, number_of as written_number}
 use Rattle.grammar.specs.Numerals.{number_of}
 use Rattle.grammar.specs.Operands.{type_operand_of, type_in_range}
 use Rattle.grammar.specs.Permissions.{set_of}
@@ -32,7 +33,7 @@ unfoldable pub type_operand : ℕ → TypeOperand
 type_operand otype = if otype == unsealed_type then Unsealed else if otype == sentry_type then Sentry else Number (Some otype)
 
 no_sentry : number_of (codes "sentry") ≡ Err Operand
-unfolding number_of
+unfolding number_of written_number number_in
 no_sentry = refl
 
 other_word : (word : List ℕ) (n : Option ℕ) (test : Bool) → bytes_eq word (codes "sentry") ≡ test → number_of word ≡ Ok n → test ≡ false
