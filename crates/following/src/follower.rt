@@ -195,8 +195,8 @@ impl Follower {
 
     /// Clears the tag of every capability whose base lies from `lo` up to, not including, `hi`, and
     /// gives the places that had one, in the order of the harts, PCC first, and then the granules:
-    /// those that lose their tag, as many as the event counts. It is refused exactly where `refusal`
-    /// says so, and otherwise fails only when out of memory; then nothing changes.
+    /// those that lose their tag, as many as the event counts. It is refused exactly where
+    /// `refusal` says so, and otherwise fails only when out of memory; then nothing changes.
     pub fn sweep(&mut self, alloc: Global, lo: u64, hi: u128) -> Result<Vec<Place>, SweepFault>
         ensures places { IfOk result (λ places. places.items ≡ next_swept self.old lo hi) }
         ensures lost { IfOk result (λ places.
