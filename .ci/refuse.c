@@ -3,6 +3,11 @@
 // the file may not be read, the device is broken or there are too many threads. With "short 1" every read and write
 // moves one byte. Where the call came, the file that REFUSED names is made. At the end the file that LEFT names gets how
 // many blocks of memory were not freed.
+//
+// With EACH, a folder, the program is run many times, each time by a process of its own and with the next allocation
+// refused, until three numbers in a row are not reached: thousands of runs take seconds. The folder's file `right` is what
+// standard output should be. Of each run its file `runs` gets a line: whether the allocation came, the status, whether
+// standard output is `whole`, `none` of it or `wrong`, the blocks of memory that were not freed, and standard error.
 #define _GNU_SOURCE
 #include <dlfcn.h>
 #include <errno.h>
@@ -13,7 +18,9 @@
 #include <stdio.h>
 #include <stdlib.h>
 #include <string.h>
+#include <sys/mman.h>
 #include <sys/syscall.h>
+#include <sys/wait.h>
 #include <unistd.h>
 
 // glibc's own allocator, below the names that are taken here
@@ -29,18 +36,77 @@ static long number;
 static atomic_long calls;
 static atomic_long blocks;
 
+// what a run tells the process that tries each allocation
+struct told {
+    long came;
+    long left;
+};
+static struct told *shared;
+
+static int opened_in(const char *folder, const char *name, int flags) {
+    char path[4096];
+    snprintf(path, sizeof path, "%s/%s", folder, name);
+    return (int)syscall(SYS_openat, AT_FDCWD, path, flags, 0666);
+}
+
+// The bytes of a file, up to most, and how many they are.
+static size_t bytes_of(const char *folder, const char *name, char *to, size_t most) {
+    int file = opened_in(folder, name, O_RDONLY);
+    size_t size = 0;
+    long more = 0;
+    while (size < most && (more = syscall(SYS_read, file, to + size, most - size)) > 0)
+        size += more;
+    syscall(SYS_close, file);
+    return size;
+}
+
+// Tries each allocation. Each run comes back from here, and goes on to the program's main.
+static void try_each(const char *folder) {
+    static char right[1 << 20], out[1 << 20], err[80];
+    size_t wanted = bytes_of(folder, "right", right, sizeof right);
+    int runs = opened_in(folder, "runs", O_CREAT | O_WRONLY | O_TRUNC);
+    int beyond = 0;
+    shared = mmap(NULL, sizeof *shared, PROT_READ | PROT_WRITE, MAP_SHARED | MAP_ANONYMOUS, -1, 0);
+    for (long next = 1; beyond < 3; next++) {
+        *shared = (struct told){0, 0};
+        pid_t run = fork();
+        if (run == 0) {
+            dup2(opened_in(folder, "out", O_CREAT | O_WRONLY | O_TRUNC), 1);
+            dup2(opened_in(folder, "err", O_CREAT | O_WRONLY | O_TRUNC), 2);
+            alarm(60);
+            strcpy(kind, "memory");
+            number = next;
+            return;
+        }
+        int ended = -1;
+        waitpid(run, &ended, 0);
+        size_t size = bytes_of(folder, "out", out, sizeof out);
+        size_t told = bytes_of(folder, "err", err, sizeof err - 1);
+        err[told > 0 && err[told - 1] == '\n' ? told - 1 : told] = 0;
+        int whole = size == wanted && memcmp(out, right, size) == 0;
+        dprintf(runs, "%s %d %s %ld %s\n", shared->came ? "refused" : "beyond", WIFEXITED(ended) ? WEXITSTATUS(ended) : -1,
+                whole ? "whole" : size == 0 ? "none" : "wrong", shared->left, err);
+        beyond = shared->came ? 0 : beyond + 1;
+    }
+    syscall(SYS_exit_group, 0);
+}
+
 // Nothing is refused before this has run.
 __attribute__((constructor)) static void begin(void) {
     const char *asked = getenv("REFUSE");
     start = (int (*)(pthread_t *, const pthread_attr_t *, void *(*)(void *), void *))dlsym(RTLD_NEXT, "pthread_create");
     if (asked != NULL && sscanf(asked, "%15s %ld", kind, &number) != 2)
         abort();
+    if (getenv("EACH") != NULL)
+        try_each(getenv("EACH"));
 }
 
 // whether this call is the one to refuse
 static int is_refused(const char *call) {
     if (strcmp(kind, call) != 0 || atomic_fetch_add(&calls, 1) + 1 != number)
         return 0;
+    if (shared != NULL)
+        shared->came = 1;
     const char *told = getenv("REFUSED");
     if (told != NULL)
         syscall(SYS_close, syscall(SYS_openat, AT_FDCWD, told, O_CREAT | O_WRONLY, 0666));
@@ -51,6 +117,8 @@ static int is_refused(const char *call) {
 static void tell_left(void) {
     const char *left = getenv("LEFT");
     char text[32];
+    if (shared != NULL)
+        shared->left = atomic_load(&blocks);
     if (left != NULL) {
         int file = (int)syscall(SYS_openat, AT_FDCWD, left, O_CREAT | O_WRONLY | O_TRUNC, 0666);
         int size = snprintf(text, sizeof text, "%ld\n", atomic_load(&blocks));

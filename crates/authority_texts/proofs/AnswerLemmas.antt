@@ -1,8 +1,7 @@
 -- What was found is an answer.
 use Rattle.std.proofs.Common.{◌≡◌, ℕ, suc, ◌<◌, List, [], ◌∷◌, length, Bool, true, refl, sym, ap, ◌∙◌, subst, inl, inr}
-use Rattle.std.specs.Prelude.{Option, Some, IfSome, Result, Ok, Err, IfOk, IfErr, slice_get, option_and_then, Vec}
+use Rattle.std.specs.Prelude.{Option, Some, IfSome, Result, Ok, Err, IfOk, slice_get, option_and_then, Vec}
 use Rattle.std.specs.Global.{Global}
-use Rattle.std.specs.Io.KnownBytes.{Appends}
 use Rattle.std.proofs.lemmas.Bool.{cases_lt}
 use Rattle.std.proofs.lemmas.Option.{none-some, slice_get_past}
 use Rattle.authorities.specs.Authorities.{AreGreatest, IsHeld, hart_values, memory_values}
@@ -16,13 +15,10 @@ use Rattle.cap_model.specs.values.CapValue.{CapValue}
 use Rattle.cheri_model.specs.runs.Image.{ImageParts}
 use Rattle.cheri_model.specs.runs.Machine.{MachineState}
 use Rattle.cheri_model.specs.runs.Replay.{replayed_state}
-use Rattle.found_texts.proofs.FindLemmas.{written_as, err_as}
 use Rattle.schedules.specs.declared.ranges.SweepRange.{SweepRange}
-use Rattle.shown_states.specs.Endings.{ending_of, IsWritten, IsUnwritten}
+use Rattle.shown_states.specs.Endings.{ending_of}
 use Rattle.shown_states.specs.declared.form.Ending.{Ending}
 use Rattle.shown_states.specs.declared.form.Format.{Format}
-use Rattle.sinks.specs.Sinks.{TakesPrefix}
-use Rattle.sinks.specs.declared.fault.WriteFault.{WriteFault}
 use Rattle.states.specs.Graphs.{state_in}
 use Rattle.states.specs.Kept.{KeptParts, count, at, graph_of, IsSearch, AreAllKept}
 
@@ -126,20 +122,16 @@ answer_is kept format harts memory told_harts told_memory search found harts_tol
   ending_is = refl;
 }
 
-pub said_written : (kept : KeptParts) (format : Format) (text : List ℕ) (ending : Ending) (old new : Option (List ℕ))
-    → IsAuthorityAnswer kept.image kept.sweeps kept.limit format text (ending_of kept.complete) → ending ≡ ending_of kept.complete
-    → Appends old new text
-    → IsWritten (λ t. IsAuthorityAnswer kept.image kept.sweeps kept.limit format t ending) old new
-said_written kept format text ending old new answer is taken =
-    (text, subst (λ (e : Ending). IsAuthorityAnswer kept.image kept.sweeps kept.limit format text e) (sym is) answer, taken)
-
-pub said_begun : (kept : KeptParts) (format : Format) (text : List ℕ) (fault : WriteFault) (old new : Option (List ℕ))
-    → IsAuthorityAnswer kept.image kept.sweeps kept.limit format text (ending_of kept.complete) → TakesPrefix old new text
-    → IsUnwritten (λ t. (ending : Ending) × IsAuthorityAnswer kept.image kept.sweeps kept.limit format t ending) old new fault
-said_begun kept format text fault old new answer begun = inr (text, (ending_of kept.complete, answer), begun)
+pub said_is : (kept : KeptParts) (format : Format) (text : List ℕ) (ending : Ending) (told_harts : List (Vec Told Global))
+    (told_memory : List Told) → IsAuthorityAnswer kept.image kept.sweeps kept.limit format
+    (said format kept.complete kept.image (count kept) told_harts told_memory) (ending_of kept.complete)
+    → text ≡ said format kept.complete kept.image (count kept) told_harts told_memory → ending ≡ ending_of kept.complete
+    → IsAuthorityAnswer kept.image kept.sweeps kept.limit format text ending
+said_is kept format text ending told_harts told_memory answer text_is ending_is =
+    rw (text_is, ending_is) answer
 
 -- of the image, the sweeps and the limit that were asked for
-asked : (kept : KeptParts) (image : ImageParts) (sweeps : List SweepRange) (limit : ℕ) (format : Format) (text : List ℕ) (ending : Ending)
+pub asked : (kept : KeptParts) (image : ImageParts) (sweeps : List SweepRange) (limit : ℕ) (format : Format) (text : List ℕ) (ending : Ending)
     → kept.image ≡ image → kept.sweeps ≡ sweeps → kept.limit ≡ limit
     → IsAuthorityAnswer kept.image kept.sweeps kept.limit format text ending
     → IsAuthorityAnswer image sweeps limit format text ending
@@ -159,23 +151,3 @@ asked kept image sweeps limit format text ending image_is sweeps_are limit_is an
   text_is = answer.text_is;
   ending_is = answer.ending_is;
 }
-
-pub asked_written : {E : Type 0} (kept : KeptParts) (image : ImageParts) (sweeps : List SweepRange) (limit : ℕ) (format : Format)
-    (result : Result Ending E) (old new : Option (List ℕ)) → kept.image ≡ image → kept.sweeps ≡ sweeps → kept.limit ≡ limit
-    → IfOk result (λ ending. IsWritten (λ text. IsAuthorityAnswer kept.image kept.sweeps kept.limit format text ending) old new)
-    → IfOk result (λ ending. IsWritten (λ text. IsAuthorityAnswer image sweeps limit format text ending) old new)
-asked_written kept image sweeps limit format (Ok ending) old new image_is sweeps_are limit_is written =
-    written_as (λ text. IsAuthorityAnswer kept.image kept.sweeps kept.limit format text ending)
-    (λ text. IsAuthorityAnswer image sweeps limit format text ending) old new
-    (λ text answer. asked kept image sweeps limit format text ending image_is sweeps_are limit_is answer) written
-asked_written kept image sweeps limit format (Err fault) old new image_is sweeps_are limit_is written = tt
-
-pub asked_begun : {T : Type 0} (kept : KeptParts) (image : ImageParts) (sweeps : List SweepRange) (limit : ℕ) (format : Format)
-    (result : Result T WriteFault) (old new : Option (List ℕ)) → kept.image ≡ image → kept.sweeps ≡ sweeps → kept.limit ≡ limit
-    → IfErr result (IsUnwritten (λ text. (ending : Ending)
-    × IsAuthorityAnswer kept.image kept.sweeps kept.limit format text ending) old new)
-    → IfErr result (IsUnwritten (λ text. (ending : Ending) × IsAuthorityAnswer image sweeps limit format text ending) old new)
-asked_begun kept image sweeps limit format result old new image_is sweeps_are limit_is begun =
-    err_as (λ text. (ending : Ending) × IsAuthorityAnswer kept.image kept.sweeps kept.limit format text ending)
-    (λ text. (ending : Ending) × IsAuthorityAnswer image sweeps limit format text ending) result old new
-    (λ text answer. (answer.0, asked kept image sweeps limit format text answer.0 image_is sweeps_are limit_is answer.1)) begun

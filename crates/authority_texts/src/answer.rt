@@ -1,13 +1,11 @@
 //! The search, and its answer.
 
-ghost use Rattle.std.specs.Prelude.{◌≡◌, ◌++◌, ◌<◌, ◌≤◌, length, IfOk, IfErr, OnOk, string_bytes};
-ghost use Rattle.std.specs.Io.KnownBytes.{Appends};
+ghost use Rattle.std.specs.Prelude.{◌≡◌, ◌+◌, ◌++◌, ◌<◌, ◌≤◌, length};
+ghost use Rattle.std.specs.Prelude.{IfOk, IfErr, OnOk, string_bytes};
 ghost use Rattle.authority_texts.specs.Answers.{AreFound, IsAuthorityAnswer};
 ghost use Rattle.authority_texts.specs.AuthorityTexts.{said};
-ghost use Rattle.authority_texts.specs.Told.{AreTold, AreAllTold};
-ghost use Rattle.shown_states.specs.Endings.{IsUnwritten, IsWritten};
+ghost use Rattle.shown_states.specs.Endings.{failures_of, IsUnwritten, IsWritten};
 ghost use Rattle.shown_states.specs.declared.form.Ending.{Ending};
-ghost use Rattle.sinks.specs.Sinks.{TakesPrefix};
 ghost use Rattle.states.specs.Kept.{count};
 
 use crate::json::write_json;
@@ -18,8 +16,8 @@ use cheri_model::{Image, NoMemory};
 use found_texts::opened;
 use graph_search::Progress;
 use schedules::SweepRange;
-use shown_states::{Ending, Format};
-use sinks::{Sink, WriteFault, put_whole};
+use shown_states::{Answer, Ending, Format, put_answer};
+use sinks::{Sink, WriteFault};
 use states::{Kept, MAX_SWEEPS, search_from};
 use std::alloc::{AllocError, Global};
 
@@ -40,27 +38,6 @@ fn write_said(
         Format::Text => write_text(out, complete, image, states, harts, memory),
         Format::Json => write_json(alloc, out, complete, image, states, harts, memory),
     }
-}
-
-/// Writes an answer. After a fault of the writing the sink took a prefix of it.
-fn put_said<S: Sink>(
-    alloc: Global,
-    format: Format,
-    kept: &Kept,
-    harts: &[Vec<Told>],
-    memory: &[Told],
-    sink: &mut S,
-) -> Result<(), WriteFault>
-    ensures whole { OnOk result (Appends (S.written sink.old) (S.written sink.new)
-        (said format kept.now.complete kept.now.image (count kept.now) harts.now memory.now)) }
-    ensures prefix { TakesPrefix (S.written sink.old) (S.written sink.new)
-        (said format kept.now.complete kept.now.image (count kept.now) harts.now memory.now) }
-    ensures identity { S.identity sink.new ≡ S.identity sink.old }
-{
-    let mut out = String::new(alloc);
-    write_said(alloc, format, &mut out, kept, harts, memory)?;
-    put_whole(sink, out.as_bytes())?;
-    Ok(())
 }
 
 /// Searches the states that an image reaches, and gathers the greatest rights over them.
@@ -87,41 +64,33 @@ fn found_authorities<P: Progress>(
     authorities_of(alloc, kept)
 }
 
-/// Writes what was found.
-fn put_found<S: Sink>(
-    alloc: Global,
-    format: Format,
-    found: &Authorities,
-    sink: &mut S,
-) -> Result<Ending, WriteFault>
+/// The answer that was found.
+fn answer_of(alloc: Global, format: Format, found: &Authorities) -> Result<Answer, NoMemory>
     requires { AreFound found.now.kept found.now.harts.items found.now.memory.items }
-    ensures written { IfOk result (λ ending. IsWritten
-        (λ text. IsAuthorityAnswer found.now.kept.image found.now.kept.sweeps found.now.kept.limit
-        format text ending) (S.written sink.old) (S.written sink.new)) }
-    ensures begun { IfErr result (IsUnwritten (λ text. (ending : Ending)
-        × IsAuthorityAnswer found.now.kept.image found.now.kept.sweeps found.now.kept.limit
-        format text ending) (S.written sink.old) (S.written sink.new)) }
-    ensures identity { S.identity sink.new ≡ S.identity sink.old }
+    ensures { IfOk result (λ answer. IsAuthorityAnswer found.now.kept.image found.now.kept.sweeps
+        found.now.kept.limit format (string_bytes answer.text) answer.ending) }
 {
     // Its clause says that this is a search.
     let _count = found.kept.len();
     let harts = all_told_of(alloc, &found.kept, found.harts.as_slice())?;
     let memory = told_of(alloc, &found.kept, found.memory.as_slice())?;
-    put_said(
+    let mut text = String::new(alloc);
+    write_said(
         alloc,
         format,
+        &mut text,
         &found.kept,
         harts.as_slice(),
         memory.as_slice(),
-        sink,
     )?;
-    Ok(Ending::of_search(found.kept.is_complete()))
+    let ending = Ending::of_search(found.kept.is_complete());
+    Ok(Answer { text, ending })
 }
 
 /// Searches the states that an image reaches, by steps of its harts and these sweeps, and writes
 /// the greatest rights that each hart and memory ever hold, each with the order that leads to the
-/// first state in which just these are held. At most `limit` states are kept. Nothing is written
-/// before the search has ended. After a fault of the writing the sink took a prefix of the answer.
+/// first state in which just these are held. At most `limit` states are kept. Where memory runs
+/// out, nothing is written; where the sink fails, it took a prefix of the answer.
 pub fn authority<P: Progress, S: Sink>(
     alloc: Global,
     image: &Image,
@@ -139,8 +108,10 @@ pub fn authority<P: Progress, S: Sink>(
     ensures begun { IfErr result (IsUnwritten (λ text. (ending : Ending)
         × IsAuthorityAnswer image.now sweeps.now limit format text ending)
         (S.written sink.old) (S.written sink.new)) }
+    ensures failures { S.failures sink.new ≡ S.failures sink.old + failures_of result }
     ensures identity { S.identity sink.new ≡ S.identity sink.old }
 {
     let found = found_authorities(alloc, image, sweeps, limit, progress)?;
-    put_found(alloc, format, &found, sink)
+    let answer = answer_of(alloc, format, &found)?;
+    put_answer(sink, &answer)
 }

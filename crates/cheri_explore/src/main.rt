@@ -2,20 +2,20 @@
 //! of their steps.
 #![tactic(auto)]
 
-use explore_program::{Fault, TerminalProgress, perform, report_fault};
+use explore_program::{Fault, perform, report_fault};
 use inputs::{SystemFiles, args_given};
 use std::io::{self, IsTerminal};
 use std::process::ExitCode;
 
 fn main(rt: HostRuntime) -> ExitCode {
     let mut err = rt.stderr();
-    let is_terminal = err.is_terminal();
+    let terminal = if err.is_terminal() { Some(&rt) } else { None };
     let status = match args_given(&rt) {
         Ok(args) => perform(
             rt.alloc(),
             args.as_slice(),
             &mut SystemFiles(&rt),
-            &mut TerminalProgress::new(&rt, rt.stderr(), is_terminal),
+            terminal,
             &mut rt.stdout(),
             &mut err,
         ),

@@ -1,5 +1,5 @@
 -- What the program answers, as the ending of its command line.
-use Rattle.std.proofs.Common.{◌≡◌, ℕ, List, map, true, Option, Some, None, Result, Ok, Err, refl, sym, subst, inl}
+use Rattle.std.proofs.Common.{◌≡◌, ℕ, List, map, false, Option, Some, None, Result, Ok, Err, refl, sym, subst, inl}
 use Rattle.std.specs.Prelude.{IfErr, IfOk}
 use Rattle.cheri_model.specs.runs.Image.{ImageParts}
 use Rattle.explore_line.specs.Requests.{ExploreAsked, AskedQuestion, Find, Outcomes, Authority}
@@ -28,7 +28,7 @@ early_input faults.CannotReadOrder = tt
 early_input (faults.Listing refused) = tt
 early_input (faults.Order refused) = tt
 
-reported : IsReported {End = Ending} fault.Input failure_of true
+reported : IsReported {End = Ending} fault.Input failure_of false
 reported = record { memory = refl; early = early_input }
 
 -- a listing that was refused
@@ -36,7 +36,7 @@ pub listing_fails : (files : KnownFiles) (asked : ExploreAsked) (refused : Input
     → IsImageRefused (files asked.listing) refused → new ≡ old
     → FailsBy (failure_of (fault.Input refused)) (IsAnswer files (Some asked)) (fault.Input refused) old new
 listing_fails files asked refused old new is same =
-    image_fails fault.Input failure_of true reported old new
+    image_fails fault.Input failure_of false reported old new
     (λ answer image. IsQuestionAnswer image asked asked.question answer) (files asked.listing) refused is same
 
 -- what is answered of the image is an answer

@@ -1,5 +1,5 @@
 -- What was printed to a question, as the ending of a command.
-use Rattle.std.proofs.Common.{◌≡◌, ℕ, List, Option, Result, Ok, Err, refl, sym, subst, inl, inr}
+use Rattle.std.proofs.Common.{◌≡◌, ℕ, List, Option, Result, Ok, Err, refl, sym, subst, inl}
 use Rattle.std.specs.Prelude.{IfOk, IfErr}
 use Rattle.std.specs.Io.KnownBytes.{Keeps}
 use Rattle.std.proofs.KnownBytes.{Appends-kept}
@@ -38,12 +38,9 @@ pub unwritten : (IsSo : List ℕ → Ending → Type 0) (IsAnswer : Answer Endin
     → ((text : List ℕ) (ending : Ending) → IsSo text ending → IsAnswer (Ok (text, ending)))
     → IsUnwritten (λ text. (ending : Ending) × IsSo text ending) old new fault
     → FailsBy (failure_of (written_fault fault)) IsAnswer (written_fault fault) old new
-unwritten IsSo IsAnswer written.Write old new so (inl none) = cc
-unwritten IsSo IsAnswer written.NoMemory old new so (inl none) = inl none.0
-unwritten IsSo IsAnswer written.Write old new so (inr begun) =
+unwritten IsSo IsAnswer written.Write old new so begun =
     (begun.0, begun.1.0, so begun.0 begun.1.0 begun.1.1, begun.2)
-unwritten IsSo IsAnswer written.NoMemory old new so (inr begun) =
-    inr (refl, (begun.0, begun.1.0, so begun.0 begun.1.0 begun.1.1, begun.2))
+unwritten IsSo IsAnswer written.NoMemory old new so none = inl none
 
 -- ---- questions that a text writes
 

@@ -1,5 +1,5 @@
 -- Why the program answers nothing, or not all.
-use Rattle.std.specs.Prelude.{ℕ, List, ◌++◌, codes, decimal, true}
+use Rattle.std.specs.Prelude.{ℕ, List, ◌++◌, codes, decimal, false}
 use Rattle.command_line.specs.declared.faults.CommandFault.{CommandFault}
 use Rattle.command_line.specs.declared.faults.CommandFault.TheVariants as commands
 use Rattle.conditions.specs.declared.fault.TextFault.{TextFault}
@@ -44,18 +44,18 @@ abbrev pub written_fault : WriteFault → Fault
 written_fault written.Write = CannotWrite
 written_fault written.NoMemory = NoMemory
 
--- How the program fails by each fault. Answers are printed in pieces.
+-- How the program fails by each fault. Answers are made whole before they are printed.
 abbrev pub failure_of_input : InputFault → Failure Ending
-failure_of_input input.NoMemory = OutOfMemory true
+failure_of_input input.NoMemory = OutOfMemory false
 failure_of_input _ = Refused
 
 abbrev pub failure_of_text : TextFault → Failure Ending
-failure_of_text texts.NoMemory = OutOfMemory true
+failure_of_text texts.NoMemory = OutOfMemory false
 failure_of_text _ = Refused
 
 abbrev pub failure_of : Fault → Failure Ending
 failure_of Usage = Refused
-failure_of NoMemory = OutOfMemory true
+failure_of NoMemory = OutOfMemory false
 failure_of CannotWrite = Unwritten
 failure_of (Input fault) = failure_of_input fault
 failure_of (Text fault) = failure_of_text fault

@@ -1,5 +1,5 @@
 -- What the program answers to its command line, and how it ends.
-use Rattle.std.specs.Prelude.{◌≡◌, ℕ, List, map, codes, Option, Some, None, Err}
+use Rattle.std.specs.Prelude.{◌≡◌, ℕ, ◌⊎◌, List, map, codes, Option, Some, None, Err}
 use Rattle.std.specs.Prelude.{String}
 use Rattle.std.specs.Global.{Global}
 use Rattle.cheri_model.specs.runs.Image.{ImageParts}
@@ -63,3 +63,13 @@ pub record Failed (files : KnownFiles) (request : Option ExploreAsked) (status :
   pub status_is : status ≡ status_of fault
   pub fails : FailsBy (failure_of fault) (IsAnswer files request) fault old new
   pub told : TakesPrefix err_old err_new (line (fault_text fault))
+
+-- It ends so after its search. In a terminal standard error may then have reports of the search;
+-- elsewhere it has what it had.
+pub record Ends {Terminal : Type 0} (terminal : Option Terminal) (files : KnownFiles)
+    (request : Option ExploreAsked) (status : ℕ) (old new err_old err_new : Option (List ℕ))
+    : Type 0 where
+  pub err_now : Option (List ℕ)
+  pub silent : terminal ≡ None → err_now ≡ err_old
+  pub ends : Done files request status old new err_now err_new
+      ⊎ Failed files request status old new err_now err_new

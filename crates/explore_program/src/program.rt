@@ -1,24 +1,26 @@
 //! The program: answers one question, or reports why it cannot.
 
-ghost use Rattle.std.specs.Prelude.{◌≡◌, ◌⊎◌, ◌≤◌, length, Some, IfOk, IfErr};
+ghost use Rattle.std.specs.Prelude.{◌≡◌, ◌≤◌, length, None, Some, IfOk, IfErr};
 ghost use Rattle.explore_line.specs.Requests.{explore_asked, explore_asked_by};
 ghost use Rattle.printing.specs.Endings.{HasWhole, FailsBy};
 ghost use Rattle.report_lines.specs.Texts.{line};
 ghost use Rattle.sinks.specs.Sinks.{TakesPrefix};
 ghost use Rattle.explore_program.specs.Faults.{failure_of, fault_text, status_of};
-ghost use Rattle.explore_program.specs.Program.{Done, Failed, IsAnswer, command_line, format_of};
+ghost use Rattle.explore_program.specs.Program.{Ends, IsAnswer, command_line, format_of};
 
 use crate::answers::{answer_authority, answer_find, answer_outcomes};
 use crate::faults::Fault;
+use crate::progress::TerminalProgress;
 use crate::questions::{Search, ranges_of};
 use explore_line::{ExploreRequest, Question, explore_request};
-use graph_search::Progress;
+use graph_search::{NoProgress, Progress};
 use inputs::{Files, command_args, read_image};
 use printing::write_line;
 use shown_states::{Ending, Format};
 use states::MAX_SWEEPS;
 use std::alloc::Global;
 use std::io::Write;
+use std::time::Clock;
 
 /// How an answer that is asked for in this format is written.
 fn format_of(asked: command_line::Format) -> Format
@@ -92,25 +94,52 @@ pub fn report_fault<E: Write>(err: &mut E, fault: Fault) -> u8
     fault.status()
 }
 
+/// Answers what the arguments ask for. In a terminal, which is given by its clock, a long search is
+/// reported on `err`; elsewhere nothing is.
+fn answer_at<F: Files, O: Write, E: Write, C: Clock>(
+    alloc: Global,
+    args: &[String],
+    files: &mut F,
+    terminal: Option<&C>,
+    out: &mut O,
+    err: &mut E,
+) -> Result<Ending, Fault>
+    ensures printed { IfOk result (λ ending. HasWhole
+        (IsAnswer (F.bytes_of files.old) (explore_asked (command_line args.now))) ending
+        (O.contents out.old) (O.contents out.new)) }
+    ensures failed { IfErr result (λ fault. FailsBy (failure_of fault)
+        (IsAnswer (F.bytes_of files.old) (explore_asked (command_line args.now))) fault
+        (O.contents out.old) (O.contents out.new)) }
+    ensures silent { terminal.entry ≡ None → E.contents err.new ≡ E.contents err.old }
+{
+    match terminal {
+        Some(clock) => {
+            let mut progress = TerminalProgress::new(clock, err);
+            answer(alloc, args, files, &mut progress, out)
+        }
+        None => answer(alloc, args, files, &mut NoProgress, out),
+    }
+}
+
 /// Answers what the arguments of a command line ask for, which are those after the program's name,
 /// and gives the exit status: 0 where all was answered, 4 where not all states could be kept, 5
 /// where no state is one that was looked for, and then `out` got the whole answer and `err`
 /// nothing. Else `err` got the line of a fault, whether it took it or not: 1 where a text was
-/// refused, 2 where the command line was, and 3 for every other fault.
-pub fn perform<F: Files, O: Write, E: Write, P: Progress>(
+/// refused, 2 where the command line was, and 3 for every other fault. Where `err` is a terminal,
+/// `terminal` is the clock by which lines of how far a long search is come there before.
+pub fn perform<F: Files, O: Write, E: Write, C: Clock>(
     alloc: Global,
     args: &[String],
     files: &mut F,
-    progress: &mut P,
+    terminal: Option<&C>,
     out: &mut O,
     err: &mut E,
 ) -> u8
-    ensures { Done (F.bytes_of files.old) (explore_asked (command_line args.now)) result
-        (O.contents out.old) (O.contents out.new) (E.contents err.old) (E.contents err.new)
-        ⊎ Failed (F.bytes_of files.old) (explore_asked (command_line args.now)) result
-        (O.contents out.old) (O.contents out.new) (E.contents err.old) (E.contents err.new) }
+    ensures { Ends terminal.entry (F.bytes_of files.old) (explore_asked (command_line args.now))
+        result (O.contents out.old) (O.contents out.new)
+        (E.contents err.old) (E.contents err.new) }
 {
-    match answer(alloc, args, files, progress, out) {
+    match answer_at(alloc, args, files, terminal, out, err) {
         Ok(ending) => ending.status(),
         Err(fault) => report_fault(err, fault),
     }

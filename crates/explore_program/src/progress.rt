@@ -1,7 +1,7 @@
 //! Reports of long searches.
 
-ghost use Rattle.std.specs.Prelude.{◌≡◌, None, Some, false};
-ghost use Rattle.explore_program.specs.Progress.{progress_text};
+ghost use Rattle.std.specs.Prelude.{◌≡◌, ◌⊎◌, Some, IfSome};
+ghost use Rattle.explore_program.specs.Progress.{progress_text, IsDue, IsQuiet, IsTold};
 
 use graph_search::Progress;
 use printing::write_line;
@@ -10,7 +10,7 @@ use std::io::Write;
 use std::time::{Clock, Instant};
 
 /// How many seconds a search says nothing after a report, and before the first one.
-const SILENCE: u64 = 1;
+pub const SILENCE: u64 = 1;
 
 /// How many states were found.
 #[derive(Clone, Copy)]
@@ -24,8 +24,8 @@ impl fmt::Display for StatesFound {
     }
 }
 
-/// Reports on a terminal how many states were found, at most once a second. Where it is no
-/// terminal, or the clock fails, it reports nothing.
+/// Reports on a terminal how many states were found, at most once a second. Where the clock fails,
+/// it reports nothing.
 #[derive(Drop)]
 pub struct TerminalProgress<'a, C, E> {
     clock: &'a C,
@@ -34,29 +34,40 @@ pub struct TerminalProgress<'a, C, E> {
 }
 
 impl<'a, C: Clock, E: Write> TerminalProgress<'a, C, E> {
-    /// Reports on `err`, which is a terminal or not.
-    pub fn new(clock: &'a C, err: E, is_terminal: bool) -> TerminalProgress<'a, C, E>
-        ensures silent { is_terminal ≡ false → result.last ≡ None }
+    /// Reports on `err`, which is a terminal: for the first time a second from now.
+    pub fn new(clock: &'a C, err: E) -> TerminalProgress<'a, C, E>
+        ensures { result.err ≡ err }
     {
-        let last = if is_terminal {
-            Instant::now(clock).ok()
-        } else {
-            None
-        };
+        let last = Instant::now(clock).ok();
         TerminalProgress { clock, err, last }
+    }
+
+    /// The time, where a report is due.
+    fn due(&self) -> Option<Instant>
+        ensures { IfSome result (IsDue self.now.last) }
+    {
+        let last = self.last?;
+        let now = Instant::now(self.clock).ok()?;
+        if now.duration_since(last).as_secs() < SILENCE {
+            None
+        } else {
+            Some(now)
+        }
     }
 }
 
 impl<C: Clock, E: Write> Progress for TerminalProgress<'_, C, E> {
-    fn report(&mut self, found: u32) {
-        let Some(last) = self.last else { return };
-        let Ok(now) = Instant::now(self.clock) else {
-            return
-        };
-        if now.duration_since(last).as_secs() < SILENCE {
-            return;
+    fn report(&mut self, found: u32)
+        ensures { IsQuiet self.old.last self.new.last (E.contents self.old.err) (E.contents self.new.err)
+            ⊎ IsTold found self.old.last self.new.last
+            (E.contents self.old.err) (E.contents self.new.err) }
+    {
+        match self.due() {
+            None => {}
+            Some(now) => {
+                self.last = Some(now);
+                let _ = write_line(&mut self.err, StatesFound(found));
+            }
         }
-        self.last = Some(now);
-        let _ = write_line(&mut self.err, StatesFound(found));
     }
 }

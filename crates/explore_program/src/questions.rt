@@ -1,11 +1,11 @@
 //! The questions, each of the states that the image of a listing reaches.
 
-ghost use Rattle.std.specs.Prelude.{◌≡◌, ℕ, List, IfOk, IfErr, map};
+ghost use Rattle.std.specs.Prelude.{◌≡◌, ◌+◌, ℕ, List, IfOk, IfErr, map};
 ghost use Rattle.authority_texts.specs.Answers.{IsAuthorityAnswer};
 ghost use Rattle.conditions.specs.Items.{list_of};
 ghost use Rattle.found_texts.specs.Find.{IsFindAnswer};
 ghost use Rattle.outcome_texts.specs.Answers.{IsListedAnswer, IsShownAnswer};
-ghost use Rattle.shown_states.specs.Endings.{IsUnwritten, IsWritten};
+ghost use Rattle.shown_states.specs.Endings.{failures_of, IsUnwritten, IsWritten};
 ghost use Rattle.shown_states.specs.declared.form.Ending.{Ending};
 ghost use Rattle.explore_program.specs.Questions.{IsSearchable, range_of};
 
@@ -53,8 +53,8 @@ pub trait Question {
     /// Whether a text that ends so answers it.
     ghost answers: { Self → List ℕ → Ending → Type 0 };
 
-    /// Searches the states, and writes the answer. Nothing is written before the search has ended;
-    /// after a fault of the writing the sink took a prefix of the answer.
+    /// Searches the states, and writes the answer. Where memory runs out, nothing is written;
+    /// where the sink fails, it took a prefix of the answer.
     fn write<P: Progress, S: Sink>(
         &self,
         alloc: Global,
@@ -67,6 +67,7 @@ pub trait Question {
         ensures begun { IfErr result
             (IsUnwritten (λ text. (ending : Ending) × answers self.now text ending)
             (S.written sink.old) (S.written sink.new)) }
+        ensures failures { S.failures sink.new ≡ S.failures sink.old + failures_of result }
         ensures identity { S.identity sink.new ≡ S.identity sink.old };
 }
 

@@ -33,3 +33,8 @@ found_whole Json image order state =
     regrouped (codes "{\"answer\":\"found\",\"explore\":") (decimal 1) (codes ",\"image\":") (compact_text (image_data image))
     (codes ",\"order\":") (compact_text (string (order_text order))) (codes ",\"state\":{") (codes "\"harts\":")
     (compact_text (harts_data state.harts)) (codes ",\"mem\":") (compact_text (memory_data state.memory)) (125 ∷ []) (10 ∷ [])
+
+-- three parts, one after another
+pub in_three : (none first second third head state tail : List ℕ) → none ≡ [] → first ≡ none ++ head → second ≡ first ++ state
+    → third ≡ second ++ tail → third ≡ (head ++ state) ++ tail
+in_three none first second third head state tail is one two three = rw (three, two, one, is) refl

@@ -1,19 +1,15 @@
 //! What is said where no kept state is one that was looked for.
 
-ghost use Rattle.std.specs.Prelude.{◌≡◌, ◌+◌, ◌++◌, IfOk, OnOk, string_bytes};
-ghost use Rattle.std.specs.Io.KnownBytes.{Appends};
+ghost use Rattle.std.specs.Prelude.{◌≡◌, ◌++◌, IfOk, OnOk, string_bytes};
 ghost use Rattle.serde_json.specs.View.{view as data_of};
 ghost use Rattle.serde_json.specs.Written.{compact_text};
 ghost use Rattle.found_texts.specs.FoundTexts.{absent, absent_answer, absent_data, absent_joint, absent_line};
 ghost use Rattle.report_lines.specs.Texts.{line};
-ghost use Rattle.sinks.specs.Sinks.{TakesPrefix};
-ghost use Rattle.sinks.specs.WriteFaults.{failures_of};
 
 use cheri_model::{Image, NoMemory};
 use report_lines::{image_json, write_json_value};
 use serde_json::{Value, json};
 use shown_states::Format;
-use sinks::{Sink, WriteFault, put_whole};
 use std::alloc::Global;
 
 /// The word for it.
@@ -87,25 +83,19 @@ fn write_said(
     }
 }
 
-/// Writes that no state is one that was looked for, of so many states: of all, or of those that
-/// were kept. After a fault the sink took a prefix of it.
-pub fn write_absent<S: Sink>(
+/// That no state is one that was looked for, of so many states: of all, or of those that were
+/// kept. Fails only when out of memory.
+pub fn absent_text(
     alloc: Global,
     format: Format,
     complete: bool,
     image: &Image,
     states: u32,
-    sink: &mut S,
-) -> Result<(), WriteFault>
-    ensures whole { OnOk result (Appends (S.written sink.old) (S.written sink.new)
-        (absent format complete image.now states)) }
-    ensures prefix { TakesPrefix (S.written sink.old) (S.written sink.new)
-        (absent format complete image.now states) }
-    ensures failures { S.failures sink.new ≡ S.failures sink.old + failures_of result }
-    ensures identity { S.identity sink.new ≡ S.identity sink.old }
+) -> Result<String, NoMemory>
+    ensures { IfOk result (λ text. string_bytes text
+        ≡ absent format complete image.now states) }
 {
     let mut out = String::new(alloc);
     write_said(alloc, format, &mut out, complete, image, states)?;
-    put_whole(sink, out.as_bytes())?;
-    Ok(())
+    Ok(out)
 }

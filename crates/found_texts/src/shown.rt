@@ -1,25 +1,20 @@
 //! What is said of a state that was found.
 
-ghost use Rattle.std.specs.Prelude.{◌≡◌, ◌+◌, ◌++◌, IfOk, OnOk, string_bytes};
-ghost use Rattle.std.specs.Io.KnownBytes.{Appends};
+ghost use Rattle.std.specs.Prelude.{◌≡◌, ◌++◌, IfOk, OnOk, string_bytes};
 ghost use Rattle.found_texts.specs.FoundTexts.{found, found_line};
 ghost use Rattle.found_texts.specs.FoundParts.{
   found_head,
-  found_parts,
   found_tail,
   image_members,
   json_head,
   order_member,
 };
 ghost use Rattle.order_texts.specs.OrderTexts.{order_text};
-ghost use Rattle.sinks.specs.Sinks.{TakesAllBut, TakesPrefix};
-ghost use Rattle.sinks.specs.WriteFaults.{failures_of};
 
 use cheri_model::{Image, NoMemory, Op};
 use order_texts::write_order;
 use report_lines::{image_json, write_json_value};
-use shown_states::{Format, Loaded, put_state, write_json_string};
-use sinks::{PIECE, Sink, WriteFault, put_whole};
+use shown_states::{Format, Loaded, write_json_string, write_state};
 use std::alloc::Global;
 
 /// Appends the line before the state.
@@ -108,48 +103,20 @@ fn tail(format: Format) -> &'static str
     }
 }
 
-/// Writes all but the end.
-fn put_parts<S: Sink>(
-    alloc: Global,
-    format: Format,
-    out: &mut String,
-    sink: &mut S,
-    image: &Image,
-    order: &[Op],
-    state: &Loaded,
-) -> Result<(), WriteFault>
-    ensures whole { OnOk result (TakesAllBut (S.written sink.old) (S.written sink.new)
-        (string_bytes out.new)
-        (string_bytes out.old ++ found_parts format image.now order.now state.now)) }
-    ensures prefix { TakesPrefix (S.written sink.old) (S.written sink.new)
-        (string_bytes out.old ++ found_parts format image.now order.now state.now) }
-    ensures failures { S.failures sink.new ≡ S.failures sink.old + failures_of result }
-    ensures identity { S.identity sink.new ≡ S.identity sink.old }
-{
-    write_head(alloc, format, out, image, order)?;
-    put_state(alloc, format, out, sink, state)
-}
-
-/// Writes the state that was found, and the order that leads to it. After a fault the sink took a
-/// prefix of it.
-pub fn write_found<S: Sink>(
+/// The state that was found, and the order that leads to it. Fails only when out of memory.
+pub fn found_text(
     alloc: Global,
     format: Format,
     image: &Image,
     order: &[Op],
     state: &Loaded,
-    sink: &mut S,
-) -> Result<(), WriteFault>
-    ensures whole { OnOk result (Appends (S.written sink.old) (S.written sink.new)
-        (found format image.now order.now state.now)) }
-    ensures prefix { TakesPrefix (S.written sink.old) (S.written sink.new)
-        (found format image.now order.now state.now) }
-    ensures failures { S.failures sink.new ≡ S.failures sink.old + failures_of result }
-    ensures identity { S.identity sink.new ≡ S.identity sink.old }
+) -> Result<String, NoMemory>
+    ensures { IfOk result (λ text. string_bytes text
+        ≡ found format image.now order.now state.now) }
 {
-    let mut out = String::with_capacity(alloc, PIECE)?;
-    put_parts(alloc, format, &mut out, sink, image, order, state)?;
+    let mut out = String::new(alloc);
+    write_head(alloc, format, &mut out, image, order)?;
+    write_state(alloc, format, &mut out, state)?;
     out.push_str(tail(format))?;
-    put_whole(sink, out.as_bytes())?;
-    Ok(())
+    Ok(out)
 }

@@ -1,13 +1,11 @@
 -- What was found is an answer.
-use Rattle.std.proofs.Common.{◌≡◌, ℕ, ◌<◌, ◌≤◌, List, length, Bool, true, refl, sym, ap, ◌∙◌, subst, inl, inr}
-use Rattle.std.specs.Prelude.{Option, Some, Result, Ok, Err, IfOk, IfErr, slice_get}
-use Rattle.std.specs.Io.KnownBytes.{Appends}
+use Rattle.std.proofs.Common.{◌≡◌, ℕ, ◌<◌, ◌≤◌, List, length, Bool, true, refl, sym, ap, ◌∙◌, subst}
+use Rattle.std.specs.Prelude.{Some, slice_get}
 use Rattle.cheri_model.specs.runs.Image.{ImageParts}
 use Rattle.cheri_model.specs.runs.Machine.{MachineState}
 use Rattle.cheri_model.specs.runs.Replay.{replayed_state}
 use Rattle.conditions.specs.Items.{ItemList}
 use Rattle.conditions.specs.declared.parts.Shown.{Shown}
-use Rattle.found_texts.proofs.FindLemmas.{written_as, err_as}
 use Rattle.outcomes.specs.Outcomes.{AreOutcomes}
 use Rattle.outcomes.specs.Rows.{AreRows, values_at}
 use Rattle.outcomes.specs.declared.rows.Row.{Row}
@@ -21,11 +19,9 @@ use Rattle.outcome_texts.specs.Told.{AreBelow, AreRowsBelow, AreOutcomesTold, Ar
 use Rattle.outcome_texts.specs.declared.told.Outcome.{Outcome}
 use Rattle.outcome_texts.specs.declared.told.ShownRow.{ShownRow}
 use Rattle.schedules.specs.declared.ranges.SweepRange.{SweepRange}
-use Rattle.shown_states.specs.Endings.{ending_of, IsWritten, IsUnwritten}
+use Rattle.shown_states.specs.Endings.{ending_of}
 use Rattle.shown_states.specs.declared.form.Ending.{Ending}
 use Rattle.shown_states.specs.declared.form.Format.{Format}
-use Rattle.sinks.specs.Sinks.{TakesPrefix}
-use Rattle.sinks.specs.declared.fault.WriteFault.{WriteFault}
 use Rattle.state_loops.specs.Endless.{IsEndless, IsSame}
 use Rattle.state_loops.specs.declared.endless.Endless.{Endless}
 use Rattle.states.specs.Kept.{KeptParts, count, at, IsSearch, AreAllKept}
@@ -62,14 +58,10 @@ searched_kept image sweeps limit kept endless numbers searched = record {
   all = searched.all;
 }
 
--- a text that is an answer was written, or a prefix of it
-pub answer_written : (IsSo : List ℕ → Ending → Type 0) (text : List ℕ) (ending told : Ending) (old new : Option (List ℕ))
-    → IsSo text told → ending ≡ told → Appends old new text → IsWritten (λ t. IsSo t ending) old new
-answer_written IsSo text ending told old new so is taken = (text, subst (IsSo text) (sym is) so, taken)
-
-pub answer_begun : (IsSo : List ℕ → Ending → Type 0) (text : List ℕ) (told : Ending) (fault : WriteFault) (old new : Option (List ℕ))
-    → IsSo text told → TakesPrefix old new text → IsUnwritten (λ t. (ending : Ending) × IsSo t ending) old new fault
-answer_begun IsSo text told fault old new so begun = inr (text, (told, so), begun)
+-- an answer in other words
+pub said_as : (IsSo : List ℕ → Ending → Type 0) (text said : List ℕ) (ending told : Ending) → IsSo said told → text ≡ said → ending ≡ told
+    → IsSo text ending
+said_as IsSo text said ending told so text_is ending_is = rw (text_is, ending_is) so
 
 -- outcomes are kept states, and so are the first ones of rows
 pub outcomes_below : (kept : KeptParts) (numbers : List ℕ) → AreOutcomes kept numbers → AreBelow (count kept) numbers
@@ -100,33 +92,13 @@ listed_said kept endless told numbers format outcomes complete image states sear
       ending_is = refl;
     }
 
-listed_asked : (kept : KeptParts) (image : ImageParts) (sweeps : List SweepRange) (limit : ℕ) (format : Format) (text : List ℕ)
+pub listed_asked : (kept : KeptParts) (image : ImageParts) (sweeps : List SweepRange) (limit : ℕ) (format : Format) (text : List ℕ)
     (ending : Ending) → kept.image ≡ image → kept.sweeps ≡ sweeps → kept.limit ≡ limit
     → IsListedAnswer kept.image kept.sweeps kept.limit format text ending → IsListedAnswer image sweeps limit format text ending
 listed_asked kept image sweeps limit format text ending image_is sweeps_are limit_is answer =
     subst (λ (i : ImageParts). IsListedAnswer i sweeps limit format text ending) image_is
     (subst (λ (s : List SweepRange). IsListedAnswer kept.image s limit format text ending) sweeps_are
     (subst (λ (n : ℕ). IsListedAnswer kept.image kept.sweeps n format text ending) limit_is answer))
-
-pub listed_written : {E : Type 0} (kept : KeptParts) (image : ImageParts) (sweeps : List SweepRange) (limit : ℕ) (format : Format)
-    (result : Result Ending E) (old new : Option (List ℕ)) → kept.image ≡ image → kept.sweeps ≡ sweeps → kept.limit ≡ limit
-    → IfOk result (λ ending. IsWritten (λ text. IsListedAnswer kept.image kept.sweeps kept.limit format text ending) old new)
-    → IfOk result (λ ending. IsWritten (λ text. IsListedAnswer image sweeps limit format text ending) old new)
-listed_written kept image sweeps limit format (Ok ending) old new image_is sweeps_are limit_is written =
-    written_as (λ text. IsListedAnswer kept.image kept.sweeps kept.limit format text ending)
-    (λ text. IsListedAnswer image sweeps limit format text ending) old new
-    (λ text answer. listed_asked kept image sweeps limit format text ending image_is sweeps_are limit_is answer) written
-listed_written kept image sweeps limit format (Err fault) old new image_is sweeps_are limit_is written = tt
-
-pub listed_begun : {T : Type 0} (kept : KeptParts) (image : ImageParts) (sweeps : List SweepRange) (limit : ℕ) (format : Format)
-    (result : Result T WriteFault) (old new : Option (List ℕ)) → kept.image ≡ image → kept.sweeps ≡ sweeps → kept.limit ≡ limit
-    → IfErr result (IsUnwritten (λ text. (ending : Ending)
-    × IsListedAnswer kept.image kept.sweeps kept.limit format text ending) old new)
-    → IfErr result (IsUnwritten (λ text. (ending : Ending) × IsListedAnswer image sweeps limit format text ending) old new)
-listed_begun kept image sweeps limit format result old new image_is sweeps_are limit_is begun =
-    err_as (λ text. (ending : Ending) × IsListedAnswer kept.image kept.sweeps kept.limit format text ending)
-    (λ text. (ending : Ending) × IsListedAnswer image sweeps limit format text ending) result old new
-    (λ text answer. (answer.0, listed_asked kept image sweeps limit format text answer.0 image_is sweeps_are limit_is answer.1)) begun
 
 -- ---- outcomes as rows
 
@@ -168,7 +140,7 @@ shown_said kept items endless told numbers format rows shown_rows complete image
       ending_is = refl;
     }
 
-shown_asked : (kept : KeptParts) (items : ItemList) (image : ImageParts) (sweeps : List SweepRange) (limit : ℕ) (format : Format)
+pub shown_asked : (kept : KeptParts) (items : ItemList) (image : ImageParts) (sweeps : List SweepRange) (limit : ℕ) (format : Format)
     (text : List ℕ) (ending : Ending) → kept.image ≡ image → kept.sweeps ≡ sweeps → kept.limit ≡ limit
     → IsShownAnswer kept.image items kept.sweeps kept.limit format text ending
     → IsShownAnswer image items sweeps limit format text ending
@@ -176,25 +148,3 @@ shown_asked kept items image sweeps limit format text ending image_is sweeps_are
     subst (λ (i : ImageParts). IsShownAnswer i items sweeps limit format text ending) image_is
     (subst (λ (s : List SweepRange). IsShownAnswer kept.image items s limit format text ending) sweeps_are
     (subst (λ (n : ℕ). IsShownAnswer kept.image items kept.sweeps n format text ending) limit_is answer))
-
-pub shown_written : {E : Type 0} (kept : KeptParts) (items : ItemList) (image : ImageParts) (sweeps : List SweepRange) (limit : ℕ)
-    (format : Format) (result : Result Ending E) (old new : Option (List ℕ)) → kept.image ≡ image → kept.sweeps ≡ sweeps
-    → kept.limit ≡ limit
-    → IfOk result (λ ending. IsWritten (λ text. IsShownAnswer kept.image items kept.sweeps kept.limit format text ending) old new)
-    → IfOk result (λ ending. IsWritten (λ text. IsShownAnswer image items sweeps limit format text ending) old new)
-shown_written kept items image sweeps limit format (Ok ending) old new image_is sweeps_are limit_is written =
-    written_as (λ text. IsShownAnswer kept.image items kept.sweeps kept.limit format text ending)
-    (λ text. IsShownAnswer image items sweeps limit format text ending) old new
-    (λ text answer. shown_asked kept items image sweeps limit format text ending image_is sweeps_are limit_is answer) written
-shown_written kept items image sweeps limit format (Err fault) old new image_is sweeps_are limit_is written = tt
-
-pub shown_begun : {T : Type 0} (kept : KeptParts) (items : ItemList) (image : ImageParts) (sweeps : List SweepRange) (limit : ℕ)
-    (format : Format) (result : Result T WriteFault) (old new : Option (List ℕ)) → kept.image ≡ image → kept.sweeps ≡ sweeps
-    → kept.limit ≡ limit
-    → IfErr result (IsUnwritten (λ text. (ending : Ending)
-    × IsShownAnswer kept.image items kept.sweeps kept.limit format text ending) old new)
-    → IfErr result (IsUnwritten (λ text. (ending : Ending) × IsShownAnswer image items sweeps limit format text ending) old new)
-shown_begun kept items image sweeps limit format result old new image_is sweeps_are limit_is begun =
-    err_as (λ text. (ending : Ending) × IsShownAnswer kept.image items kept.sweeps kept.limit format text ending)
-    (λ text. (ending : Ending) × IsShownAnswer image items sweeps limit format text ending) result old new
-    (λ text answer. (answer.0, shown_asked kept items image sweeps limit format text answer.0 image_is sweeps_are limit_is answer.1)) begun

@@ -1,13 +1,17 @@
--- An outcome in parts, as a sink takes them.
-use Rattle.std.proofs.Common.{◌≡◌, ℕ, List, ◌++◌, Option, refl, ap, ◌∙◌, append_assoc, Result, OnOk}
+-- An outcome in parts.
+use Rattle.std.proofs.Common.{◌≡◌, ℕ, ◌+◌, List, [], ◌++◌, length, refl, sym, ap, ◌∙◌, append_assoc, Result, OnOk}
+use Rattle.std.specs.Prelude.{Some, IsSome}
 use Rattle.cheri_model.specs.runs.Machine.{MachineState}
 use Rattle.outcome_texts.specs.OutcomeParts.{kept_part, outcome_part}
 use Rattle.outcome_texts.specs.Told.{kept_state}
 use Rattle.outcome_texts.specs.declared.told.Outcome.{Outcome}
 use Rattle.shown_states.specs.declared.form.Format.{Format}
-use Rattle.sinks.specs.Sinks.{TakesAllBut, TakesPrefix}
-use Rattle.sinks.proofs.SinkLemmas.{takes_on_ok, stops_on, begins_on}
-use Rattle.states.specs.Kept.{KeptParts}
+use Rattle.shown_states.specs.Meant.{state_meant}
+use Rattle.shown_states.proofs.LoadLemmas.{memory_size}
+use Rattle.state_store.specs.Stores.{Stored, state_of}
+use Rattle.state_store.proofs.NumberedLemmas.{some_of}
+use Rattle.state_store.proofs.SeenLemmas.{seen_count}
+use Rattle.states.specs.Kept.{KeptParts, at}
 
 regrouped : (a b c d : List ℕ) → ((a ++ b) ++ c) ++ d ≡ a ++ (b ++ (c ++ d))
 regrouped a b c d = simp append_assoc
@@ -17,26 +21,31 @@ joined : (out kept before shown after whole : List ℕ) → kept ≡ out ++ befo
     → (kept ++ shown) ++ after ≡ out ++ whole
 joined out kept before shown after whole is parts = rw (is, parts) (regrouped out before shown after)
 
-pub outcome_taken : {E : Type 0} (result : Result (Unit {0}) E) (first now last : Option (List ℕ))
-    (out kept before shown after whole left put still : List ℕ) → kept ≡ out ++ before → whole ≡ before ++ (shown ++ after)
-    → TakesAllBut first now left (kept ++ shown) → put ≡ left ++ after → OnOk result (TakesAllBut now last still put)
-    → OnOk result (TakesAllBut first last still (out ++ whole))
-outcome_taken result first now last out kept before shown after whole left put still is parts so_far written next =
-    takes_on_ok result first now last left still (kept ++ shown) after (out ++ whole)
-    (joined out kept before shown after whole is parts) so_far (rw written at next)
+pub outcome_written : {E : Type 0} (result : Result (Unit {0}) E) (out kept now last before shown after whole : List ℕ)
+    → kept ≡ out ++ before → now ≡ kept ++ shown → whole ≡ before ++ (shown ++ after) → OnOk result (last ≡ now ++ after)
+    → OnOk result (last ≡ out ++ whole)
+outcome_written result out kept now last before shown after whole is state parts written =
+    rw (joined out kept before shown after whole is parts) at (rw state at written)
 
-pub outcome_stops : (first now last : Option (List ℕ)) (out kept before shown after whole left put : List ℕ) → kept ≡ out ++ before
-    → whole ≡ before ++ (shown ++ after) → TakesAllBut first now left (kept ++ shown) → put ≡ left ++ after
-    → TakesPrefix now last put → TakesPrefix first last (out ++ whole)
-outcome_stops first now last out kept before shown after whole left put is parts so_far written stop =
-    rw (joined out kept before shown after whole is parts) at
-    (stops_on first now last left (kept ++ shown) after so_far (rw written at stop))
+-- three parts, one after another
+pub in_three : (none first second third head items tail : List ℕ) → none ≡ [] → first ≡ none ++ head → second ≡ first ++ items
+    → third ≡ second ++ tail → third ≡ (head ++ items) ++ tail
+in_three none first second third head items tail is one two three = rw (three, two, one, is) refl
 
--- the state stopped
-pub outcome_begins : (first now : Option (List ℕ)) (out kept before shown after whole : List ℕ) → kept ≡ out ++ before
-    → whole ≡ before ++ (shown ++ after) → TakesPrefix first now (kept ++ shown) → TakesPrefix first now (out ++ whole)
-outcome_begins first now out kept before shown after whole is parts begun =
-    rw (joined out kept before shown after whole is parts) at (begins_on first now (kept ++ shown) after begun)
+-- a state that was loaded is the kept one, and has as many harts and granules as the image says
+pub loaded_is : (kept : KeptParts) (number : ℕ) (store : Stored) (row : List ℕ) (loaded : MachineState)
+    → at kept number ≡ state_of store row → IsSome (state_of store row)
+    → ((s : MachineState) → state_of store row ≡ Some s → loaded ≡ s) → loaded ≡ kept_state kept number
+loaded_is kept number store row loaded is some each =
+    let s = some_of (state_of store row) some in
+    each s.0 s.1 ∙ sym (ap state_meant (is ∙ s.1))
+
+pub loaded_sizes : (store : Stored) (row : List ℕ) (loaded : MachineState) → IsSome (state_of store row)
+    → ((s : MachineState) → state_of store row ≡ Some s → loaded ≡ s)
+    → (length row ≡ length loaded.harts + 1) × (length loaded.memory ≡ store.granules)
+loaded_sizes store row loaded some each =
+    let s = some_of (state_of store row) some in
+    rw (each s.0 s.1) (seen_count store row s.0 s.1, memory_size store row s.0 s.1)
 
 -- the part of an outcome is that of the state that was loaded
 pub part_of : (format : Format) (kept : KeptParts) (number : ℕ) (outcome : Outcome) (state : MachineState) (out : List ℕ)

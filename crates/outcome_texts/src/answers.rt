@@ -1,26 +1,26 @@
 //! The answers.
 
-ghost use Rattle.std.specs.Prelude.{◌≡◌, ◌<◌, ◌≤◌, length, IfOk, IfErr};
+ghost use Rattle.std.specs.Prelude.{◌≡◌, ◌+◌, ◌<◌, ◌≤◌, length, IfOk, IfErr, string_bytes};
 ghost use Rattle.cheri_model.specs.runs.Machine.{opening_state};
 ghost use Rattle.conditions.specs.Items.{list_of};
 ghost use Rattle.outcome_texts.specs.Answers.{IsFound, IsListedAnswer, IsShownAnswer};
-ghost use Rattle.shown_states.specs.Endings.{ending_of, IsUnwritten, IsWritten};
+ghost use Rattle.shown_states.specs.Endings.{ending_of, failures_of, IsUnwritten, IsWritten};
 ghost use Rattle.shown_states.specs.declared.form.Ending.{Ending};
 ghost use Rattle.states.specs.Kept.{count};
 
 use crate::heads::Head;
-use crate::listed::put_listed;
+use crate::listed::listed_text;
 use crate::searching::{Searched, search_outcomes};
-use crate::shown::put_shown;
+use crate::shown::shown_text;
 use crate::told::{outcomes_told, rows_told};
-use cheri_model::Image;
+use cheri_model::{Image, NoMemory};
 use conditions::Items;
 use found_texts::opened;
 use graph_search::Progress;
 use hart::Hart;
 use outcomes::rows_of;
 use schedules::SweepRange;
-use shown_states::{Ending, Format};
+use shown_states::{Answer, Ending, Format, Loaded, put_answer};
 use sinks::{Sink, WriteFault};
 use states::MAX_SWEEPS;
 use std::alloc::Global;
@@ -50,79 +50,65 @@ fn head_of(searched: &Searched) -> Head<'_>
     }
 }
 
-/// Writes the outcomes that were found.
-fn list_found<S: Sink>(
+/// The answer of the outcomes that were found.
+fn listed_answer(
     alloc: Global,
     format: Format,
     harts: &[Hart],
     ram: &Ram,
     searched: &Searched,
-    sink: &mut S,
-) -> Result<Ending, WriteFault>
+) -> Result<Answer, NoMemory>
     requires found { IsFound searched.now }
     requires opening { opening_state searched.now.kept.image
         ≡ record { harts = harts.now; memory = ram.now } }
-    ensures written { IfOk result (λ ending. IsWritten (λ text. IsListedAnswer
-        searched.now.kept.image searched.now.kept.sweeps searched.now.kept.limit format text ending)
-        (S.written sink.old) (S.written sink.new)) }
-    ensures begun { IfErr result (IsUnwritten (λ text. (ending : Ending) × IsListedAnswer
-        searched.now.kept.image searched.now.kept.sweeps searched.now.kept.limit format text ending)
-        (S.written sink.old) (S.written sink.new)) }
-    ensures identity { S.identity sink.new ≡ S.identity sink.old }
+    ensures { IfOk result (λ answer. IsListedAnswer searched.now.kept.image
+        searched.now.kept.sweeps searched.now.kept.limit format
+        (string_bytes answer.text) answer.ending) }
 {
+    // Its clause says that the image is one.
+    let _granules = searched.kept.image().granules();
     let told = outcomes_told(alloc, &searched.kept, searched.outcomes.as_slice())?;
+    let mut state = Loaded::new(alloc, harts, ram)?;
     let head = head_of(searched);
-    put_listed(
+    let text = listed_text(
         alloc,
         format,
-        sink,
         head,
-        harts,
-        ram,
+        &mut state,
         &searched.kept,
         told.as_slice(),
     )?;
-    Ok(searched.ending())
+    let ending = searched.ending();
+    Ok(Answer { text, ending })
 }
 
-/// Writes the rows of the outcomes that were found.
-fn show_found<S: Sink>(
+/// The answer of the rows of the outcomes that were found.
+fn shown_answer(
     alloc: Global,
     format: Format,
     items: &Items<'_>,
     searched: &Searched,
-    sink: &mut S,
-) -> Result<Ending, WriteFault>
+) -> Result<Answer, NoMemory>
     requires found { IsFound searched.now }
-    ensures written { IfOk result (λ ending. IsWritten (λ text. IsShownAnswer
-        searched.now.kept.image (list_of items.now) searched.now.kept.sweeps
-        searched.now.kept.limit format text ending) (S.written sink.old) (S.written sink.new)) }
-    ensures begun { IfErr result (IsUnwritten (λ text. (ending : Ending) × IsShownAnswer
-        searched.now.kept.image (list_of items.now) searched.now.kept.sweeps
-        searched.now.kept.limit format text ending) (S.written sink.old) (S.written sink.new)) }
-    ensures identity { S.identity sink.new ≡ S.identity sink.old }
+    ensures { IfOk result (λ answer. IsShownAnswer searched.now.kept.image (list_of items.now)
+        searched.now.kept.sweeps searched.now.kept.limit format
+        (string_bytes answer.text) answer.ending) }
 {
     let shown = items.shown.as_slice();
     let outcomes = searched.outcomes.as_slice();
     let rows = rows_of(alloc, &searched.kept, shown, outcomes)?;
     let told = rows_told(alloc, &searched.kept, shown, rows.as_slice())?;
     let head = head_of(searched);
-    put_shown(
-        alloc,
-        format,
-        sink,
-        head,
-        outcomes.len(),
-        items.names.as_slice(),
-        told.as_slice(),
-    )?;
-    Ok(searched.ending())
+    let names = items.names.as_slice();
+    let text = shown_text(alloc, format, head, outcomes.len(), names, told.as_slice())?;
+    let ending = searched.ending();
+    Ok(Answer { text, ending })
 }
 
 /// Searches the states that an image reaches, by steps of its harts and these sweeps, and writes
 /// those in which no hart runs, each with the order that leads to it. At most `limit` states are
-/// kept. Nothing is written before the search has ended. After a fault of the writing the sink took
-/// a prefix of the answer.
+/// kept. Where memory runs out, nothing is written; where the sink fails, it took a prefix of the
+/// answer.
 pub fn list_outcomes<P: Progress, S: Sink>(
     alloc: Global,
     image: &Image,
@@ -140,12 +126,14 @@ pub fn list_outcomes<P: Progress, S: Sink>(
     ensures begun { IfErr result (IsUnwritten (λ text. (ending : Ending)
         × IsListedAnswer image.now sweeps.now limit format text ending)
         (S.written sink.old) (S.written sink.new)) }
+    ensures failures { S.failures sink.new ≡ S.failures sink.old + failures_of result }
     ensures identity { S.identity sink.new ≡ S.identity sink.old }
 {
     let core = opened(alloc, image)?;
     let searched = search_outcomes(alloc, image, &core, sweeps, limit, progress)?;
     let view = core.view();
-    list_found(alloc, format, view.harts, view.ram, &searched, sink)
+    let listed = listed_answer(alloc, format, view.harts, view.ram, &searched)?;
+    put_answer(sink, &listed)
 }
 
 /// The same, told by what items hold in the states: each distinct row of values, with how many
@@ -168,9 +156,11 @@ pub fn show_outcomes<P: Progress, S: Sink>(
     ensures begun { IfErr result (IsUnwritten (λ text. (ending : Ending)
         × IsShownAnswer image.now (list_of items.now) sweeps.now limit format text ending)
         (S.written sink.old) (S.written sink.new)) }
+    ensures failures { S.failures sink.new ≡ S.failures sink.old + failures_of result }
     ensures identity { S.identity sink.new ≡ S.identity sink.old }
 {
     let core = opened(alloc, image)?;
     let searched = search_outcomes(alloc, image, &core, sweeps, limit, progress)?;
-    show_found(alloc, format, items, &searched, sink)
+    let shown = shown_answer(alloc, format, items, &searched)?;
+    put_answer(sink, &shown)
 }

@@ -1,14 +1,11 @@
 //! Outcomes as states.
 #![tactic(auto, unfolding(crate::proofs::Unfold::listed))]
 
-ghost use Rattle.std.specs.Prelude.{◌≡◌, ◌<◌, ◌++◌, IfOk, OnOk, codes, string_bytes};
-ghost use Rattle.std.specs.Io.KnownBytes.{Appends};
-ghost use Rattle.cheri_model.specs.runs.Machine.{opening_state};
+ghost use Rattle.std.specs.Prelude.{◌≡◌, ◌*◌, ◌<◌, ◌++◌, length, IfOk, OnOk, codes, string_bytes};
 ghost use Rattle.outcome_texts.specs.OutcomeParts.{
   json_head,
   kept_part,
   listed_head,
-  listed_parts,
   listed_tail,
   listed_whole,
   outcome_after,
@@ -18,19 +15,15 @@ ghost use Rattle.outcome_texts.specs.OutcomeParts.{
 ghost use Rattle.outcome_texts.specs.Told.{kept_state, AreOutcomesBelow};
 ghost use Rattle.shown_states.specs.declared.form.Format.{Format};
 ghost use Rattle.report_lines.specs.Texts.{numbered};
-ghost use Rattle.sinks.specs.Sinks.{TakesAllBut, TakesPrefix};
 ghost use Rattle.states.specs.Kept.{count};
 
 use crate::heads::{Head, write_head_lines, write_json_head};
 use crate::told::Outcome;
 use cheri_model::NoMemory;
-use hart::Hart;
 use report_lines::write_comma;
-use shown_states::{Format, Loaded, put_state, write_json_string};
-use sinks::{PIECE, Sink, WriteFault, make_room, put_whole};
+use shown_states::{Format, Loaded, write_json_string, write_state};
 use states::Kept;
 use std::alloc::Global;
-use tagged_mem::Ram;
 
 /// Appends what stands before the state of an outcome, by its number.
 fn write_before(
@@ -78,73 +71,53 @@ fn write_after(
     }
 }
 
-/// A kept state, in memory.
-fn loaded_state(
-    alloc: Global,
-    harts: &[Hart],
-    ram: &Ram,
-    kept: &Kept,
-    number: u32,
-) -> Result<Loaded, NoMemory>
+/// Loads the state of an outcome.
+fn load_outcome(state: &mut Loaded, kept: &Kept, number: u32)
     requires there { number < count kept.now }
-    requires opening { opening_state kept.now.image
-        ≡ record { harts = harts.now; memory = ram.now } }
-    ensures { IfOk result (λ loaded. loaded ≡ kept_state kept.now number) }
+    requires harts { length state.old.harts ≡ length kept.now.image.harts }
+    requires granules { 16 * length state.old.memory ≡ kept.now.image.ram }
+    ensures state { state.new ≡ kept_state kept.now number }
+    ensures harts { length state.new.harts ≡ length kept.now.image.harts }
+    ensures granules { 16 * length state.new.memory ≡ kept.now.image.ram }
 {
-    // Its clause says that the image is one.
-    let _granules = kept.image().granules();
-    let mut loaded = Loaded::new(alloc, harts, ram)?;
-    loaded.load(kept.state(number));
-    Ok(loaded)
+    state.load(kept.state(number));
 }
 
-/// Writes an outcome in its state.
-fn put_outcome<S: Sink>(
+/// Appends an outcome in its state.
+fn write_outcome(
     alloc: Global,
     format: Format,
     out: &mut String,
-    sink: &mut S,
     number: usize,
     outcome: &Outcome,
     state: &Loaded,
-) -> Result<(), WriteFault>
-    ensures whole { OnOk result (TakesAllBut (S.written sink.old) (S.written sink.new)
-        (string_bytes out.new) (string_bytes out.old
-        ++ outcome_part format state.now number outcome.now)) }
-    ensures prefix { TakesPrefix (S.written sink.old) (S.written sink.new)
-        (string_bytes out.old ++ outcome_part format state.now number outcome.now) }
-    ensures identity { S.identity sink.new ≡ S.identity sink.old }
+) -> Result<(), NoMemory>
+    ensures { OnOk result (string_bytes out.new ≡ string_bytes out.old
+        ++ outcome_part format state.now number outcome.now) }
 {
     write_before(format, out, number, outcome)?;
-    put_state(alloc, format, out, sink, state)?;
-    write_after(alloc, format, out, outcome)?;
-    make_room(out, sink)
+    write_state(alloc, format, out, state)?;
+    write_after(alloc, format, out, outcome)
 }
 
-/// Writes outcomes, one by one.
-fn put_outcomes<S: Sink>(
+/// Appends outcomes, one by one: each is loaded into the same state.
+fn write_outcomes(
     alloc: Global,
     format: Format,
     out: &mut String,
-    sink: &mut S,
-    harts: &[Hart],
-    ram: &Ram,
+    state: &mut Loaded,
     kept: &Kept,
     outcomes: &[Outcome],
-) -> Result<(), WriteFault>
+) -> Result<(), NoMemory>
     requires there { AreOutcomesBelow (count kept.now) outcomes.now }
-    requires opening { opening_state kept.now.image
-        ≡ record { harts = harts.now; memory = ram.now } }
-    ensures whole { OnOk result (TakesAllBut (S.written sink.old) (S.written sink.new)
-        (string_bytes out.new) (string_bytes out.old
-        ++ numbered (kept_part format kept.now) 0 outcomes.now)) }
-    ensures prefix { TakesPrefix (S.written sink.old) (S.written sink.new)
-        (string_bytes out.old ++ numbered (kept_part format kept.now) 0 outcomes.now) }
-    ensures identity { S.identity sink.new ≡ S.identity sink.old }
+    requires harts { length state.old.harts ≡ length kept.now.image.harts }
+    requires granules { 16 * length state.old.memory ≡ kept.now.image.ram }
+    ensures { OnOk result (string_bytes out.new ≡ string_bytes out.old
+        ++ numbered (kept_part format kept.now) 0 outcomes.now) }
 {
     for (number, outcome) in outcomes.iter().enumerate() {
-        let state = loaded_state(alloc, harts, ram, kept, outcome.state)?;
-        put_outcome(alloc, format, out, sink, number, outcome, &state)?;
+        load_outcome(state, kept, outcome.state);
+        write_outcome(alloc, format, out, number, outcome, state)?;
     }
     Ok(())
 }
@@ -188,66 +161,26 @@ fn write_tail(format: Format, out: &mut String, states: u32) -> Result<(), NoMem
     }
 }
 
-/// Writes all but the end.
-fn put_parts<S: Sink>(
+/// Outcomes as states, each with its order. Each is loaded into `state`, which has as many harts and
+/// granules. Fails only when out of memory.
+pub fn listed_text(
     alloc: Global,
     format: Format,
-    out: &mut String,
-    sink: &mut S,
     head: Head<'_>,
-    harts: &[Hart],
-    ram: &Ram,
+    state: &mut Loaded,
     kept: &Kept,
     outcomes: &[Outcome],
-) -> Result<(), WriteFault>
+) -> Result<String, NoMemory>
     requires there { AreOutcomesBelow (count kept.now) outcomes.now }
-    requires opening { opening_state kept.now.image
-        ≡ record { harts = harts.now; memory = ram.now } }
-    ensures whole { OnOk result (TakesAllBut (S.written sink.old) (S.written sink.new)
-        (string_bytes out.new) (string_bytes out.old
-        ++ listed_parts format head.entry.complete head.entry.image.now
-        head.entry.states head.entry.endless.now kept.now
-        outcomes.now)) }
-    ensures prefix { TakesPrefix (S.written sink.old) (S.written sink.new)
-        (string_bytes out.old
-        ++ listed_parts format head.entry.complete head.entry.image.now
-        head.entry.states head.entry.endless.now kept.now
-        outcomes.now) }
-    ensures identity { S.identity sink.new ≡ S.identity sink.old }
+    requires harts { length state.old.harts ≡ length kept.now.image.harts }
+    requires granules { 16 * length state.old.memory ≡ kept.now.image.ram }
+    ensures { IfOk result (λ text. string_bytes text
+        ≡ listed_whole format head.entry.complete head.entry.image.now
+        head.entry.states head.entry.endless.now kept.now outcomes.now) }
 {
-    write_head(alloc, format, out, head, outcomes.len())?;
-    put_outcomes(alloc, format, out, sink, harts, ram, kept, outcomes)
-}
-
-/// Writes outcomes as states, each with its order. After a fault the sink took a prefix of them.
-pub fn put_listed<S: Sink>(
-    alloc: Global,
-    format: Format,
-    sink: &mut S,
-    head: Head<'_>,
-    harts: &[Hart],
-    ram: &Ram,
-    kept: &Kept,
-    outcomes: &[Outcome],
-) -> Result<(), WriteFault>
-    requires there { AreOutcomesBelow (count kept.now) outcomes.now }
-    requires opening { opening_state kept.now.image
-        ≡ record { harts = harts.now; memory = ram.now } }
-    ensures whole { OnOk result (Appends (S.written sink.old) (S.written sink.new)
-        (listed_whole format head.entry.complete head.entry.image.now
-        head.entry.states head.entry.endless.now kept.now
-        outcomes.now)) }
-    ensures prefix { TakesPrefix (S.written sink.old) (S.written sink.new)
-        (listed_whole format head.entry.complete head.entry.image.now
-        head.entry.states head.entry.endless.now kept.now
-        outcomes.now) }
-    ensures identity { S.identity sink.new ≡ S.identity sink.old }
-{
-    let mut out = String::with_capacity(alloc, PIECE)?;
-    put_parts(
-        alloc, format, &mut out, sink, head, harts, ram, kept, outcomes,
-    )?;
+    let mut out = String::new(alloc);
+    write_head(alloc, format, &mut out, head, outcomes.len())?;
+    write_outcomes(alloc, format, &mut out, state, kept, outcomes)?;
     write_tail(format, &mut out, head.states)?;
-    put_whole(sink, out.as_bytes())?;
-    Ok(())
+    Ok(out)
 }

@@ -2,7 +2,6 @@
 #![tactic(auto, unfolding(crate::proofs::Unfold::shown))]
 
 ghost use Rattle.std.specs.Prelude.{◌≡◌, ◌++◌, IfOk, OnOk, map, string_bytes};
-ghost use Rattle.std.specs.Io.KnownBytes.{Appends};
 ghost use Rattle.serde_json.specs.Data.{no_members, object};
 ghost use Rattle.serde_json.specs.View.{view as data_of};
 ghost use Rattle.outcome_texts.specs.OutcomeTexts.{
@@ -20,7 +19,6 @@ ghost use Rattle.outcome_texts.specs.OutcomeParts.{
 };
 ghost use Rattle.report_lines.specs.JsonText.{item_text};
 ghost use Rattle.report_lines.specs.Texts.{numbered};
-ghost use Rattle.sinks.specs.Sinks.{TakesPrefix};
 
 use crate::heads::{Head, write_head_lines, write_json_head};
 use crate::told::ShownRow;
@@ -30,7 +28,6 @@ use outcomes::ItemValue;
 use report_lines::{write_comma, write_json_value};
 use serde_json::{Map, Value, json, put};
 use shown_states::Format;
-use sinks::{Sink, WriteFault, put_whole};
 use std::alloc::Global;
 use std::fmt;
 
@@ -222,28 +219,21 @@ fn write_said(
     }
 }
 
-/// Writes outcomes as rows of values. After a fault the sink took a prefix of them.
-pub fn put_shown<S: Sink>(
+/// Outcomes as rows of values. Fails only when out of memory.
+pub fn shown_text(
     alloc: Global,
     format: Format,
-    sink: &mut S,
     head: Head<'_>,
     outcomes: usize,
     names: &[&str],
     rows: &[ShownRow],
-) -> Result<(), WriteFault>
-    ensures whole { OnOk result (Appends (S.written sink.old) (S.written sink.new)
-        (shown_whole format head.entry.complete head.entry.image.now
-        head.entry.states head.entry.endless.now outcomes
-        (map (λ name. name.now) names.now) rows.now)) }
-    ensures prefix { TakesPrefix (S.written sink.old) (S.written sink.new)
-        (shown_whole format head.entry.complete head.entry.image.now
+) -> Result<String, NoMemory>
+    ensures { IfOk result (λ text. string_bytes text
+        ≡ shown_whole format head.entry.complete head.entry.image.now
         head.entry.states head.entry.endless.now outcomes
         (map (λ name. name.now) names.now) rows.now) }
-    ensures identity { S.identity sink.new ≡ S.identity sink.old }
 {
     let mut out = String::new(alloc);
     write_said(alloc, format, &mut out, head, outcomes, names, rows)?;
-    put_whole(sink, out.as_bytes())?;
-    Ok(())
+    Ok(out)
 }

@@ -1,12 +1,15 @@
 //! What `cheri_explore` answers and reports, with the answers of an independent model.
 
 use crate::common::{Folder, Full, Unflushed, assert_bytes, owned};
-use explore_program::perform;
-use graph_search::NoProgress;
+use explore_program::{TerminalProgress, perform};
+use graph_search::Progress;
 use std::alloc::Global;
+use std::cell::Cell;
+use std::io;
 use std::io::Write;
 use std::process::Abort;
 use std::test::Fail;
+use std::time::{Clock, Duration};
 
 /// Two harts that count to 1 and halt.
 const COUNTING: &str = "\
@@ -95,6 +98,24 @@ shown 3
 end
 ";
 
+/// A clock that a test sets, in milliseconds; it cannot be read at 0.
+struct Stopwatch {
+    time: Cell<u64>,
+}
+
+impl Clock for Stopwatch {
+    fn monotonic(&self) -> io::Result<Duration> {
+        match self.time.get() {
+            0 => Err(io::Error::from(io::ErrorKind::Unsupported)),
+            time => Ok(Duration::from_millis(time)),
+        }
+    }
+
+    fn since_1970(&self) -> io::Result<Duration> {
+        self.monotonic()
+    }
+}
+
 /// Asks `cheri_explore` about a listing: its status, and both writers.
 fn ask<O: Write + Drop>(
     alloc: Global,
@@ -114,7 +135,7 @@ fn ask<O: Write + Drop>(
         alloc,
         words.as_slice(),
         &mut files,
-        &mut NoProgress,
+        None::<&Stopwatch>,
         &mut out,
         &mut err,
     );
@@ -231,5 +252,40 @@ fn full_questions(rt: HostRuntime) -> Result<(), Fail> {
         refuses(&rt, words, Full)?;
         refuses(&rt, words, Unflushed)?;
     }
+    Ok(())
+}
+
+/// What a clock that begins at a time makes of reports that come at these, each of so many states.
+fn reported(alloc: Global, begin: u64, reports: &[(u64, u32)]) -> Vec<u8> {
+    let clock = Stopwatch {
+        time: Cell::new(begin),
+    };
+    let mut err = Vec::new(alloc);
+    {
+        let mut progress = TerminalProgress::new(&clock, &mut err);
+        for (time, found) in reports {
+            clock.time.set(*time);
+            progress.report(*found);
+        }
+    }
+    err
+}
+
+/// In a terminal a line is written at most once a second, and none where the clock fails.
+#[test]
+fn searches_are_reported(rt: HostRuntime) -> Result<(), Fail> {
+    let alloc = rt.alloc();
+    let reports = [
+        (5_999, 1),
+        (6_000, 2),
+        (6_999, 3),
+        (0, 4),
+        (7_500, 5),
+        (8_499, 6),
+        (8_500, 7),
+    ];
+    let lines = "states 2\nstates 5\nstates 7\n";
+    assert_bytes(&rt, reported(alloc, 5_000, &reports).as_slice(), lines, &[]);
+    assert_bytes(&rt, reported(alloc, 0, &reports).as_slice(), "", &[]);
     Ok(())
 }

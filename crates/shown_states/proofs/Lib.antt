@@ -1,3 +1,4 @@
+pub mod AnswerLemmas
+pub mod JsonLemmas
 pub mod LoadLemmas
 pub mod MeantLemmas
-pub mod PartLemmas

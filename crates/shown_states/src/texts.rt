@@ -1,27 +1,31 @@
 //! The harts and the granules of a state as they are shown, as text and in JSON.
 
-ghost use Rattle.std.specs.Prelude.{◌≡◌, ◌+◌, ◌++◌, OnOk, string_bytes};
+ghost use Rattle.std.specs.Prelude.{◌≡◌, ◌++◌, OnOk, codes, string_bytes};
+ghost use Rattle.report_lines.specs.Lines.{granule_line};
+ghost use Rattle.report_lines.specs.Texts.{numbered};
+ghost use Rattle.reports.specs.Json.{harts_data, memory_data};
+ghost use Rattle.reports.specs.Report.{hart_lines, register_lines};
 ghost use Rattle.serde_json.specs.Data.{string};
 ghost use Rattle.serde_json.specs.Written.{compact_text};
 ghost use Rattle.shown_states.specs.StateTexts.{
-  harts_member,
   shown_state,
   state_lines,
   state_members,
   states_line,
   states_word,
 };
-ghost use Rattle.sinks.specs.Sinks.{TakesAllBut, TakesPrefix};
-ghost use Rattle.sinks.specs.WriteFaults.{failures_of};
 
 use crate::form::Format;
 use crate::loaded::Loaded;
-use cheri_model::NoMemory;
-use report_lines::write_json_value;
-use reports::{put_granules, put_granules_json, put_harts, put_harts_json};
+use cheri_model::{NoMemory, Reg};
+use hart::Hart;
+use report_lines::{
+    write_granule_line, write_json_value, write_pcc_line, write_register_line, write_status_line,
+};
+use reports::{granules_json, harts_json};
 use serde_json::Value;
-use sinks::{Sink, WriteFault};
 use std::alloc::Global;
+use tagged_mem::Ram;
 
 /// Appends a text as a string of JSON.
 pub fn write_json_string(alloc: Global, out: &mut String, text: String) -> Result<(), NoMemory>
@@ -48,78 +52,101 @@ pub fn write_states_line(out: &mut String, complete: bool, states: u32) -> Resul
     writeln!(out, "states {states} {word}")
 }
 
-/// Writes the lines of the harts and the granules, as `put_harts` those of the harts.
-fn put_state_lines<S: Sink>(
-    out: &mut String,
-    sink: &mut S,
-    state: &Loaded,
-) -> Result<(), WriteFault>
-    ensures whole { OnOk result (TakesAllBut (S.written sink.old) (S.written sink.new)
-        (string_bytes out.new) (string_bytes out.old ++ state_lines state.now)) }
-    ensures prefix { TakesPrefix (S.written sink.old) (S.written sink.new)
-        (string_bytes out.old ++ state_lines state.now) }
-    ensures failures { S.failures sink.new ≡ S.failures sink.old + failures_of result }
-    ensures identity { S.identity sink.new ≡ S.identity sink.old }
+/// Appends the lines of the registers c1 to c31.
+fn write_registers(out: &mut String, hart: &Hart) -> Result<(), NoMemory>
+    ensures { OnOk result (string_bytes out.new
+        ≡ string_bytes out.old ++ register_lines hart.now 1 31) }
 {
-    put_harts(out, sink, state.harts())?;
-    put_granules(out, sink, state.ram())
+    for number in 1..32 {
+        write_register_line(out, number, hart.register(Reg::new(number)))?;
+    }
+    Ok(())
 }
 
-/// Writes the member of the harts.
-fn put_harts_member<S: Sink>(
-    alloc: Global,
-    out: &mut String,
-    sink: &mut S,
-    state: &Loaded,
-) -> Result<(), WriteFault>
-    ensures whole { OnOk result (TakesAllBut (S.written sink.old) (S.written sink.new)
-        (string_bytes out.new) (string_bytes out.old ++ harts_member state.now)) }
-    ensures prefix { TakesPrefix (S.written sink.old) (S.written sink.new)
-        (string_bytes out.old ++ harts_member state.now) }
-    ensures failures { S.failures sink.new ≡ S.failures sink.old + failures_of result }
-    ensures identity { S.identity sink.new ≡ S.identity sink.old }
+/// Appends the lines of a hart.
+#[tactic(auto, unfolding(reports::specs::Report::hart_lines))]
+fn write_hart(out: &mut String, number: usize, hart: &Hart) -> Result<(), NoMemory>
+    ensures { OnOk result (string_bytes out.new
+        ≡ string_bytes out.old ++ hart_lines number hart.now) }
+{
+    write_status_line(out, number, hart.status())?;
+    write_pcc_line(out, hart.pcc())?;
+    write_registers(out, hart)
+}
+
+/// Appends the lines of the harts.
+fn write_harts(out: &mut String, harts: &[Hart]) -> Result<(), NoMemory>
+    ensures { OnOk result (string_bytes out.new
+        ≡ string_bytes out.old ++ numbered hart_lines 0 harts.now) }
+{
+    for (number, hart) in harts.iter().enumerate() {
+        write_hart(out, number, hart)?;
+    }
+    Ok(())
+}
+
+/// Appends the lines of the granules.
+fn write_granules(out: &mut String, ram: &Ram) -> Result<(), NoMemory>
+    ensures { OnOk result (string_bytes out.new
+        ≡ string_bytes out.old ++ numbered granule_line 0 ram.now) }
+{
+    for number in 0..ram.granule_count() {
+        write_granule_line(out, number, ram.granule(number))?;
+    }
+    Ok(())
+}
+
+/// Appends the lines of the harts and the granules.
+fn write_state_lines(out: &mut String, state: &Loaded) -> Result<(), NoMemory>
+    ensures { OnOk result (string_bytes out.new
+        ≡ string_bytes out.old ++ state_lines state.now) }
+{
+    write_harts(out, state.harts())?;
+    write_granules(out, state.ram())
+}
+
+/// Appends the member of the harts.
+#[tactic(auto, using(crate::proofs::JsonLemmas::harts_no_float))]
+fn write_harts_member(alloc: Global, out: &mut String, harts: &[Hart]) -> Result<(), NoMemory>
+    ensures { OnOk result (string_bytes out.new ≡ string_bytes out.old
+        ++ (codes "\"harts\":" ++ compact_text (harts_data harts.now))) }
 {
     out.push_str("\"harts\":")?;
-    put_harts_json(alloc, out, sink, state.harts())
+    write_json_value(alloc, out, harts_json(alloc, harts)?)
 }
 
-/// Writes the members of the harts and of the granules.
-fn put_state_members<S: Sink>(
-    alloc: Global,
-    out: &mut String,
-    sink: &mut S,
-    state: &Loaded,
-) -> Result<(), WriteFault>
-    ensures whole { OnOk result (TakesAllBut (S.written sink.old) (S.written sink.new)
-        (string_bytes out.new) (string_bytes out.old ++ state_members state.now)) }
-    ensures prefix { TakesPrefix (S.written sink.old) (S.written sink.new)
-        (string_bytes out.old ++ state_members state.now) }
-    ensures failures { S.failures sink.new ≡ S.failures sink.old + failures_of result }
-    ensures identity { S.identity sink.new ≡ S.identity sink.old }
+/// Appends the member of the granules, after another.
+#[tactic(auto, using(crate::proofs::JsonLemmas::memory_no_float))]
+fn write_memory_member(alloc: Global, out: &mut String, ram: &Ram) -> Result<(), NoMemory>
+    ensures { OnOk result (string_bytes out.new ≡ string_bytes out.old
+        ++ (codes ",\"mem\":" ++ compact_text (memory_data ram.now))) }
 {
-    put_harts_member(alloc, out, sink, state)?;
     out.push_str(",\"mem\":")?;
-    put_granules_json(alloc, out, sink, state.ram())
+    write_json_value(alloc, out, granules_json(alloc, ram)?)
 }
 
-/// Writes a state in a form, after what is kept in `out`: its lines, or its members. Whenever
-/// another part might not fit, what is kept is put to the sink; the rest stays in `out`.
-pub fn put_state<S: Sink>(
+/// Appends the members of the harts and of the granules.
+#[tactic(auto, unfolding(crate::specs::StateTexts::state_members))]
+fn write_state_members(alloc: Global, out: &mut String, state: &Loaded) -> Result<(), NoMemory>
+    ensures { OnOk result (string_bytes out.new
+        ≡ string_bytes out.old ++ state_members state.now) }
+{
+    write_harts_member(alloc, out, state.harts())?;
+    write_memory_member(alloc, out, state.ram())
+}
+
+/// Appends a state in a form: its lines, or its members.
+pub fn write_state(
     alloc: Global,
     format: Format,
     out: &mut String,
-    sink: &mut S,
     state: &Loaded,
-) -> Result<(), WriteFault>
-    ensures whole { OnOk result (TakesAllBut (S.written sink.old) (S.written sink.new)
-        (string_bytes out.new) (string_bytes out.old ++ shown_state format state.now)) }
-    ensures prefix { TakesPrefix (S.written sink.old) (S.written sink.new)
-        (string_bytes out.old ++ shown_state format state.now) }
-    ensures failures { S.failures sink.new ≡ S.failures sink.old + failures_of result }
-    ensures identity { S.identity sink.new ≡ S.identity sink.old }
+) -> Result<(), NoMemory>
+    ensures { OnOk result (string_bytes out.new
+        ≡ string_bytes out.old ++ shown_state format state.now) }
 {
     match format {
-        Format::Text => put_state_lines(out, sink, state),
-        Format::Json => put_state_members(alloc, out, sink, state),
+        Format::Text => write_state_lines(out, state),
+        Format::Json => write_state_members(alloc, out, state),
     }
 }
