@@ -7,6 +7,7 @@ mod conditions;
 mod fault;
 mod holding;
 mod items;
+pub mod laws;
 mod lists;
 mod parts;
 mod places;

@@ -1,7 +1,7 @@
 -- What a sweep answers, where it may also run out of memory: BadRange exactly where its range cannot be swept, and no
--- refusal of a hart.
+-- refusal of a hart. And what a refusal keeps, of a sweep or a step.
 use Rattle.std.proofs.Common.{◌≡◌, ◌≢◌, ℕ, Bool, true, false, not, length, refl, sym, ap, ◌∙◌}
-use Rattle.std.specs.Prelude.{◌↔◌, Option, Some, None, Result, Ok, Err, IfOk, nat_lt, if◌then◌else◌}
+use Rattle.std.specs.Prelude.{◌↔◌, Option, Some, None, Result, Ok, Err, IfOk, OnErr, nat_lt, if◌then◌else◌}
 use Rattle.cheri_model.specs.declared.operation.Op.TheVariants as operation
 use Rattle.cheri_model.specs.declared.operation.Event.{Event}
 use Rattle.cheri_model.specs.declared.operation.Event.TheVariants as event
@@ -19,6 +19,11 @@ pub records_sweep : (lo hi count : ℕ) (result : Answer) → IfOk result (λ e.
     IfOk result (λ e. operation_of e ≡ operation.Sweep lo hi)
 records_sweep lo hi count (Ok e) is = ap operation_of is
 records_sweep lo hi count (Err fault) is = is
+
+-- a refusal that keeps the machine and a token keeps the token
+pub token_kept : {T E : Type 0} (A B : Type 0) (result : Result T E) → OnErr result (A × B) → OnErr result B
+token_kept A B (Ok done) both = tt
+token_kept A B (Err fault) both = both.1
 
 module _ (core : CoreParts) (lo hi : ℕ) (result : Answer)
     (answer : result ≢ Err NoMemory → result ≡ answered core (operation.Sweep lo hi))

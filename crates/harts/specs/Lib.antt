@@ -1,2 +1,4 @@
 pub mod Faults
 pub mod Reports
+pub mod Pasts
+pub mod Calls

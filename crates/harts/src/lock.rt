@@ -1,6 +1,6 @@
 //! A machine that threads share.
 
-ghost use Rattle.std.specs.Prelude.{◌≡◌, ◌≢◌, ◌↔◌, IfOk, Err, false};
+ghost use Rattle.std.specs.Prelude.{◌≡◌, ◌≢◌, ◌↔◌, ◌+◌, IfOk, OnOk, OnErr, Err, false};
 ghost use Rattle.std.specs.Sync.Mutex.{mutex_guard_value};
 ghost use Rattle.cheri_model.specs.runs.Replay.{operation_of};
 ghost use Rattle.cheri_model.specs.runs.Sweeps.{is_range};
@@ -8,7 +8,7 @@ ghost use Rattle.cores.specs.Cores.{IsCore};
 
 use cheri_model::{Event, Op};
 use cores::StepFault;
-use shared_machine::{Machine, Naming, Watch, WatchFault};
+use shared_machine::{Machine, Naming, Sweeper, Watch, WatchFault};
 use std::marker::Model;
 use std::sync::{Mutex, MutexGuard, Wait};
 use std::thread;
@@ -77,14 +77,23 @@ impl<J: Naming> Shared<J> {
         self.lock(rt).watch()
     }
 
-    /// Sweeps the machine in one hold of the lock, as `Machine::sweep` does: stopped harts, too.
-    pub fn sweep<R: Wait>(&self, rt: &R, lo: u64, hi: u128) -> Result<Event, StepFault>
+    /// Sweeps the machine once, in one hold of the lock, as `Machine::sweep` does: stopped harts,
+    /// too.
+    pub fn sweep<R: Wait>(
+        &self,
+        rt: &R,
+        sweeper: &mut Sweeper<J>,
+        lo: u64,
+        hi: u128,
+    ) -> Result<Event, StepFault>
         ensures event { IfOk result (λ event. operation_of event ≡ Op.Sweep lo hi) }
         ensures range { (result ≡ Err StepFault.BadRange) ↔ (is_range lo hi ≡ false) }
         ensures of_no_hart { (result ≢ Err StepFault.NoSuchHart)
             × (result ≢ Err StepFault.HartStopped) }
+        ensures counted { OnOk result (sweeper.new ≡ sweeper.old + 1) }
+        ensures kept { OnErr result (sweeper.new ≡ sweeper.old) }
     {
-        self.lock(rt).sweep(rt, lo, hi)
+        self.lock(rt).sweep(rt, sweeper, lo, hi)
     }
 
     /// The machine, once no thread shares it.

@@ -6,6 +6,7 @@ ghost use Rattle.cheri_model.specs.runs.Replay.{IsReplay};
 ghost use Rattle.cores.specs.Cores.{is_limit};
 ghost use Rattle.harts.specs.Reports.{AreReports, KeepsTurns};
 
+use crate::calls::Calls;
 use crate::faults::RunFault;
 use crate::gates::Gate;
 use crate::lock::Shared;
@@ -126,7 +127,7 @@ fn race<J: Naming + Send + Sync, G: Gate + Sync, V: Viewer, R: Threads + Wait + 
     ensures reports { IfOk result (λ run.
         AreReports turns run.0.trace (length J.image.harts) run.1.items) }
 {
-    let (machine, shares) = Machine::<J>::open(alloc, core, blanks)?;
+    let (machine, shares, sweeper) = Machine::<J>::open(alloc, core, blanks)?;
     let shared = Shared::new(machine);
     let work = Work {
         rt,
@@ -144,11 +145,11 @@ fn race<J: Naming + Send + Sync, G: Gate + Sync, V: Viewer, R: Threads + Wait + 
     let raced = race_all(&work, alloc, turns, shares, onlooker);
     match raced {
         Err(fault) => {
-            let _core = shared.into_machine().close(rt, Vec::new(alloc));
+            let _core = shared.into_machine().close(rt, Vec::new(alloc), sweeper);
             Err(fault)
         }
         Ok((reports, shares)) => {
-            let core = shared.into_machine().close(rt, shares);
+            let core = shared.into_machine().close(rt, shares, sweeper);
             if core.view().image != &given {
                 return Err(RunFault::ImageDiffers);
             }
@@ -327,7 +328,8 @@ fn work_one<J: Naming, G: Gate, R: Wait>(
     ensures share { result.share ≡ record { hart = share.hart; amount = result.report.steps } }
     ensures within_turns { KeepsTurns turns result.report }
 {
-    let (report, share) = hart_loop(work.rt, work.shared, turns, work.gate, share);
+    let mut calls = Calls::none();
+    let (report, share) = hart_loop(work.rt, work.shared, turns, work.gate, &mut calls, share);
     Worked { report, share }
 }
 

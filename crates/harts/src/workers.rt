@@ -2,8 +2,13 @@
 
 ghost use Rattle.std.specs.Prelude.{◌≡◌, ◌≢◌, ◌+◌, ◌≤◌, ◌<◌, ℕ, OnOk, OnErr, Err};
 ghost use Rattle.cores.specs.declared.faults.StepFault.{StepFault};
+ghost use Rattle.std.specs.Prelude.{◌∷◌, []};
+ghost use Rattle.harts.specs.Calls.{AreCalls, AreLast};
 ghost use Rattle.harts.specs.Reports.{IsReason, goes_on};
+ghost use Rattle.harts.specs.declared.gates.Call.TheVariants.{Before};
+ghost use Rattle.harts.specs.declared.gates.Turn.TheVariants.{Go};
 
+use crate::calls::Calls;
 use crate::gates::{Gate, Turn};
 use crate::lock::Shared;
 use cheri_model::{Entry, Outcome};
@@ -36,12 +41,13 @@ pub struct HartReport {
 /// the lock, and tells the gate when the lock is free again. Ends before a turn that the gate ends,
 /// after a step that halts or traps, and at a step that is refused, of which the gate is not told.
 /// A hart is refused as stopped only before its first step. The share has counted just the steps of
-/// the report.
+/// the report, and the calls are just those of its turns.
 pub fn hart_loop<J: Naming, G: Gate, R: Wait>(
     rt: &R,
     shared: &Shared<J>,
     turns: u32,
     gate: &G,
+    calls: &mut Calls,
     share: Share<J>,
 ) -> (HartReport, Share<J>)
     ensures hart { result.0.hart ≡ share.hart }
@@ -49,17 +55,20 @@ pub fn hart_loop<J: Naming, G: Gate, R: Wait>(
         ≡ record { hart = share.hart; amount = share.amount + result.0.steps } }
     ensures turns { result.0.steps ≤ turns }
     ensures why { IsReason turns result.0.steps result.0.why }
+    ensures calls { AreCalls (G.made calls.old) (G.made calls.new)
+        share.hart result.0.steps result.0.why }
 {
     let mut share = share;
     let hart = share.hart();
     for turn in 0..turns {
-        if gate.before(hart, turn) == Turn::End {
-            return (report(hart, turn, Why::Gate), share);
+        match gate.before(calls, hart, turn) {
+            Turn::End => return (report(hart, turn, Why::Gate), share),
+            Turn::Go => {}
         }
         match step_once(rt, shared, &mut share) {
             Err(fault) => return (report(hart, turn, why_refused(turn, fault)), share),
             Ok(entry) => {
-                gate.after(hart, turn);
+                gate.after(calls, hart, turn);
                 if !goes_on(entry.outcome) {
                     return (report(hart, turn + 1, Why::Stopped), share);
                 }
@@ -84,7 +93,8 @@ fn goes_on(outcome: Outcome) -> bool
 fn why_refused(steps: u32, fault: StepFault) -> Why
     requires hart_exists { fault ≢ StepFault.NoSuchHart }
     requires steps { fault ≢ StepFault.BadRange }
-    ensures { (turns : ℕ) → steps < turns → IsReason turns steps result }
+    ensures why { (turns : ℕ) → steps < turns → IsReason turns steps result }
+    ensures calls { (hart : ℕ) → AreLast hart steps result (Before hart steps Go ∷ []) }
 {
     match fault {
         StepFault::HartStopped if steps > 0 => Why::Stopped,

@@ -1,14 +1,16 @@
 //! Machines of two harts: their shares step their own harts, as the run of the same order does,
-//! watched or not; and refused memory, for a machine, its watch and its steps.
+//! watched or not; and refused memory, for a machine, its watch, its steps and a sweep.
 
 ghost use Rattle.std.specs.Prelude.{◌≡◌};
 
 use crate::common::{ONE, TWO_HARTS, ZERO, ran, watch_of};
 use crate::refused_memory::{assert_may_refuse, first_image};
-use crate::watches::seen;
+use crate::sweeps::SWEEP;
+use crate::watches::{looked, seen};
 use cheri_model::{Entry, Outcome};
 use machine::{
-    Blanks, BootFault, Core, Machine, Naming, OpenFault, Share, StepFault, Watch, WatchFault,
+    Blanks, BootFault, Core, Machine, Naming, OpenFault, Share, StepFault, Sweeper, Watch,
+    WatchFault,
 };
 use std::alloc::Global;
 use std::marker::Brand;
@@ -29,7 +31,9 @@ fn stepped<J: Naming, R: Wait + Abort>(
     requires names { blanks ≡ J.names }
     requires image { core.image ≡ J.image }
 {
-    let (mut machine, mut shares) = Machine::<J>::open(alloc, core, blanks).expect(rt, "it opens");
+    let (mut machine, mut shares, sweeper) = Machine::<J>::open(alloc, core, blanks).expect(
+        rt, "it opens",
+    );
     assert!(rt; shares.len() == 2);
     let watch = if is_watched {
         watch_of(&mut machine)
@@ -47,7 +51,7 @@ fn stepped<J: Naming, R: Wait + Abort>(
     }
     let refused = machine.step(rt, &mut shares[0]);
     assert!(rt; refused == Err(StepFault::TraceFull));
-    machine.close(rt, shares)
+    machine.close(rt, shares, sweeper)
 }
 
 /// Compares the core that a machine, watched or not, leaves with the run of the same order.
@@ -115,26 +119,61 @@ fn take_step<J: Naming, R: Wait + Abort + Env>(
     assert_entry(rt, taken.expect(rt, "the step is taken"), step);
 }
 
-/// Opens a machine of the first listing, watched or not, takes the first steps of its hart 0, and
-/// closes it. A watch looks after each step: whatever was refused, a look shows all that were taken.
-fn take_steps<J: Naming, R: Wait + Abort + Env>(
+/// Sweeps a machine that has not stepped, once more where it is refused memory, which changes
+/// nothing.
+fn take_sweep<J: Naming, R: Wait + Abort + Env>(
+    rt: &R,
+    machine: &mut Machine<J>,
+    sweeper: &mut Sweeper<J>,
+) {
+    let mut swept = machine.sweep(rt, sweeper, 0x8000_0000, 0x8000_0001);
+    if swept == Err(StepFault::NoMemory) {
+        assert_may_refuse(rt);
+        assert!(rt; machine.core().view().entries.is_empty());
+        swept = machine.sweep(rt, sweeper, 0x8000_0000, 0x8000_0001);
+    }
+    assert!(rt; swept == Ok(SWEEP));
+}
+
+/// Checks that a watch, if there is one, shows a machine whose trace is that sweep alone, if it was
+/// swept.
+fn assert_sweep_seen<J: Naming>(rt: &impl Abort, watch: Option<Watch<J>>, is_swept: bool) {
+    let Some(watch) = watch else {
+        return;
+    };
+    let look = looked(watch).expect(rt, "a look shows the machine");
+    let entries = look.core().view().entries;
+    assert!(rt; !is_swept || entries == [SWEEP].as_slice());
+}
+
+/// What a machine of the first listing goes through between its opening and its closing: whether it
+/// is watched, the first steps of its hart 0, and whether it is swept then.
+#[derive(Clone, Copy)]
+struct Scene {
+    is_watched: bool,
+    steps: u8,
+    is_swept: bool,
+}
+
+/// Opens a machine of the first listing, plays a scene, and closes it. A watch looks after each
+/// step: whatever was refused, a look shows all that were taken.
+fn play<J: Naming, R: Wait + Abort + Env>(
     rt: &R,
     alloc: Global,
     core: Core,
     blanks: Blanks,
-    is_watched: bool,
-    steps: u8,
+    scene: Scene,
 ) -> Result<Core, OpenFault>
     requires names { blanks ≡ J.names }
     requires image { core.image ≡ J.image }
 {
-    let (mut machine, mut shares) = Machine::<J>::open(alloc, core, blanks)?;
-    let mut watch = if is_watched {
+    let (mut machine, mut shares, mut sweeper) = Machine::<J>::open(alloc, core, blanks)?;
+    let mut watch = if scene.is_watched {
         Some(seen(rt, first_watch(rt, &mut machine), 0, 0))
     } else {
         None
     };
-    for step in 0..steps {
+    for step in 0..scene.steps {
         assert!(rt; shares.len() == 2);
         take_step(rt, &mut machine, &mut shares[0], step);
         watch = match watch {
@@ -142,50 +181,72 @@ fn take_steps<J: Naming, R: Wait + Abort + Env>(
             None => None,
         };
     }
-    Ok(machine.close(rt, shares))
+    if scene.is_swept {
+        take_sweep(rt, &mut machine, &mut sweeper);
+    }
+    assert_sweep_seen(rt, watch, scene.is_swept);
+    Ok(machine.close(rt, shares, sweeper))
 }
 
-/// Takes the first steps of hart 0 on a new machine of the first listing, watched or not.
-fn take_first_steps(
+/// Plays a scene on a new machine of the first listing.
+fn play_once(
     rt: &(impl Wait + Abort + Env),
     alloc: Global,
-    is_watched: bool,
-    steps: u8,
+    scene: Scene,
 ) -> Result<Core, OpenFault> {
     let core = first_core(rt, alloc);
-    take_steps::<Brand, _>(rt, alloc, core, Blanks::new(), is_watched, steps)
+    play::<Brand, _>(rt, alloc, core, Blanks::new(), scene)
 }
 
 /// The same, where a machine that is refused memory is opened once more.
-fn try_first_steps(rt: &(impl Wait + Abort + Env), alloc: Global, is_watched: bool, steps: u8) {
-    let left = match take_first_steps(rt, alloc, is_watched, steps) {
+fn try_scene(rt: &(impl Wait + Abort + Env), alloc: Global, scene: Scene) {
+    let left = match play_once(rt, alloc, scene) {
         Ok(left) => left,
         Err(fault) => {
             assert_may_refuse(rt);
             assert!(rt; fault.number() == 1);
-            let again = take_first_steps(rt, alloc, is_watched, steps);
-            again.expect(rt, "it is opened once more")
+            play_once(rt, alloc, scene).expect(rt, "it is opened once more")
         }
     };
-    assert!(rt; left.view().entries.len() == usize::from(steps));
+    let events = usize::from(scene.steps) + usize::from(scene.is_swept);
+    assert!(rt; left.view().entries.len() == events);
+}
+
+/// A scene of this many steps, with no sweep.
+fn steps(is_watched: bool, steps: u8) -> Scene {
+    Scene {
+        is_watched,
+        steps,
+        is_swept: false,
+    }
 }
 
 #[test]
 fn refused_open(rt: HostRuntime) {
-    try_first_steps(&rt, rt.alloc(), false, 0);
+    try_scene(&rt, rt.alloc(), steps(false, 0));
 }
 
 #[test]
 fn refused_watch(rt: HostRuntime) {
-    try_first_steps(&rt, rt.alloc(), true, 0);
+    try_scene(&rt, rt.alloc(), steps(true, 0));
 }
 
 #[test]
 fn refused_step(rt: HostRuntime) {
-    try_first_steps(&rt, rt.alloc(), false, 4);
+    try_scene(&rt, rt.alloc(), steps(false, 4));
 }
 
 #[test]
 fn refused_watched_step(rt: HostRuntime) {
-    try_first_steps(&rt, rt.alloc(), true, 4);
+    try_scene(&rt, rt.alloc(), steps(true, 4));
+}
+
+#[test]
+fn refused_watched_sweep(rt: HostRuntime) {
+    let scene = Scene {
+        is_watched: true,
+        steps: 0,
+        is_swept: true,
+    };
+    try_scene(&rt, rt.alloc(), scene);
 }

@@ -7,7 +7,7 @@ use crate::common::{ONE, ZERO, booted, entry_at, image_of, operation_of, ran, sh
 use crate::refused_memory::assert_may_refuse;
 use cheri_model::{Event, Image, Outcome, Reg, Status, Trap};
 use gates::{EndsAt, Meeting, Tally};
-use harts::{Gate, HartReport, RunFault, Shared, Why, hart_loop, run_harts};
+use harts::{Calls, Gate, HartReport, RunFault, Shared, Why, hart_loop, run_harts};
 use machine::{Blanks, BootFault, Core, Machine, Naming, StepFault, run_order};
 use std::alloc::Global;
 use std::marker::Brand;
@@ -92,16 +92,17 @@ fn looped<J: Naming, G: Gate, R: Abort + Wait>(
     requires names { blanks ≡ J.names }
     requires image { core.image ≡ J.image }
 {
-    let (machine, shares) = Machine::<J>::open(alloc, core, blanks).expect(rt, "it opens");
+    let (machine, shares, sweeper) = Machine::<J>::open(alloc, core, blanks).expect(rt, "it opens");
     let shared = Shared::new(machine);
     let mut reports = Vec::new(alloc);
     let mut back = Vec::new(alloc);
     for share in shares {
-        let (report, share) = hart_loop(rt, &shared, turns, gate, share);
+        let mut calls = Calls::none();
+        let (report, share) = hart_loop(rt, &shared, turns, gate, &mut calls, share);
         reports.push(report).expect(rt, "there is memory");
         back.push(share).expect(rt, "there is memory");
     }
-    (shared.into_machine().close(rt, back), reports)
+    (shared.into_machine().close(rt, back, sweeper), reports)
 }
 
 /// Compares a core with the run of its own trace's order on one thread.

@@ -6,7 +6,7 @@ ghost use Rattle.std.specs.Prelude.{◌≡◌};
 use crate::common::{booted, entry_at, watch_of};
 use crate::watches::looked;
 use cheri_model::Event;
-use machine::{Blanks, Core, Machine, Naming, Receipt, StepFault, Watch};
+use machine::{Blanks, Core, Machine, Naming, Receipt, StepFault, Sweeper, Watch};
 use samples::FIRST;
 use std::alloc::Global;
 use std::marker::Brand;
@@ -17,7 +17,7 @@ use std::sync::Wait;
 const END: u128 = 1 << 64;
 
 /// The sweep of the two data capabilities of the first listing.
-const SWEEP: Event = Event::Sweep {
+pub(crate) const SWEEP: Event = Event::Sweep {
     lo: 0x8000_0000,
     hi: 0x8000_0001,
     cleared: 2,
@@ -81,13 +81,17 @@ fn assert_swept<J: Naming>(
 }
 
 /// Sweeps a machine: a range that is bad, and the data.
-fn sweep_twice<J: Naming, R: Wait + Abort>(rt: &R, machine: &mut Machine<J>) {
+fn sweep_twice<J: Naming, R: Wait + Abort>(
+    rt: &R,
+    machine: &mut Machine<J>,
+    sweeper: &mut Sweeper<J>,
+) {
     let sweeps = [
         (2, 1, Err(StepFault::BadRange)),
         (0x8000_0000, 0x8000_0001, Ok(SWEEP)),
     ];
     for (lo, hi, swept) in sweeps {
-        assert!(rt; machine.sweep(rt, lo, hi) == swept);
+        assert!(rt; machine.sweep(rt, sweeper, lo, hi) == swept);
     }
 }
 
@@ -103,7 +107,9 @@ fn swept<J: Naming, R: Wait + Abort>(
     requires names { blanks ≡ J.names }
     requires image { core.image ≡ J.image }
 {
-    let (mut machine, mut shares) = Machine::<J>::open(alloc, core, blanks).expect(rt, "it opens");
+    let (mut machine, mut shares, mut sweeper) = Machine::<J>::open(alloc, core, blanks).expect(
+        rt, "it opens",
+    );
     assert!(rt; shares.len() == 2);
     let watch = if is_watched {
         watch_of(&mut machine)
@@ -113,14 +119,14 @@ fn swept<J: Naming, R: Wait + Abort>(
     assert!(rt; watch.is_some() == is_watched);
     assert!(rt; machine.step(rt, &mut shares[0]).is_ok());
     let before = machine.receipt();
-    sweep_twice(rt, &mut machine);
+    sweep_twice(rt, &mut machine, &mut sweeper);
     let after = machine.receipt();
     if let Some(watch) = watch {
         assert_swept(rt, watch, before, after);
     }
     assert!(rt; machine.step(rt, &mut shares[1]).is_ok());
-    assert!(rt; machine.sweep(rt, 0, 0) == Err(StepFault::TraceFull));
-    let core = machine.close(rt, shares);
+    assert!(rt; machine.sweep(rt, &mut sweeper, 0, 0) == Err(StepFault::TraceFull));
+    let core = machine.close(rt, shares, sweeper);
     assert!(rt; core.view().entries.len() == 3);
 }
 

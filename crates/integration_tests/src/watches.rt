@@ -57,13 +57,15 @@ fn watched<J: Naming, R: Wait + Abort>(rt: &R, alloc: Global, core: Core, blanks
     requires names { blanks ≡ J.names }
     requires image { core.image ≡ J.image }
 {
-    let (mut machine, mut shares) = Machine::<J>::open(alloc, core, blanks).expect(rt, "it opens");
+    let (mut machine, mut shares, sweeper) = Machine::<J>::open(alloc, core, blanks).expect(
+        rt, "it opens",
+    );
     let watch = watch_of(&mut machine).expect(rt, "there is a place");
     assert!(rt; shares.len() == 2);
     assert!(rt; machine.step(rt, &mut shares[1]).is_ok());
     let watch = seen(rt, watch.learn(machine.receipt()), 1, 1);
     drop(seen(rt, watch, 1, 1));
-    let core = machine.close(rt, shares);
+    let core = machine.close(rt, shares, sweeper);
     assert!(rt; core.view().entries.len() == 1);
 }
 
@@ -78,7 +80,9 @@ fn looked_twice<J: Naming, R: Wait + Abort>(rt: &R, alloc: Global, core: Core, b
     requires names { blanks ≡ J.names }
     requires image { core.image ≡ J.image }
 {
-    let (mut machine, shares) = Machine::<J>::open(alloc, core, blanks).expect(rt, "it opens");
+    let (mut machine, shares, sweeper) = Machine::<J>::open(alloc, core, blanks).expect(
+        rt, "it opens",
+    );
     let first = watch_of(&mut machine).expect(rt, "there is a place");
     let second = watch_of(&mut machine).expect(rt, "there is another place");
     let kept = looked(first).expect(rt, "one of the looks shows the machine");
@@ -87,7 +91,7 @@ fn looked_twice<J: Naming, R: Wait + Abort>(rt: &R, alloc: Global, core: Core, b
     assert!(rt; other.core().view().entries.is_empty());
     drop(other);
     drop(kept);
-    let _core = machine.close(rt, shares);
+    let _core = machine.close(rt, shares, sweeper);
 }
 
 #[test]
@@ -101,7 +105,9 @@ fn watched_by_eight<J: Naming, R: Wait + Abort>(rt: &R, alloc: Global, core: Cor
     requires names { blanks ≡ J.names }
     requires image { core.image ≡ J.image }
 {
-    let (mut machine, shares) = Machine::<J>::open(alloc, core, blanks).expect(rt, "it opens");
+    let (mut machine, shares, sweeper) = Machine::<J>::open(alloc, core, blanks).expect(
+        rt, "it opens",
+    );
     let mut watches = Vec::new(alloc);
     for _ in 0..8 {
         let watch = machine.watch().expect(rt, "there is a place");
@@ -118,7 +124,7 @@ fn watched_by_eight<J: Naming, R: Wait + Abort>(rt: &R, alloc: Global, core: Cor
     }
     assert!(rt; watches.len() == 8);
     drop(watches);
-    let _core = machine.close(rt, shares);
+    let _core = machine.close(rt, shares, sweeper);
 }
 
 /// A look of a watch, tried again while there is none.

@@ -7,6 +7,7 @@
 
 pub use cores::{BootFault, Core, GREATEST_TRACE_LIMIT, StepFault, run_judged, run_order};
 pub use shared_machine::{
-    Blanks, Lane, Look, Machine, Naming, OpenFault, Receipt, Share, Watch, WatchFault, laws,
+    Blanks, Lane, Look, Machine, Naming, OpenFault, Receipt, Share, Sweeper, Watch, WatchFault,
+    laws,
 };
 pub use simulation::{SimFault, simulate};

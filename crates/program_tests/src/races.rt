@@ -171,13 +171,13 @@ fn count_looks<J: Naming, R: Wait + Abort>(
     requires names { blanks ≡ J.names }
     requires image { core.image ≡ J.image }
 {
-    let Ok((mut machine, shares)) = Machine::<J>::open(alloc, core, blanks) else {
+    let Ok((mut machine, shares, sweeper)) = Machine::<J>::open(alloc, core, blanks) else {
         return Err(Fail::from("the machine opens"));
     };
     let watch = machine.watch().expect(rt, "there is a place");
     let (watch, looks) = look_often(watch);
     assert_eq!(rt; looks, 100);
-    let _core = machine.close(rt, shares);
+    let _core = machine.close(rt, shares, sweeper);
     let (_watch, looks) = look_often(watch);
     assert_eq!(rt; looks, 0);
     Ok(())

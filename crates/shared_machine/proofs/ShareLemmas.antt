@@ -12,7 +12,7 @@ use Rattle.cheri_model.specs.declared.trace.Entry.{Entry}
 use Rattle.cheri_model.specs.runs.Replay.{is_step_of, step_count}
 use Rattle.cheri_model.specs.runs.Machine.{entry_of, event_of}
 use Rattle.cores.specs.Cores.{CoreParts, core_after}
-use Rattle.shared_machine.specs.Shares.{ShareParts, share_at, shares_of, IsCounted}
+use Rattle.shared_machine.specs.Shares.{ShareParts, share_at, shares_of, IsCounted, is_sweep, sweep_count}
 
 -- while shares are drawn: the harts before this one have theirs, and the others' ledgers are whole and empty
 pub record IsOpening (books parts amounts : List ℕ) (made : List ShareParts) (trace : List Event) (drawn : ℕ) : Type 0 where
@@ -120,6 +120,27 @@ counted_still books core after lo hi harts is counted =
       lanes = counted.lanes;
       counts = λ k below. counted.counts k below ∙ sym (step_count_push core.trace added k ∙ omega arith);
     })
+
+-- one more event counts as a sweep where it is one
+sweep_count_push : (trace : List Event) (added : Event) → sweep_count (trace ++ added ∷ []) ≡ sweep_count trace + cond (is_sweep added) 1 0
+unfolding sweep_count
+sweep_count_push trace added = omega (arith, sum_by-append (λ (e : Event). cond (is_sweep e) 1 0) trace (added ∷ []))
+
+-- a step is no sweep
+pub swept_still : (core after : CoreParts) (hart : ℕ) → after ≡ core_after core (operation.Step hart) →
+    sweep_count after.trace ≡ sweep_count core.trace
+unfolding core_after event_of
+swept_still core after hart is =
+    let added = event_of core.image core.state (operation.Step hart) in
+    ap (λ (k : CoreParts). sweep_count k.trace) is ∙ (sweep_count_push core.trace added ∙ omega arith)
+
+-- a sweep is one more
+pub swept_more : (core after : CoreParts) (lo hi : ℕ) → after ≡ core_after core (operation.Sweep lo hi) →
+    sweep_count after.trace ≡ sweep_count core.trace + 1
+unfolding core_after event_of
+swept_more core after lo hi is =
+    let added = event_of core.image core.state (operation.Sweep lo hi) in
+    ap (λ (k : CoreParts). sweep_count k.trace) is ∙ sweep_count_push core.trace added
 
 -- one more share has counted the steps of its hart
 pub audited_more : (items : List ShareParts) (trace : List Event) (place : ℕ) (share : ShareParts) → place < length items →

@@ -6,9 +6,11 @@ mod faults;
 pub mod laws;
 mod machines;
 mod shares;
+mod sweeps;
 mod watching;
 
 pub use faults::{OpenFault, WatchFault};
 pub use machines::Machine;
 pub use shares::{Blanks, Lane, Naming, Share};
+pub use sweeps::Sweeper;
 pub use watching::watch::{Look, Receipt, Watch};

@@ -11,12 +11,14 @@ ghost use Rattle.cap_model.specs.results.Swept.{is_in_sweep};
 ghost use Rattle.cores.specs.Cores.{answered, answered_step, applied, refused};
 ghost use Rattle.shared_machine.specs.Machines.{unwatched};
 ghost use Rattle.shared_machine.specs.Shares.{share_at, shares_of, IsCounted};
+ghost use Rattle.shared_machine.specs.Shares.{is_sweep, sweep_count};
 ghost use Rattle.shared_machine.specs.Watches.{watch_of};
 ghost use Rattle.cheri_model.specs.declared.operation.Event.{Event};
 ghost use Rattle.cheri_model.specs.declared.trace.Entry.{Entry};
 
 use crate::faults::{OpenFault, WatchFault};
-use crate::shares::{Blanks, Books, Naming, Share, Tokens};
+use crate::shares::{Blanks, Books, Naming, Opening, Share, Tokens};
+use crate::sweeps::{SweepLane, Sweeper};
 use crate::watching::watch::{Receipt, Watch};
 use crate::watching::watched::Watched;
 use cheri_model::{Entry, Event, Image, NoMemory, Op};
@@ -24,10 +26,11 @@ use cores::{Core, StepFault};
 use std::alloc::Global;
 use std::marker::Model;
 use std::sync::Wait;
+use std::sync::ledger::Book;
 
-/// A core that threads may share under a lock, each stepping the hart of its share. At every moment
-/// its books have counted the steps of each hart in the trace. Contracts see its core, and whether
-/// watchers have two copies of it.
+/// A core that threads may share under a lock, each stepping the hart of its share, and one
+/// sweeping by its sweeper. At every moment its books have counted the steps of each hart in the
+/// trace, and the sweeps. Contracts see its core, and whether watchers have two copies of it.
 ///
 /// Close a machine that was watched. Where it is dropped, its two copies of the core are never
 /// freed: a watcher may still look at one, and a drop waits for nobody.
@@ -35,6 +38,7 @@ use std::sync::Wait;
 pub struct Machine<J: Naming> {
     watched: Watched<J>,
     books: Books<J>,
+    sweeps: Book<SweepLane<J>>,
 }
 
 impl<J: Naming> Model for Machine<J> {
@@ -43,35 +47,50 @@ impl<J: Naming> Model for Machine<J> {
     ghost Value = { MachineParts };
 
     ghost use Rattle.std.specs.Prelude.{◌≡◌, length};
-    ghost use Rattle.shared_machine.specs.Shares.{IsCounted};
+    ghost use Rattle.shared_machine.specs.Shares.{IsCounted, sweep_count};
 
     ghost view = { λ m. m.watched };
 
     ghost invariant = { λ m.
         IsCounted m.books m.watched.core.trace (length J.image.harts)
-        × (m.watched.core.image ≡ J.image) };
+        × (m.watched.core.image ≡ J.image)
+        × (m.sweeps.total ≡ sweep_count m.watched.core.trace) };
 }
 
 impl<J: Naming> Machine<J> {
-    /// The machine of a core and its shares, one for each hart, in hart order, which have counted
-    /// what the trace holds. Fails only when out of memory, and then the core is given up.
+    /// The machine of a core, its shares, one for each hart, in hart order, and its sweeper, which
+    /// have counted what the trace holds. Fails only when out of memory, and then the core is given
+    /// up.
     pub fn open(
         alloc: Global,
         core: Core,
         blanks: Blanks,
-    ) -> Result<(Machine<J>, Vec<Share<J>>), OpenFault>
+    ) -> Result<(Machine<J>, Vec<Share<J>>, Sweeper<J>), OpenFault>
         requires names { blanks ≡ J.names }
         requires image { core.image ≡ J.image }
         ensures machine { IfOk result (λ opened. opened.0 ≡ unwatched core) }
         ensures shares { IfOk result (λ opened.
             opened.1.items ≡ shares_of core.trace (length J.image.harts)) }
+        ensures sweeper { IfOk result (λ opened. opened.2 ≡ sweep_count core.trace) }
     {
-        let (mut books, tokens, order) = blanks.open::<J>();
+        let Opening {
+            mut books,
+            tokens,
+            mut sweeps,
+            mut sweeper,
+            order,
+        } = blanks.open::<J>();
         let view = core.view();
         let harts = hart_count(view.image);
         let shares = draw_shares(alloc, &mut books, tokens, view.entries, harts)?;
+        sweeper.count(&mut sweeps, sweep_count(view.entries));
         let watched = Watched::<J>::open(alloc, core, order);
-        Ok((Machine { watched, books }, shares))
+        let machine = Machine {
+            watched,
+            books,
+            sweeps,
+        };
+        Ok((machine, shares, sweeper))
     }
 
     /// One step of the share's hart. It is refused exactly where the core refuses it, or when out
@@ -106,9 +125,16 @@ impl<J: Naming> Machine<J> {
 
     /// Clears the tag of every capability whose base lies from `lo` up to, not including, `hi`, as
     /// `Core::sweep` does. It is refused exactly where the core refuses it, or when out of memory,
-    /// and then nothing changes; otherwise the trace grows by the event that is answered. No share
-    /// counts it. Waits for a watcher that still looks at what was shown before.
-    pub fn sweep<R: Wait>(&mut self, rt: &R, lo: u64, hi: u128) -> Result<Event, StepFault>
+    /// and then nothing changes; otherwise the trace grows by the event that is answered, and the
+    /// sweeper counts it, and no share. Waits for a watcher that still looks at what was shown
+    /// before.
+    pub fn sweep<R: Wait>(
+        &mut self,
+        rt: &R,
+        sweeper: &mut Sweeper<J>,
+        lo: u64,
+        hi: u128,
+    ) -> Result<Event, StepFault>
         ensures answered { result ≢ Err StepFault.NoMemory
             → result ≡ answered self.old.core (Op.Sweep lo hi) }
         ensures memory { result ≡ Err StepFault.NoMemory
@@ -120,7 +146,9 @@ impl<J: Naming> Machine<J> {
         ensures none_left { OnOk result
             (EachOfState (λ v. is_in_sweep lo hi v ≡ false) self.new.core.state) }
         ensures applied { OnOk result (self.new.core ≡ applied self.old.core (Op.Sweep lo hi)) }
-        ensures kept { OnErr result (self.new.core ≡ self.old.core) }
+        ensures counted { OnOk result (sweeper.new ≡ sweeper.old + 1) }
+        ensures kept { OnErr result
+            ((self.new.core ≡ self.old.core) × (sweeper.new ≡ sweeper.old)) }
         ensures copied { self.new.is_copied ≡ self.old.is_copied }
     {
         match self.watched.core().refusal(Op::Sweep { lo, hi }) {
@@ -130,22 +158,23 @@ impl<J: Naming> Machine<J> {
         let Ok(()) = self.watched.take(rt, Op::Sweep { lo, hi }) else {
             return Err(StepFault::NoMemory);
         };
+        sweeper.count(&mut self.sweeps, 1);
         Ok(newest(self.watched.core()))
     }
 
     /// A watch of the machine, which has seen its trace of now. The first one makes two copies of
     /// the core; the core stays as it is. Fails with `NoMemory` only where there are no copies yet
-    /// and no memory for them; then nothing changes. Fails with `NoPlace` where there are copies,
-    /// and none of their places is free: there are places for eight watches at once, and some may
-    /// not be free yet while watches come and go.
+    /// and no memory for them. Fails with `NoPlace` only where there are copies, and none of their
+    /// places is free: there are places for eight watches at once, and some may not be free yet
+    /// while watches come and go. Where it fails, nothing changes.
     pub fn watch(&mut self) -> Result<Watch<J>, WatchFault>
         ensures watch { IfOk result (λ watch.
             watch ≡ watch_of self.old.core.image self.old.core.trace) }
         ensures same { self.new.core ≡ self.old.core }
         ensures copied { OnOk result (self.new.is_copied ≡ true) }
-        ensures place { result ≡ Err WatchFault.NoPlace → self.new.is_copied ≡ true }
-        ensures memory { result ≡ Err WatchFault.NoMemory
-            → (self.old.is_copied ≡ false) × (self.new.is_copied ≡ false) }
+        ensures unchanged { OnErr result (self.new ≡ self.old) }
+        ensures place { result ≡ Err WatchFault.NoPlace → self.old.is_copied ≡ true }
+        ensures memory { result ≡ Err WatchFault.NoMemory → self.old.is_copied ≡ false }
     {
         self.watched.watch()
     }
@@ -166,28 +195,37 @@ impl<J: Naming> Machine<J> {
         self.watched.core()
     }
 
-    /// The machine's core. Each share has counted the steps of its hart in the core's trace.
-    /// Waits for watchers that still look.
-    pub fn close<R: Wait>(self, rt: &R, shares: Vec<Share<J>>) -> Core
+    /// The machine's core. Each share has counted the steps of its hart in the core's trace, and
+    /// the sweeper its sweeps. Waits for watchers that still look.
+    pub fn close<R: Wait>(self, rt: &R, shares: Vec<Share<J>>, sweeper: Sweeper<J>) -> Core
         ensures core { result ≡ self.core }
         ensures image { self.core.image ≡ J.image }
         ensures counts { All
             (λ share. share.amount ≡ step_count self.core.trace share.hart) shares.items }
+        ensures sweeps { sweeper ≡ sweep_count self.core.trace }
     {
-        self.audited(shares).close(rt)
+        self.audited(shares, sweeper).close(rt)
     }
 
-    /// The core that is watched. Each share has counted the steps of its hart in its trace.
-    fn audited(self, shares: Vec<Share<J>>) -> Watched<J>
+    /// The core that is watched. Each share has counted the steps of its hart in its trace, and the
+    /// sweeper its sweeps.
+    fn audited(self, shares: Vec<Share<J>>, sweeper: Sweeper<J>) -> Watched<J>
         ensures core { result ≡ self }
         ensures counts { All
             (λ share. share.amount ≡ step_count self.core.trace share.hart) shares.items }
+        ensures sweeps { sweeper ≡ sweep_count self.core.trace }
     {
-        let Machine { watched, mut books } = self;
+        let Machine {
+            watched,
+            mut books,
+            mut sweeps,
+        } = self;
         let mut shares = shares;
         for place in 0..shares.len() {
             books.audit(&mut shares[place]);
         }
+        let mut sweeper = sweeper;
+        sweeper.audit(&mut sweeps);
         watched
     }
 }
@@ -290,5 +328,23 @@ fn is_step_of(event: Event, hart: u8) -> bool
     match event {
         Event::Step(entry) => entry.hart == hart,
         Event::Sweep { .. } => false,
+    }
+}
+
+/// How many of these events are sweeps.
+#[tactic(auto, unfolding(crate::specs::Shares::sweep_count))]
+fn sweep_count(events: &[Event]) -> u64
+    ensures { result ≡ sweep_count events.now }
+{
+    events.iter().filter(|event| is_sweep(**event)).count() as u64
+}
+
+/// Whether an event is a sweep.
+fn is_sweep(event: Event) -> bool
+    ensures { result ≡ is_sweep event }
+{
+    match event {
+        Event::Step(_) => false,
+        Event::Sweep { .. } => true,
     }
 }

@@ -6,6 +6,7 @@ ghost use Rattle.std.specs.Prelude.{List, ℕ, [], replicate};
 ghost use Rattle.cheri_model.specs.runs.Image.{ImageParts};
 ghost use Rattle.shared_machine.specs.Names.{order_named};
 
+use crate::sweeps::{SweepLane, Sweeper};
 use std::marker::{Brand, Model, PhantomData};
 use std::sync::ledger;
 use std::sync::ledger::{Blank, Book, Ledger};
@@ -35,8 +36,8 @@ impl<J: Naming, const HART: u8> Ledger for Lane<J, HART> {
     ghost parts = { 1 };
 }
 
-/// Ledgers that are of no machine yet, one for each of eight harts, and an order of operations.
-/// Contracts see their names.
+/// Ledgers that are of no machine yet, one for each of eight harts and one for sweeps, and an order
+/// of operations. Contracts see their names.
 #[derive(Drop)]
 pub struct Blanks {
     hart0: Blank,
@@ -48,6 +49,7 @@ pub struct Blanks {
     hart6: Blank,
     hart7: Blank,
     order: seen_order::Blank,
+    sweeps: Blank,
 }
 
 impl Model for Blanks {
@@ -60,7 +62,7 @@ impl Model for Blanks {
     ghost view = { λ b. b.hart0.name ∷ b.hart1.name ∷ b.hart2.name ∷ b.hart3.name
         ∷ b.hart4.name ∷ b.hart5.name ∷ b.hart6.name ∷ b.hart7.name
         ∷ b.order.book.number ∷ b.order.book.log_name ∷ b.order.book.cells_name ∷ b.order.first
-        ∷ [] };
+        ∷ b.sweeps.name ∷ [] };
 
     ghost invariant = { λ b. (b.hart0.parts ≡ 1)
         × (b.hart1.parts ≡ 1)
@@ -69,13 +71,14 @@ impl Model for Blanks {
         × (b.hart4.parts ≡ 1)
         × (b.hart5.parts ≡ 1)
         × (b.hart6.parts ≡ 1)
-        × (b.hart7.parts ≡ 1) };
+        × (b.hart7.parts ≡ 1)
+        × (b.sweeps.parts ≡ 1) };
 }
 
 impl Blanks {
-    /// Eight new ledgers with a name for each, and a new order of operations.
+    /// Nine new ledgers with a name for each, and a new order of operations.
     pub fn new() -> Blanks
-        ensures { length result ≡ 12 }
+        ensures { length result ≡ 13 }
     {
         Blanks {
             hart0: Blank::new(1),
@@ -87,16 +90,19 @@ impl Blanks {
             hart6: Blank::new(1),
             hart7: Blank::new(1),
             order: seen_order::Blank::new(),
+            sweeps: Blank::new(1),
         }
     }
 
     /// The books and the tokens of these ledgers, nothing counted, and the order.
-    pub fn open<J: Naming>(self) -> (Books<J>, Tokens<J>, seen_order::Blank)
+    pub fn open<J: Naming>(self) -> Opening<J>
         requires { self ≡ J.names }
-        ensures books { result.0 ≡ replicate 8 0 }
-        ensures parts { result.1.parts ≡ replicate 8 1 }
-        ensures amounts { result.1.amounts ≡ replicate 8 0 }
-        ensures order { result.2 ≡ order_named J.names }
+        ensures books { result.books ≡ replicate 8 0 }
+        ensures parts { result.tokens.parts ≡ replicate 8 1 }
+        ensures amounts { result.tokens.amounts ≡ replicate 8 0 }
+        ensures sweeps { result.sweeps.total ≡ 0 }
+        ensures sweeper { result.sweeper ≡ 0 }
+        ensures order { result.order ≡ order_named J.names }
     {
         let Blanks {
             hart0,
@@ -108,6 +114,7 @@ impl Blanks {
             hart6,
             hart7,
             order,
+            sweeps,
         } = self;
         let (book0, token0) = hart0.open::<Lane<J, 0>>();
         let (book1, token1) = hart1.open::<Lane<J, 1>>();
@@ -117,6 +124,7 @@ impl Blanks {
         let (book5, token5) = hart5.open::<Lane<J, 5>>();
         let (book6, token6) = hart6.open::<Lane<J, 6>>();
         let (book7, token7) = hart7.open::<Lane<J, 7>>();
+        let (sweeps, sweeper) = sweeps.open::<SweepLane<J>>();
         let books = Books {
             hart0: book0,
             hart1: book1,
@@ -137,11 +145,28 @@ impl Blanks {
             hart6: token6,
             hart7: token7,
         };
-        (books, tokens, order)
+        Opening {
+            books,
+            tokens,
+            sweeps,
+            sweeper: Sweeper::over(sweeper),
+            order,
+        }
     }
 }
 
-/// A token of each ledger of a machine. Contracts see of each how much of its ledger it is, and its
+/// What a machine is opened with: the books of its ledgers, their tokens, and the order of its
+/// operations.
+#[derive(Drop)]
+pub struct Opening<J: Naming> {
+    pub books: Books<J>,
+    pub tokens: Tokens<J>,
+    pub sweeps: Book<SweepLane<J>>,
+    pub sweeper: Sweeper<J>,
+    pub order: seen_order::Blank,
+}
+
+/// A token of each hart's ledger. Contracts see of each how much of its ledger it is, and its
 /// amount.
 #[derive(Drop)]
 pub struct Tokens<J: Naming> {
@@ -170,7 +195,7 @@ impl<J: Naming> Model for Tokens<J> {
     } };
 }
 
-/// The totals of a machine's ledgers. Contracts see the number of each of eight harts.
+/// The totals of the harts' ledgers. Contracts see the number of each of eight harts.
 #[derive(Drop)]
 pub struct Books<J: Naming> {
     hart0: Book<Lane<J, 0>>,

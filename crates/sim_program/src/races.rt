@@ -16,7 +16,7 @@ use crate::faults::Fault;
 use crate::reporting::print_report;
 use cheri_model::Image;
 use cores::{BootFault, Core, GREATEST_TRACE_LIMIT};
-use harts::{Gate, HartReport, RunFault, Turn, Viewer, run_harts, run_watched};
+use harts::{Calls, Gate, HartReport, RunFault, Turn, Viewer, run_harts, run_watched};
 use printing::write_line;
 use shared_machine::{Naming, Watch};
 use std::alloc::Global;
@@ -31,11 +31,15 @@ use std::{fmt, thread};
 struct OpenGate;
 
 impl Gate for OpenGate {
-    fn before(&self, _hart: u8, _turn: u32) -> Turn {
-        Turn::Go
+    ghost made = { λ calls. calls };
+
+    fn before(&self, calls: &mut Calls, hart: u8, turn: u32) -> Turn {
+        calls.before(hart, turn, Turn::Go)
     }
 
-    fn after(&self, _hart: u8, _turn: u32) {}
+    fn after(&self, calls: &mut Calls, hart: u8, turn: u32) {
+        calls.after(hart, turn);
+    }
 }
 
 /// How often the viewer of a watched race looks.

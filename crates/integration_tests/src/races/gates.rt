@@ -1,7 +1,7 @@
 //! Gates of the tests: one at which two harts meet, one that ends each hart at a turn of its own,
 //! and one that counts its calls.
 
-use harts::{Gate, Turn};
+use harts::{Calls, Gate, Turn};
 use std::sync::atomic::{AtomicBool, AtomicU32, Ordering};
 use std::thread;
 
@@ -92,15 +92,18 @@ impl Meeting {
 }
 
 impl Gate for Meeting {
-    fn before(&self, hart: u8, turn: u32) -> Turn {
+    ghost made = { λ calls. calls };
+
+    fn before(&self, calls: &mut Calls, hart: u8, turn: u32) -> Turn {
         if turn == 0 && !self.meets(hart) {
             self.gave_up.set();
-            return Turn::End;
+            return calls.before(hart, turn, Turn::End);
         }
-        Turn::Go
+        calls.before(hart, turn, Turn::Go)
     }
 
-    fn after(&self, hart: u8, turn: u32) {
+    fn after(&self, calls: &mut Calls, hart: u8, turn: u32) {
+        calls.after(hart, turn);
         if turn > 0 {
             return;
         }
@@ -120,14 +123,19 @@ impl Gate for Meeting {
 pub(super) struct EndsAt<'a>(pub(super) &'a [u32]);
 
 impl Gate for EndsAt<'_> {
-    fn before(&self, hart: u8, turn: u32) -> Turn {
-        match self.0.get(usize::from(hart)) {
+    ghost made = { λ calls. calls };
+
+    fn before(&self, calls: &mut Calls, hart: u8, turn: u32) -> Turn {
+        let answer = match self.0.get(usize::from(hart)) {
             Some(end) if *end == turn => Turn::End,
             _ => Turn::Go,
-        }
+        };
+        calls.before(hart, turn, answer)
     }
 
-    fn after(&self, _hart: u8, _turn: u32) {}
+    fn after(&self, calls: &mut Calls, hart: u8, turn: u32) {
+        calls.after(hart, turn);
+    }
 }
 
 /// A gate that ends no hart, and counts how often it is asked and told.
@@ -157,12 +165,15 @@ impl Tally {
 }
 
 impl Gate for Tally {
-    fn before(&self, _hart: u8, _turn: u32) -> Turn {
+    ghost made = { λ calls. calls };
+
+    fn before(&self, calls: &mut Calls, hart: u8, turn: u32) -> Turn {
         self.asked.fetch_add(1, Ordering::SeqCst);
-        Turn::Go
+        calls.before(hart, turn, Turn::Go)
     }
 
-    fn after(&self, _hart: u8, _turn: u32) {
+    fn after(&self, calls: &mut Calls, hart: u8, turn: u32) {
         self.told.fetch_add(1, Ordering::SeqCst);
+        calls.after(hart, turn);
     }
 }

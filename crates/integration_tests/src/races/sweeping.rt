@@ -6,8 +6,8 @@ use super::gates::EndsAt;
 use super::{SWAP, assert_replayed};
 use crate::common::booted;
 use cheri_model::Event;
-use harts::{HartReport, Shared, hart_loop};
-use machine::{Blanks, Core, Machine, Naming, Share, StepFault};
+use harts::{Calls, HartReport, Shared, hart_loop};
+use machine::{Blanks, Core, Machine, Naming, Share, StepFault, Sweeper};
 use std::alloc::Global;
 use std::marker::Brand;
 use std::process::Abort;
@@ -25,14 +25,20 @@ fn both_loops<J: Naming + Send + Sync, R: Threads + Wait + Sync>(
     let gate = EndsAt(&[]);
     thread::join(
         rt,
-        || hart_loop(rt, shared, 2, &gate, zero),
-        || hart_loop(rt, shared, 2, &gate, one),
+        || hart_loop(rt, shared, 2, &gate, &mut Calls::none(), zero),
+        || hart_loop(rt, shared, 2, &gate, &mut Calls::none(), one),
     )
 }
 
 /// Sweeps the granule's capabilities.
-fn sweep<J: Naming, R: Wait>(rt: &R, shared: &Shared<J>) -> Result<Event, StepFault> {
-    shared.sweep(rt, 0x8000_0000, 0x8000_0001)
+fn sweep<J: Naming, R: Wait>(
+    rt: &R,
+    shared: &Shared<J>,
+    sweeper: Sweeper<J>,
+) -> (Result<Event, StepFault>, Sweeper<J>) {
+    let mut sweeper = sweeper;
+    let swept = shared.sweep(rt, &mut sweeper, 0x8000_0000, 0x8000_0001);
+    (swept, sweeper)
 }
 
 /// How many events are steps of a hart, and how many are sweeps.
@@ -58,19 +64,21 @@ fn swept_race<J: Naming + Send + Sync, R: Abort + Threads + Wait + Sync>(
     requires names { blanks ≡ J.names }
     requires image { core.image ≡ J.image }
 {
-    let (machine, mut shares) = Machine::<J>::open(alloc, core, blanks).expect(rt, "it opens");
+    let (machine, mut shares, sweeper) = Machine::<J>::open(alloc, core, blanks).expect(
+        rt, "it opens",
+    );
     let shared = Shared::new(machine);
     let one = shares.pop().expect(rt, "hart 1 has a share");
     let zero = shares.pop().expect(rt, "hart 0 has a share");
-    let (swept, (first, second)) = thread::join(
+    let ((swept, sweeper), (first, second)) = thread::join(
         rt,
-        || sweep(rt, &shared),
+        || sweep(rt, &shared, sweeper),
         || both_loops(rt, &shared, zero, one),
     );
     assert!(rt; swept.is_ok());
     shares.push(first.1).expect(rt, "there is memory");
     shares.push(second.1).expect(rt, "there is memory");
-    let core = shared.into_machine().close(rt, shares);
+    let core = shared.into_machine().close(rt, shares, sweeper);
     assert_eq!(rt; counted(&core, 0), (first.0.steps, 1));
     assert_eq!(rt; counted(&core, 1), (second.0.steps, 1));
     core

@@ -4,7 +4,7 @@
 use super::gates::Flag;
 use crate::common::shows_the_same;
 use cheri_model::Event;
-use harts::{Gate, Turn, Viewer};
+use harts::{Calls, Gate, Turn, Viewer};
 use machine::{Look, Naming, Watch};
 use std::alloc::Global;
 use std::thread;
@@ -103,15 +103,19 @@ impl Viewed {
 }
 
 impl Gate for Viewed {
-    fn before(&self, _hart: u8, turn: u32) -> Turn {
+    ghost made = { λ calls. calls };
+
+    fn before(&self, calls: &mut Calls, hart: u8, turn: u32) -> Turn {
         if turn == 1 && !self.step_seen.comes() {
             self.gave_up.set();
-            return Turn::End;
+            return calls.before(hart, turn, Turn::End);
         }
-        Turn::Go
+        calls.before(hart, turn, Turn::Go)
     }
 
-    fn after(&self, _hart: u8, _turn: u32) {}
+    fn after(&self, calls: &mut Calls, hart: u8, turn: u32) {
+        calls.after(hart, turn);
+    }
 }
 
 /// A viewer that looks until it sees a step, and tells the gate.
@@ -164,16 +168,19 @@ impl Kept {
 }
 
 impl Gate for Kept {
-    fn before(&self, _hart: u8, turn: u32) -> Turn {
+    ghost made = { λ calls. calls };
+
+    fn before(&self, calls: &mut Calls, hart: u8, turn: u32) -> Turn {
         if turn == 0 && !self.look_kept.comes() {
             self.gave_up.set();
-            return Turn::End;
+            return calls.before(hart, turn, Turn::End);
         }
-        Turn::Go
+        calls.before(hart, turn, Turn::Go)
     }
 
-    fn after(&self, _hart: u8, _turn: u32) {
+    fn after(&self, calls: &mut Calls, hart: u8, turn: u32) {
         self.stepped.set();
+        calls.after(hart, turn);
     }
 }
 

@@ -81,11 +81,11 @@ fn look_beside_the_lock<J: Naming + Send + Sync, R: Abort + Threads + Wait + Syn
     requires names { blanks ≡ J.names }
     requires image { core.image ≡ J.image }
 {
-    let (machine, shares) = Machine::<J>::open(alloc, core, blanks).expect(rt, "it opens");
+    let (machine, shares, sweeper) = Machine::<J>::open(alloc, core, blanks).expect(rt, "it opens");
     let shared = Shared::new(machine);
     let watch = watch_of(rt, &shared).expect(rt, "there is a place");
     assert!(rt; hold_and_look(rt, &shared, watch));
-    let _core = shared.into_machine().close(rt, shares);
+    let _core = shared.into_machine().close(rt, shares, sweeper);
 }
 
 #[test]

@@ -99,24 +99,30 @@ impl<J: Naming> Watched<J> {
     }
 
     /// A watch of the machine, which has seen its trace of now. Fails with `NoPlace` where no place
-    /// is free, and with `NoMemory` where the first one finds none for two copies of the core.
+    /// is free, and with `NoMemory` where the first one finds none for two copies of the core; then
+    /// nothing changes.
     pub fn watch(&mut self) -> Result<Watch<J>, WatchFault>
         ensures watch { IfOk result (λ watch.
             watch ≡ watch_of self.old.core.image self.old.core.trace) }
         ensures same { self.new.core ≡ self.old.core }
         ensures copied { OnOk result (self.new.is_copied ≡ true) }
-        ensures place { result ≡ Err WatchFault.NoPlace → self.new.is_copied ≡ true }
-        ensures memory { result ≡ Err WatchFault.NoMemory
-            → (self.old.is_copied ≡ false) × (self.new.is_copied ≡ false) }
+        ensures unchanged { OnErr result (self.new ≡ self.old) }
+        ensures place { result ≡ Err WatchFault.NoPlace → self.old.is_copied ≡ true }
+        ensures memory { result ≡ Err WatchFault.NoMemory → self.old.is_copied ≡ false }
     {
         let receipt = self.receipt();
         match &self.stage {
             Stage::Copied(pair) => pair.watch(receipt),
             Stage::Alone(core) => {
                 let pair = Pair::of(self.alloc, core, &self.keeper.seen())?;
-                let watch = pair.watch(receipt);
-                self.stage = Stage::Copied(pair);
-                watch
+                match pair.watch(receipt) {
+                    Ok(watch) => {
+                        self.stage = Stage::Copied(pair);
+                        Ok(watch)
+                    }
+                    // New copies have all their places, though no contract says so.
+                    Err(_) => Err(WatchFault::NoMemory),
+                }
             }
         }
     }

@@ -13,3 +13,6 @@ returns-clause-image g c =
 
 pub returns-clause-counts : goal.returns-clause-counts
 returns-clause-counts g c = c.audited.ensures.counts
+
+pub returns-clause-sweeps : goal.returns-clause-sweeps
+returns-clause-sweeps g c = c.audited.ensures.sweeps

@@ -7,7 +7,7 @@ use Rattle.cheri_model.specs.runs.Machine.{entry_of}
 use Rattle.cores.specs.Cores.{CoreParts, applied, core_after, refused}
 use Rattle.cores.proofs.CoreLemmas.{hart_is_there}
 use Rattle.shared_machine.proofs.CopyLemmas.{applied_after, core_is, ends_with_step, refused_for_another, refused_step_answered, step_refused_for_another, taken_step_answered}
-use Rattle.shared_machine.proofs.ShareLemmas.{counted_after}
+use Rattle.shared_machine.proofs.ShareLemmas.{counted_after, swept_still}
 use Rattle.shared_machine.proofs.machines.Machine.step.Goals as goal
 
 pub returns-in-Some-clause-answered : goal.returns-in-Some-clause-answered
@@ -44,6 +44,7 @@ invariant_of-self-2 g c =
     c.in-Ok.ensures.ok ∙ ap (λ n. core_after c.self.inside.watched.core (operation.Step n)) c.hart-hart.ensures.hart in (
       rw c.add.ensures.books (counted_after c.self.inside.books c.self.inside.watched.core c.take.new.self.core hart _ c.add.ensures.inside after c.self.invariant.0),
       ap (λ (k : CoreParts). k.image) after ∙ c.self.invariant.1,
+      c.self.invariant.2 ∙ sym (swept_still c.self.inside.watched.core c.take.new.self.core hart after),
     )
 
 pub returns-clause-answered : goal.returns-clause-answered

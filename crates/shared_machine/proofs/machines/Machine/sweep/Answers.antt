@@ -1,12 +1,12 @@
--- A sweep is refused where the core refuses it, and no share counts one that is taken.
-use Rattle.std.proofs.Common.{◌≡◌, sym, ap, ◌∙◌}
+-- A sweep is refused where the core refuses it, and the sweeper counts one that is taken, and no share.
+use Rattle.std.proofs.Common.{◌≡◌, ℕ, ◌+◌, refl, sym, ap, ◌∙◌}
 use Rattle.std.specs.Prelude.{None}
 use Rattle.cheri_model.specs.declared.operation.Op.TheVariants as operation
 use Rattle.cheri_model.specs.declared.operation.Event.TheVariants as event
 use Rattle.cheri_model.specs.runs.Machine.{cleared}
 use Rattle.cores.specs.Cores.{CoreParts, applied, core_after, refused}
 use Rattle.shared_machine.proofs.CopyLemmas.{after_some, applied_after, core_is, refused_answered, refused_for_another, taken_answered}
-use Rattle.shared_machine.proofs.ShareLemmas.{counted_still}
+use Rattle.shared_machine.proofs.ShareLemmas.{counted_still, swept_more}
 use Rattle.cores.proofs.SweepLemmas.{ends_with_sweep, none_left, state_swept}
 use Rattle.shared_machine.proofs.machines.Machine.sweep.Goals as goal
 
@@ -28,7 +28,14 @@ unfolding core_after
 invariant_of-self-2 g c = (
   counted_still c.self.inside.books c.self.inside.watched.core c.take.new.self.core c.args.lo c.args.hi _ c.in-Ok.ensures.ok c.self.invariant.0,
   ap (λ (k : CoreParts). k.image) c.in-Ok.ensures.ok ∙ c.self.invariant.1,
+  c.count.ensures.book ∙ (ap (λ (n : ℕ). n + 1) c.self.invariant.2 ∙ sym (swept_more c.self.inside.watched.core c.take.new.self.core c.args.lo c.args.hi c.in-Ok.ensures.ok)),
 )
+
+pub returns-in-Some-clause-kept : goal.returns-in-Some-clause-kept
+returns-in-Some-clause-kept g c = (refl, refl)
+
+pub returns-in_default-clause-kept : goal.returns-in_default-clause-kept
+returns-in_default-clause-kept g c = (c.in_default.ensures.err ∙ (core_is c.self.view_is), refl)
 
 pub returns-clause-answered : goal.returns-clause-answered
 returns-clause-answered g c =

@@ -1,5 +1,5 @@
 -- What is shown goes on from what was seen, where it is no shorter.
-use Rattle.std.proofs.Common.{◌≡◌, ◌≤◌, ◌<◌, length, sym, ap, ◌∙◌, arith}
+use Rattle.std.proofs.Common.{◌≡◌, ◌≤◌, length, sym, ap, ◌∙◌, arith}
 use Rattle.shared_machine.proofs.CopyLemmas.{trace_prefix, length-replayed_events}
 use Rattle.shared_machine.proofs.watching.watch.Receipt.followed.Goals as goal
 
