@@ -99,10 +99,13 @@ module _ {S : Type 0} (next : S → ℕ → Option S) (actors : ℕ) (fits : S �
               inr (omega arith, λ takes. omega arith)
           | inr other ↦
               let no_more : to_go x m ≤ to_go s m = h.falls s x l m fit goes low (λ same. other (sym same)) in
-              inr (omega arith, λ takes. elim takes [
-                | inl here ↦ absurd (other here)
-                | inr later ↦ let fewer = rest.1 later in omega arith
-              ])
+              inr (
+                omega arith,
+                λ takes. elim takes [
+                  | inl here ↦ absurd (other here)
+                  | inr later ↦ let fewer = rest.1 later in omega arith
+                ],
+              )
         ]
   ]
 
@@ -115,10 +118,13 @@ module _ {S : Type 0} (next : S → ℕ → Option S) (actors : ℕ) (fits : S �
       | inr rest ↦
           let no_less = rest.0 in
           let no_more : to_go x m ≤ to_go s m = h.falls s x l m fit goes low (λ same. other (sym same)) in
-          inr (omega arith, λ takes. elim takes [
-            | inl here ↦ absurd (other here)
-            | inr later ↦ let fewer = rest.1 later in omega arith
-          ])
+          inr (
+            omega arith,
+            λ takes. elim takes [
+              | inl here ↦ absurd (other here)
+              | inr later ↦ let fewer = rest.1 later in omega arith
+            ],
+          )
     ]
   ]
 
