@@ -99,6 +99,7 @@ end
 ";
 
 /// A clock that a test sets, in milliseconds; it cannot be read at 0.
+#[derive(Drop)]
 struct Stopwatch {
     time: Cell<u64>,
 }
