@@ -41,14 +41,9 @@ def load_rt() -> ModuleType:
     return made
 
 
-def take(file: str, copy: str) -> None:
-    """A file of kept work: a link, but for the one that the prover writes in place, which says when it was used."""
-    (shutil.copy2 if os.path.basename(file) == "rattle-last-used" else os.link)(file, copy)
-
-
-def linked(kept: str, copy: str) -> None:
-    """A copy of a folder of kept work."""
-    shutil.copytree(kept, copy, copy_function=take)
+def copied(kept: str, copy: str) -> None:
+    """A copy of a folder of kept work. Links would not do: this kit's prover writes some of its files in place."""
+    shutil.copytree(kept, copy)
 
 
 def listing(kept: str) -> list[tuple[str, int, int, int]]:
@@ -62,9 +57,9 @@ def listing(kept: str) -> list[tuple[str, int, int, int]]:
 
 
 def fill_in(made: ModuleType) -> None:
-    """What rt of kit 13b lacks of what 13f's has: both calls on kept work, and names for what must_fail answers, which
-    is only whether an edit was refused."""
-    made.linked, made.listing = linked, listing
+    """What rt of kit 13b lacks of what 13f's has: calls on kept work, and names for what must_fail answers, which is only
+    whether an edit was refused."""
+    made.linked, made.listing = copied, listing
     made.REFUSED = made.AT_LIMIT = True
     made.SETTLED = (True,)
 
