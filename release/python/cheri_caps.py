@@ -1,8 +1,8 @@
 """Bounds, words and instructions of compressed CHERI capabilities (CHERI Concentrate, 128 bits, RV64).
 
 The functions of the C library `cheri_caps`, whose answers are proved. One file over `ctypes`; it
-needs no other package. The library is found beside this file, as `bindings/build` lays both out, or
-where the environment variable CHERI_CAPS_LIBRARY names it.
+needs no other package. The library is found beside this file, as the wheel or `bindings/build` lays
+both out, or where the environment variable CHERI_CAPS_LIBRARY names it.
 
     >>> Capability.root().set_address(0x80000000).set_bounds(100)
     <Capability 0x80000000 [0x80000000, 0x80000064) all>
@@ -84,7 +84,11 @@ class _Made(ctypes.Structure):
 
 def _library() -> ctypes.CDLL:
     named = os.environ.get("CHERI_CAPS_LIBRARY")
-    return ctypes.CDLL(named or str(Path(__file__).parents[1] / "lib" / "libcheri_caps.so.1"))
+    here = Path(__file__).resolve().parent
+    folder = here / "cheri_caps.libs"  # where a wheel has it
+    if not folder.is_dir():
+        folder = here.parent / "lib"  # where bindings/build puts it
+    return ctypes.CDLL(named or str(folder / "libcheri_caps.so.1"))
 
 
 _lib = _library()
