@@ -1,91 +1,88 @@
 -- What the program prints, as the ending of a request.
-use Rattle.std.proofs.Common.{◌≡◌, ◌≢◌, subst, sym, ℕ, List, refl, inl, inr, true}
-use Rattle.std.specs.Prelude.{◌⊎◌, IfErr, OnOk, Option, Some, None, Result, Ok, Err}
+use Rattle.std.proofs.Common.{◌≡◌, ◌≢◌, ◌≤◌, arith, ℕ, List, refl, inl, inr, true}
+use Rattle.std.specs.Prelude.{◌⊎◌, IfErr, IfOk, IfSome, Option, Some, None, Result, Ok, Err}
 use Rattle.report_lines.specs.Texts.{line}
 use Rattle.sinks.specs.Sinks.{TakesPrefix}
 use Rattle.cores.specs.Runs.{Stop}
-use Rattle.cores.specs.declared.faults.StepFault.{StepFault}
 use Rattle.printing.specs.Endings.{FailsBy, HasWhole}
-use Rattle.printing.proofs.EndingLemmas.{whole_more, fails_more}
 use Rattle.inputs.specs.Files.{KnownFiles, AreBytesOf}
-use Rattle.inputs.specs.Reading.{AreTextsUnread, OfTexts}
+use Rattle.inputs.specs.Reading.{AreTextsUnread}
 use Rattle.inputs.specs.declared.fault.InputFault.{InputFault}
 use Rattle.inputs.proofs.InputLemmas.{texts_fail}
 use Rattle.explain_line.specs.Requests.{ExplainAsked}
-use Rattle.command_line.specs.declared.faults.CommandFault.{CommandFault}
-use Rattle.command_line.specs.declared.faults.CommandFault.TheVariants as commands
-use Rattle.explain_program.specs.declared.faults.Fault.{Fault}
-use Rattle.explain_program.specs.declared.faults.Fault.TheVariants as faults
-use Rattle.explain_program.specs.Faults.{failure_of, fault_text, status_of, command_fault, no_memory}
+use Rattle.program_io.specs.Endings.{IsTold}
+use Rattle.program_io.specs.Faults.{no_memory, text_of, status_of as status_by}
+use Rattle.program_io.specs.declared.fault.Fault.TheVariants.{Usage, Input, Own}
+use Rattle.program_io.proofs.EndingLemmas.{told, told_ends, told_most, told_some}
+use Rattle.program_io.proofs.FaultLemmas.{reported}
+use Rattle.explain_program.specs.declared.faults.OwnFault.TheVariants.{Step}
+use Rattle.explain_program.specs.Faults.{Fault, failure_of, fault_text, is_refusal, own_failure, own_text, status_of}
 use Rattle.explain_program.specs.Explaining.{Answer, IsExplained}
-use Rattle.explain_program.specs.Program.{FailsWith, IsAnswer}
-use Rattle.explain_program.proofs.FaultLemmas.{reported}
+use Rattle.explain_program.specs.Program.{Concludes, FailsWith, IsAnswer}
 
-module _ (files : KnownFiles) (asked : ExplainAsked) (old new : Option (List ℕ)) where
+module _ (files : KnownFiles) (asked : ExplainAsked) where
   -- the answers of two texts are those of their files
-  of_files : (listing order : List ℕ) → AreBytesOf (files asked.listing) listing → AreBytesOf (files asked.order) order
+  pub of_files : (listing order : List ℕ) → AreBytesOf (files asked.listing) listing → AreBytesOf (files asked.order) order
       → (answer : Answer) → IsExplained asked.form asked.first asked.last listing order answer → IsAnswer files (Some asked) answer
   of_files listing order first second answer is = inr (listing, first, inr (order, second, is))
 
   -- files that were not read
-  pub texts_unread : (fault : InputFault) → AreTextsUnread (files asked.listing) (files asked.order) fault → new ≡ old
-      → FailsBy (failure_of (faults.Input fault)) (IsAnswer files (Some asked)) (faults.Input fault) old new
-  texts_unread fault is same =
-      texts_fail (λ f. faults.Input f) failure_of true reported old new (λ answer first second. IsExplained asked.form asked.first asked.last first second answer)
-      (files asked.listing) (files asked.order) fault is same
+  pub texts_unread : (old new : Option (List ℕ)) (fault : InputFault) → AreTextsUnread (files asked.listing) (files asked.order) fault
+      → new ≡ old → FailsBy (failure_of (Input fault)) (IsAnswer files (Some asked)) (Input fault) old new
+  texts_unread old new fault is same =
+      texts_fail (λ f. Input f) failure_of true (reported own_failure true) old new
+      (λ answer first second. IsExplained asked.form asked.first asked.last first second answer) (files asked.listing) (files asked.order) fault is same
 
-  -- an explanation that was printed, up to a refused step or to the end
-  pub explained_whole : (listing order : List ℕ) (stop : Option Stop)
-      → AreBytesOf (files asked.listing) listing → AreBytesOf (files asked.order) order
-      → HasWhole (IsExplained asked.form asked.first asked.last listing order) stop old new
-      → HasWhole (IsAnswer files (Some asked)) stop old new
-  explained_whole listing order stop first second printed =
-      whole_more (IsExplained asked.form asked.first asked.last listing order) (IsAnswer files (Some asked))
-      (of_files listing order first second) old new stop printed
+-- what is said of a fault
+pub told_of : (fault : Fault) (status : ℕ) (old new : Option (List ℕ)) → status ≡ status_by is_refusal fault
+    → IfSome (text_of (λ f. Some (own_text f)) fault) (λ text. TakesPrefix old new (line text)) → IsTold status_of fault_text fault status old new
+told_of fault status old new is written = told is_refusal own_text fault status old new is written
 
-  pub explained_stops : (listing order : List ℕ) (place : ℕ) (fault : StepFault)
-      → AreBytesOf (files asked.listing) listing → AreBytesOf (files asked.order) order
-      → HasWhole (IsExplained asked.form asked.first asked.last listing order) (Some (place, fault)) old new
-      → FailsBy (failure_of (faults.Step place fault)) (IsAnswer files (Some asked)) (faults.Step place fault) old new
-  explained_stops listing order place fault first second printed = explained_whole listing order (Some (place, fault)) first second printed
+-- The exit status of a command that ended so.
+module _ (status : ℕ) (err_old err_new : Option (List ℕ)) where
+  pub most : (ended : Result (Option Stop) Fault) → Concludes ended status err_old err_new → status ≤ 3
+  most (Ok None) is = rw is.0 (omega arith)
+  most (Ok (Some stop)) is = told_most is_refusal own_text (Own (Step stop.0 stop.1)) status err_old err_new is
+  most (Err fault) is = told_most is_refusal own_text fault status err_old err_new is
 
-  -- or was not printed whole
-  pub explained_fails : (listing order : List ℕ) (fault : Fault)
-      → AreBytesOf (files asked.listing) listing → AreBytesOf (files asked.order) order
-      → FailsBy (failure_of fault) (IsExplained asked.form asked.first asked.last listing order) fault old new
-      → FailsBy (failure_of fault) (IsAnswer files (Some asked)) fault old new
-  explained_fails listing order fault first second fails =
-      fails_more (IsExplained asked.form asked.first asked.last listing order) (IsAnswer files (Some asked))
-      (of_files listing order first second) old new (failure_of fault) fault fails
+  pub quiet : (ended : Result (Option Stop) Fault) → Concludes ended status err_old err_new → status ≡ 0 → err_new ≡ err_old
+  quiet (Ok None) is none = is.1
+  quiet (Ok (Some stop)) is none = told_some is_refusal own_text (Own (Step stop.0 stop.1)) status err_old err_new is none
+  quiet (Err fault) is none = told_some is_refusal own_text fault status err_old err_new is none
 
-pub ruleset answers = (texts_unread, explained_whole, explained_stops, explained_fails)
+  pub nothing : (ended : Result (Option Stop) Fault) → Concludes ended status err_old err_new
+      → (ended ≡ Err Usage) ⊎ (ended ≡ Err no_memory) → (status ≡ 2) ⊎ (status ≡ 3)
+  nothing ended is (inl usage) = let told = rw usage at is in inl told.0
+  nothing ended is (inr memory) = let told = rw memory at is in inr told.0
+
+  module _ (files : KnownFiles) (request : Option ExplainAsked) (old new : Option (List ℕ)) where
+    pub whole : (ended : Result (Option Stop) Fault) → Concludes ended status err_old err_new
+        → IfOk ended (λ stop. HasWhole (IsAnswer files request) stop old new) → status ≡ 0 → HasWhole (IsAnswer files request) None old new
+    whole (Ok None) is printed none = printed
+    whole (Ok (Some stop)) is printed none = told_some is_refusal own_text (Own (Step stop.0 stop.1)) status err_old err_new is none
+    whole (Err fault) is printed none = told_some is_refusal own_text fault status err_old err_new is none
+
+    pub failed : (ended : Result (Option Stop) Fault) → Concludes ended status err_old err_new
+        → IfOk ended (λ stop. HasWhole (IsAnswer files request) stop old new)
+        → IfErr ended (λ fault. FailsBy (failure_of fault) (IsAnswer files request) fault old new)
+        → status ≢ 0 → FailsWith files request status old new err_old err_new
+    failed (Ok None) is printed fails some = absurd (some is.0)
+    failed (Ok (Some stop)) is printed fails some =
+        told_ends is_refusal own_text (Own (Step stop.0 stop.1)) status err_old err_new
+        (λ fault. FailsBy (failure_of fault) (IsAnswer files request) fault old new) printed is
+    failed (Err fault) is printed fails some =
+        told_ends is_refusal own_text fault status err_old err_new
+        (λ fault. FailsBy (failure_of fault) (IsAnswer files request) fault old new) fails is
 
 -- arguments that ask for nothing
-pub command_fails : {X : Type 0} (files : KnownFiles) (request : Option ExplainAsked) (result : Result X CommandFault)
-    (refused : CommandFault) (old new : Option (List ℕ)) → result ≡ Err refused → (result ≡ Err commands.Usage → request ≡ None)
-    → new ≡ old → FailsBy (failure_of (command_fault refused)) (IsAnswer files request) (command_fault refused) old new
-command_fails files request result commands.Usage old new is nothing same =
-    subst (λ (r : Option ExplainAsked). FailsBy (failure_of faults.Usage) (IsAnswer files r) faults.Usage old new) (sym (nothing is)) (refl, same)
-command_fails files request result commands.NoMemory old new is nothing same = inl same
-
--- a fault, its status and its line, before which nothing was written
-pub fails_with : (files : KnownFiles) (request : Option ExplainAsked) (fault : Fault) (status : ℕ) (old new err_old err_now err_new : Option (List ℕ))
-    → status ≡ status_of fault → FailsBy (failure_of fault) (IsAnswer files request) fault old new → err_now ≡ err_old
-    → TakesPrefix err_now err_new (line (fault_text fault)) → FailsWith files request status old new err_old err_new
-fails_with files request fault status old new err_old err_now err_new is fails same told =
-    record { fault = fault; status_is = is; is_so = fails; told = rw same at told }
-
--- arguments that ask for nothing are a bad command line, or there was no memory to know it
-pub refused_words : {X : Type 0} (refused : CommandFault) → (◌≡◌ {A = Result X Fault} (Err (command_fault refused)) (Err faults.Usage))
-    ⊎ (◌≡◌ {A = Result X Fault} (Err (command_fault refused)) (Err no_memory))
-refused_words commands.Usage = inl refl
-refused_words commands.NoMemory = inr refl
+pub none_answers : (files : KnownFiles) (request : Option ExplainAsked) → request ≡ None → IsAnswer files request (Err Usage)
+none_answers files request is = rw is refl
 
 -- arguments that ask for this
-pub asked_printed : {E : Type 0} (files : KnownFiles) (request : Option ExplainAsked) (asked : ExplainAsked) (result : Result (Unit {0}) E)
+pub asked_printed : {E : Type 0} (files : KnownFiles) (request : Option ExplainAsked) (asked : ExplainAsked) (result : Result (Option Stop) E)
     (old new : Option (List ℕ)) → request ≡ Some asked
-    → OnOk result (HasWhole (IsAnswer files (Some asked)) None old new)
-    → OnOk result (HasWhole (IsAnswer files request) None old new)
+    → IfOk result (λ stop. HasWhole (IsAnswer files (Some asked)) stop old new)
+    → IfOk result (λ stop. HasWhole (IsAnswer files request) stop old new)
 asked_printed files request asked result old new is printed = rw is printed
 
 pub asked_fails : {T : Type 0} (files : KnownFiles) (request : Option ExplainAsked) (asked : ExplainAsked) (result : Result T Fault)
@@ -99,4 +96,4 @@ pub asked_something : {A : Type 0} (request : Option ExplainAsked) (asked : Expl
 asked_something request asked is none = absurd cc
 
 -- all of the program's endings
-pub ruleset endings = (answers, command_fails, fails_with)
+pub ruleset endings = (texts_unread, told_of)

@@ -1,15 +1,12 @@
 -- The explanation of a listing in an order, as the program answers it.
 use Rattle.std.specs.Prelude.{◌≡◌, ℕ, if◌then◌else◌, List, Option, Result, Ok, Err, IfOk}
-use Rattle.cores.specs.declared.cores.TheConstants.{GREATEST_TRACE_LIMIT}
 use Rattle.cores.specs.Runs.{IsConfinedRun, Run, Stop}
 use Rattle.simulation.specs.declared.faults.SimFault.{SimFault}
-use Rattle.simulation.specs.Simulation.{run_of_texts}
 use Rattle.printing.specs.Endings as endings
 use Rattle.explain_line.specs.declared.requests.Filter.{Filter}
 use Rattle.explain_line.specs.declared.requests.Filter.TheVariants as words
 use Rattle.explain_line.specs.declared.requests.ExplainFormat.{ExplainFormat}
 use Rattle.explain_line.specs.declared.requests.ExplainFormat.TheVariants.{Text, Json, Page}
-use Rattle.explain_line.specs.Requests.{ExplainAsked}
 use Rattle.explanations.specs.declared.runs.Format.{Format}
 use Rattle.explanations.specs.declared.runs.Format.TheVariants as format
 use Rattle.explanations.specs.declared.selection.Filter.{Filter as Shown}
@@ -17,9 +14,11 @@ use Rattle.explanations.specs.declared.selection.Filter.TheVariants as shown
 use Rattle.explanations.specs.declared.selection.Selection.{Selection}
 use Rattle.explanations.specs.ExplainedRuns.{explained}
 use Rattle.explained_page.specs.PagedRuns.{is_unpaged, paged}
-use Rattle.explain_program.specs.declared.faults.Fault.{Fault}
-use Rattle.explain_program.specs.declared.faults.Fault.TheVariants.{TooLong}
-use Rattle.explain_program.specs.Faults.{sim_fault}
+use Rattle.program_io.specs.Faults.{sim_fault}
+use Rattle.program_io.specs.Runs.{longest_run}
+use Rattle.program_io.specs.declared.fault.Fault.TheVariants.{Own}
+use Rattle.explain_program.specs.declared.faults.OwnFault.TheVariants.{TooLong}
+use Rattle.explain_program.specs.Faults.{Fault}
 
 abbrev pub Answer : Type 0
 Answer = endings.Answer (Option Stop) Fault
@@ -35,11 +34,6 @@ abbrev pub selection_of : ℕ → ℕ → Filter → Selection
 selection_of first last filter =
     record { first = first; last = last; filter = shown_by filter }
 
--- the forms but the page
-abbrev pub listed : Format → Filter → ExplainFormat
-listed format.Text filter = Text filter
-listed format.Json filter = Json filter
-
 -- the answer of a run in a form: its events from `first` to `last`
 abbrev pub answer_in : ExplainFormat → ℕ → ℕ → List ℕ → Run → Answer
 answer_in (Text filter) first last listing run =
@@ -47,20 +41,28 @@ answer_in (Text filter) first last listing run =
 answer_in (Json filter) first last listing run =
     Ok (explained format.Json listing (selection_of first last filter) run, run.1)
 answer_in Page first last listing run =
-    if is_unpaged first last run then Err TooLong else Ok (paged listing first last run, run.1)
+    if is_unpaged first last run then Err (Own TooLong) else Ok (paged listing first last run, run.1)
 
 -- the answer of a run, or of the fault that its texts have
 abbrev pub answer_of_run : ExplainFormat → ℕ → ℕ → List ℕ → Result Run SimFault → Answer
 answer_of_run form first last listing (Ok run) = answer_in form first last listing run
 answer_of_run form first last listing (Err fault) = Err (sim_fault fault)
 
--- the run of two texts, with the greatest limit of a trace
-abbrev pub longest_run : List ℕ → List ℕ → Result Run SimFault
-longest_run listing order = run_of_texts listing order GREATEST_TRACE_LIMIT
+-- the answer of a run as text or JSON
+abbrev pub answer_of_list : Format → List ℕ → Selection → Result Run SimFault → Answer
+answer_of_list format listing selection (Ok run) =
+    Ok (explained format listing selection run, run.1)
+answer_of_list format listing selection (Err fault) = Err (sim_fault fault)
 
 -- This is the answer for two texts: the explanation of their run, whose values are confined to what
 -- its image gave.
 abbrev pub IsExplained : ExplainFormat → ℕ → ℕ → List ℕ → List ℕ → Answer → Type 0
 IsExplained form first last listing order answer =
     (answer ≡ answer_of_run form first last listing (longest_run listing order))
+    × IfOk (longest_run listing order) IsConfinedRun
+
+-- the same of text and JSON, of the events of a selection
+abbrev pub IsListed : Format → List ℕ → List ℕ → Selection → Answer → Type 0
+IsListed format listing order selection answer =
+    (answer ≡ answer_of_list format listing selection (longest_run listing order))
     × IfOk (longest_run listing order) IsConfinedRun

@@ -1,14 +1,16 @@
 -- What the program answers to its command line, and how it ends.
-use Rattle.std.specs.Prelude.{◌≡◌, ℕ, List, codes, Option, Some, None, Err, String}
+use Rattle.std.specs.Prelude.{◌≡◌, ℕ, List, codes, Option, Some, None, Result, Ok, Err, String}
 use Rattle.std.specs.Global.{Global}
 use Rattle.printing.specs.Endings.{EndsBy, FailsBy}
 use Rattle.inputs.specs.Arguments.{command_args}
 use Rattle.inputs.specs.Files.{KnownFiles}
 use Rattle.inputs.specs.Reading.{OfTexts}
 use Rattle.explain_line.specs.Requests.{ExplainAsked}
-use Rattle.explain_program.specs.declared.faults.Fault.{Fault}
-use Rattle.explain_program.specs.declared.faults.Fault.TheVariants.{Usage, Input}
-use Rattle.explain_program.specs.Faults.{failure_of, fault_text, status_of}
+use Rattle.cores.specs.Runs.{Stop}
+use Rattle.program_io.specs.Endings.{IsTold}
+use Rattle.program_io.specs.declared.fault.Fault.TheVariants.{Usage, Input, Own}
+use Rattle.explain_program.specs.declared.faults.OwnFault.TheVariants.{Step}
+use Rattle.explain_program.specs.Faults.{Fault, failure_of, fault_text, status_of}
 use Rattle.explain_program.specs.Explaining.{Answer, IsExplained}
 
 -- the command line of the arguments that are given after the program's name
@@ -29,3 +31,11 @@ FailsWith files request status old new err_old err_new =
     EndsBy status_of fault_text
     (λ fault. FailsBy (failure_of fault) (IsAnswer files request) fault old new)
     status err_old err_new
+
+-- A command that ended so has this exit status. Standard error got the line of the fault, or of the
+-- step that was refused, or a prefix of it.
+abbrev pub Concludes : Result (Option Stop) Fault → ℕ → Option (List ℕ) → Option (List ℕ) → Type 0
+Concludes (Ok None) status old new = (status ≡ 0) × (new ≡ old)
+Concludes (Ok (Some stop)) status old new =
+    IsTold status_of fault_text (Own (Step stop.0 stop.1)) status old new
+Concludes (Err fault) status old new = IsTold status_of fault_text fault status old new

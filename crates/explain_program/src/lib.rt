@@ -5,5 +5,6 @@ mod explaining;
 mod faults;
 mod program;
 
-pub use faults::Fault;
-pub use program::{perform, report_fault};
+pub use faults::{Fault, OwnFault};
+pub use program::perform;
+pub use program_io::report_fault;

@@ -1,74 +1,78 @@
 //! The program: explains one run, or reports why it failed.
 #![tactic(auto, using(crate::proofs::ProgramLemmas::endings))]
 
-ghost use Rattle.std.specs.Prelude.{◌≡◌, ◌≢◌, ◌≤◌, ◌⊎◌, IfErr, OnOk, Err, None, Some};
+ghost use Rattle.std.specs.Prelude.{◌≡◌, ◌≢◌, ◌≤◌, ◌⊎◌, IfErr, IfOk, Err, None, Some};
 ghost use Rattle.explain_line.specs.Requests.{explain_asked, explain_asked_by};
-ghost use Rattle.report_lines.specs.Texts.{line};
-ghost use Rattle.sinks.specs.Sinks.{TakesPrefix};
 ghost use Rattle.printing.specs.Endings.{FailsBy, HasWhole};
-ghost use Rattle.explain_program.specs.Faults.{failure_of, fault_text, status_of, no_memory};
-ghost use Rattle.explain_program.specs.Program.{command_line, IsAnswer, FailsWith};
+ghost use Rattle.program_io.specs.Faults.{no_memory};
+ghost use Rattle.program_io.specs.declared.fault.Fault.TheVariants.{Usage};
+ghost use Rattle.explain_program.specs.Faults.{failure_of};
+ghost use Rattle.explain_program.specs.Program.{command_line, IsAnswer, Concludes, FailsWith};
 
-use crate::explaining::print_asked;
-use crate::faults::Fault;
+use crate::explaining::write_asked;
+use crate::faults::{Fault, OwnFault};
+use cores::StepFault;
 use explain_line::{ExplainRequest, explain_request};
 use inputs::{Files, command_args, read_texts};
-use printing::write_line;
+use printing::give_back;
+use program_io::{finish, report_fault};
+use sinks::{Sink, ToWrite};
 use std::alloc::Global;
 use std::io::Write;
 
 /// Explains what a request asks for.
-fn explain<F: Files, O: Write>(
+fn explain<F: Files, S: Sink>(
     alloc: Global,
     request: ExplainRequest<'_>,
     files: &mut F,
-    out: &mut O,
-) -> Result<(), Fault>
-    ensures printed { OnOk result (HasWhole
-        (IsAnswer (F.bytes_of files.old) (Some (explain_asked_by request.entry))) None
-        (O.contents out.old) (O.contents out.new)) }
+    sink: &mut S,
+) -> Result<Option<(usize, StepFault)>, Fault>
+    ensures printed { IfOk result (λ end. HasWhole
+        (IsAnswer (F.bytes_of files.old) (Some (explain_asked_by request.entry))) end
+        (S.written sink.old) (S.written sink.new)) }
     ensures failed { IfErr result (λ fault. FailsBy (failure_of fault)
         (IsAnswer (F.bytes_of files.old) (Some (explain_asked_by request.entry))) fault
-        (O.contents out.old) (O.contents out.new)) }
+        (S.written sink.old) (S.written sink.new)) }
+    ensures identity { S.identity sink.new ≡ S.identity sink.old }
 {
     let texts = read_texts(files, request.listing, request.order)?;
     let (listing, order) = (texts.listing.as_slice(), texts.order.as_slice());
-    let refused = print_asked(alloc, request, listing, order, out)?;
-    match refused {
-        None => Ok(()),
-        Some((place, fault)) => Err(Fault::Step(place, fault)),
-    }
+    write_asked(alloc, request, listing, order, sink)
 }
 
-/// Does what the arguments ask for. The command line is judged first.
-fn answer<F: Files, O: Write>(
+/// Does what the arguments ask for. The command line is judged first. Answers the step that was
+/// refused, if one was.
+fn answer<F: Files, S: Sink>(
     alloc: Global,
     args: &[String],
     files: &mut F,
-    out: &mut O,
-) -> Result<(), Fault>
-    ensures printed { OnOk result (HasWhole
-        (IsAnswer (F.bytes_of files.old) (explain_asked (command_line args.now))) None
-        (O.contents out.old) (O.contents out.new)) }
+    sink: &mut S,
+) -> Result<Option<(usize, StepFault)>, Fault>
+    ensures printed { IfOk result (λ end. HasWhole
+        (IsAnswer (F.bytes_of files.old) (explain_asked (command_line args.now))) end
+        (S.written sink.old) (S.written sink.new)) }
     ensures failed { IfErr result (λ fault. FailsBy (failure_of fault)
         (IsAnswer (F.bytes_of files.old) (explain_asked (command_line args.now))) fault
-        (O.contents out.old) (O.contents out.new)) }
+        (S.written sink.old) (S.written sink.new)) }
     ensures nothing { explain_asked (command_line args.now) ≡ None
-        → (result ≡ Err Fault.Usage) ⊎ (result ≡ Err no_memory) }
+        → (result ≡ Err Usage) ⊎ (result ≡ Err no_memory) }
+    ensures identity { S.identity sink.new ≡ S.identity sink.old }
 {
     let args = command_args(alloc, "cheri_explain", args)?;
     let request = explain_request(alloc, args.as_slice())?;
-    explain(alloc, request, files, out)
+    explain(alloc, request, files, sink)
 }
 
-/// Reports a fault in one line, and gives its status, whether the line was taken or not.
-pub fn report_fault<E: Write>(err: &mut E, fault: Fault) -> u8
-    ensures status { result ≡ status_of fault }
-    ensures told { TakesPrefix (E.contents err.old) (E.contents err.new)
-        (line (fault_text fault)) }
+/// The exit status of a command that ended so: 0, or that of the fault, which is reported. A step
+/// that was refused is such a fault.
+fn conclude<E: Write>(err: &mut E, ended: Result<Option<(usize, StepFault)>, Fault>) -> u8
+    ensures { Concludes ended result (E.contents err.old) (E.contents err.new) }
 {
-    let _ = write_line(err, fault);
-    fault.status()
+    match ended {
+        Ok(None) => 0,
+        Ok(Some((place, fault))) => report_fault(err, Fault::Own(OwnFault::Step(place, fault))),
+        Err(fault) => report_fault(err, fault),
+    }
 }
 
 /// Does what the arguments of a command line ask for, which are those after the program's name, and
@@ -98,8 +102,9 @@ pub fn perform<F: Files, O: Write, E: Write>(
     ensures nothing { explain_asked (command_line args.now) ≡ None
         → (result ≡ 2) ⊎ (result ≡ 3) }
 {
-    match answer(alloc, args, files, out) {
-        Ok(()) => 0,
-        Err(fault) => report_fault(err, fault),
-    }
+    let mut sink = ToWrite::new(out);
+    let answered = answer(alloc, args, files, &mut sink);
+    let ended = finish(&mut sink, answered);
+    give_back(sink);
+    conclude(err, ended)
 }

@@ -1,6 +1,6 @@
 -- What was printed, as the ending of a command.
-use Rattle.std.proofs.Common.{◌≡◌, refl, subst, sym, ℕ, Bool, List, [], Option, Result, Ok, Err, append-nil, inl, inr}
-use Rattle.std.specs.Prelude.{OnOk, IfErr, ⊤, ◌⊎◌}
+use Rattle.std.proofs.Common.{◌≡◌, refl, ℕ, List, [], Option, Result, Ok, Err, append-nil, inl, inr}
+use Rattle.std.specs.Prelude.{OnOk, ⊤}
 use Rattle.std.specs.Io.KnownBytes.{Appends, Keeps}
 use Rattle.std.proofs.KnownBytes.{Appends-kept}
 use Rattle.sinks.specs.Sinks.{TakesPrefix}

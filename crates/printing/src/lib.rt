@@ -5,4 +5,4 @@ mod line;
 mod text;
 
 pub use line::write_line;
-pub use text::{flush, print, write_text};
+pub use text::{flush, give_back, print, write_text};

@@ -1,6 +1,6 @@
 //! A text that is written whole.
 
-ghost use Rattle.std.specs.Prelude.{OnOk};
+ghost use Rattle.std.specs.Prelude.{◌≡◌, OnOk};
 ghost use Rattle.std.specs.Io.KnownBytes.{Appends, Keeps};
 ghost use Rattle.sinks.specs.Sinks.{TakesPrefix};
 
@@ -17,6 +17,16 @@ pub fn flush<O: Write>(out: &mut O) -> Result<(), SinkFailed>
     }
 }
 
+/// Ends the loan of a writer as a sink.
+pub fn give_back<O: Write>(sink: ToWrite<'_, O>)
+    ensures { sink.exit.0.now ≡ sink.entry.writer.now }
+{
+    let ToWrite { writer, failures } = sink;
+    failures.end();
+    // A last look at the writer tells the caller what it holds now.
+    let _ = &*writer;
+}
+
 /// Writes all of a text. After a fault a prefix of it was written.
 pub fn write_text<O: Write>(out: &mut O, text: &str) -> Result<(), SinkFailed>
     ensures whole { OnOk result (Appends (O.contents out.old) (O.contents out.new) text.now) }
@@ -24,9 +34,7 @@ pub fn write_text<O: Write>(out: &mut O, text: &str) -> Result<(), SinkFailed>
 {
     let mut sink = ToWrite::new(out);
     let written = put_whole(&mut sink, text.as_bytes());
-    let writer = sink.into_writer();
-    // A last look at the writer tells the caller what it holds now.
-    let _ = &*writer;
+    give_back(sink);
     written
 }
 

@@ -1,78 +1,65 @@
--- What is said of a fault, and how a command fails by it.
-use Rattle.std.specs.Prelude.{ℕ, List, ◌++◌, codes, decimal, Bool, Option, Some}
-use Rattle.command_line.specs.declared.faults.CommandFault.{CommandFault}
-use Rattle.command_line.specs.declared.faults.CommandFault.TheVariants as commands
+-- The faults that only this program has: their lines, which are refusals, and what each leaves of the
+-- answer.
+use Rattle.std.specs.Prelude.{ℕ, List, ◌++◌, codes, decimal, Bool, true, false, Option, Some}
 use Rattle.cores.specs.Faults.{step_fault_text}
 use Rattle.cores.specs.Runs.{Stop}
 use Rattle.harts.specs.declared.faults.RunFault.{RunFault}
 use Rattle.harts.specs.declared.faults.RunFault.TheVariants as race
-use Rattle.inputs.specs.Faults.{fault_text as input_text, listing_fault, order_fault, status_of as input_status}
-use Rattle.inputs.specs.declared.fault.InputFault.TheVariants as inputs
 use Rattle.number_lines.specs.declared.numbers.NumberFault.{NumberFault}
 use Rattle.number_lines.specs.declared.numbers.NumberFault.TheVariants as numbers
-use Rattle.printing.specs.Endings.{Failure, Refused, Unwritten, OutOfMemory, Stopped}
-use Rattle.simulation.specs.declared.faults.SimFault.{SimFault}
-use Rattle.simulation.specs.declared.faults.SimFault.TheVariants as sim
-use Rattle.sinks.specs.declared.fault.WriteFault.{WriteFault}
-use Rattle.sinks.specs.declared.fault.WriteFault.TheVariants as written
-use Rattle.sim_program.specs.declared.faults.Fault.{Fault}
-use Rattle.sim_program.specs.declared.faults.Fault.TheVariants.{Usage, Input, BadNumber, CannotWrite, CannotStart, ImageDiffers, Step}
+use Rattle.printing.specs.Endings.{Failure, Refused, Stopped}
+use Rattle.program_io.specs.Faults as faults
+use Rattle.program_io.specs.Faults.{no_memory}
+use Rattle.program_io.specs.declared.fault.Fault.{Fault as FaultOf}
+use Rattle.program_io.specs.declared.fault.Fault.TheVariants.{Own}
+use Rattle.sim_program.specs.declared.faults.OwnFault.{OwnFault}
+use Rattle.sim_program.specs.declared.faults.OwnFault.TheVariants.{BadNumber, CannotStart, ImageDiffers, Step}
 
--- what standard error says of a fault
-abbrev pub fault_text : Fault → List ℕ
-fault_text Usage = codes "usage"
-fault_text (Input fault) = input_text fault
-fault_text BadNumber = codes "bad number"
-fault_text CannotWrite = codes "cannot write"
-fault_text CannotStart = codes "cannot start a worker"
-fault_text ImageDiffers = codes "image differs"
-fault_text (Step place fault) =
+-- why the program does not end with status 0
+abbrev pub Fault : Type 0
+Fault = FaultOf OwnFault
+
+-- what standard error says of it
+abbrev pub own_text : OwnFault → List ℕ
+own_text BadNumber = codes "bad number"
+own_text CannotStart = codes "cannot start a worker"
+own_text ImageDiffers = codes "image differs"
+own_text (Step place fault) =
     codes "order step " ++ (decimal place ++ (codes ": " ++ step_fault_text fault))
 
--- The exit status: 1 where a number, a text or a step was refused, 2 where the command line was, 3
--- for all else.
+-- a number or a step was refused
+abbrev pub is_refusal : OwnFault → Bool
+is_refusal BadNumber = true
+is_refusal CannotStart = false
+is_refusal ImageDiffers = false
+is_refusal (Step place fault) = true
+
+-- what it leaves of the answer
+abbrev pub own_failure : OwnFault → Failure (Option Stop)
+own_failure BadNumber = Refused
+own_failure CannotStart = Refused
+own_failure ImageDiffers = Refused
+own_failure (Step place fault) = Stopped (Some (place, fault))
+
+-- the line of any fault, its status, and what it leaves of the answer, which is printed in pieces or
+-- at once
+abbrev pub fault_text : Fault → List ℕ
+fault_text fault = faults.fault_text own_text fault
+
 abbrev pub status_of : Fault → ℕ
-status_of Usage = 2
-status_of (Input fault) = input_status fault
-status_of BadNumber = 1
-status_of (Step place fault) = 1
-status_of _ = 3
+status_of fault = faults.status_of is_refusal fault
 
--- how a command fails by it, whose text is printed in pieces or at once
 abbrev pub failure_of : Bool → Fault → Failure (Option Stop)
-failure_of in_pieces (Input inputs.NoMemory) = OutOfMemory in_pieces
-failure_of in_pieces CannotWrite = Unwritten
-failure_of in_pieces (Step place fault) = Stopped (Some (place, fault))
-failure_of in_pieces _ = Refused
-
--- Refusals as faults of the program.
-abbrev pub no_memory : Fault
-no_memory = Input inputs.NoMemory
-
-abbrev pub command_fault : CommandFault → Fault
-command_fault commands.Usage = Usage
-command_fault commands.NoMemory = no_memory
+failure_of in_pieces fault = faults.failure_of own_failure in_pieces fault
 
 -- arguments that no line answers
 abbrev pub number_fault : NumberFault → Fault
 number_fault numbers.NoMemory = no_memory
-number_fault numbers.BadNumber = BadNumber
+number_fault numbers.BadNumber = Own BadNumber
 
--- a report that was not written whole
-abbrev pub written_fault : WriteFault → Fault
-written_fault written.Write = CannotWrite
-written_fault written.NoMemory = no_memory
-
--- A simulation or a race that was refused. The program's limit is lawful, so booting only runs out
--- of memory.
-abbrev pub sim_fault : SimFault → Fault
-sim_fault (sim.Listing fault) = Input (listing_fault fault)
-sim_fault (sim.Order fault) = Input (order_fault fault)
-sim_fault (sim.Boot fault) = no_memory
-sim_fault (sim.Report fault) = written_fault fault
-
+-- A race that was refused. The program's limit is lawful, so booting only runs out of memory.
 abbrev pub race_fault : RunFault → Fault
 race_fault (race.Boot fault) = no_memory
 race_fault race.NoMemory = no_memory
-race_fault race.Spawn = CannotStart
-race_fault race.ImageDiffers = ImageDiffers
+race_fault race.Spawn = Own CannotStart
+race_fault race.ImageDiffers = Own ImageDiffers

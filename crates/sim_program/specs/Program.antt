@@ -1,6 +1,6 @@
 -- What the program answers to its command line, and how it ends.
 use Rattle.std.specs.Prelude.{◌≡◌, ℕ, List, codes, Option, Some, None, Ok, Err, Bool, true, false}
-use Rattle.std.specs.Prelude.{String}
+use Rattle.std.specs.Prelude.{String, Result}
 use Rattle.std.specs.Global.{Global}
 use Rattle.command_line.specs.Requests.{Asked, Check, Run, Race, Bounds, Decode}
 use Rattle.inputs.specs.Arguments.{command_args}
@@ -9,12 +9,17 @@ use Rattle.inputs.specs.Reading.{OfImage, OfTexts}
 use Rattle.inputs.specs.declared.fault.InputFault.{InputFault}
 use Rattle.number_lines.specs.Numbers.{range_answer, word_answer}
 use Rattle.printing.specs.Endings.{EndsBy}
-use Rattle.sim_program.specs.declared.faults.Fault.{Fault}
-use Rattle.sim_program.specs.declared.faults.Fault.TheVariants as fault
+use Rattle.program_io.specs.Endings.{IsTold}
+use Rattle.program_io.specs.declared.fault.Fault.TheVariants as fault
+use Rattle.report_lines.specs.Texts.{line}
+use Rattle.sinks.specs.Sinks.{TakesPrefix}
+use Rattle.sim_program.specs.declared.ended.Ended.{Ended}
+use Rattle.sim_program.specs.declared.ended.Ended.TheVariants as ended
+use Rattle.sim_program.specs.declared.faults.OwnFault.TheVariants.{BadNumber, Step}
 use Rattle.sim_program.specs.Answers.{check_line}
-use Rattle.sim_program.specs.Endings.{Answer, Fails}
-use Rattle.sim_program.specs.Faults.{fault_text, status_of}
-use Rattle.sim_program.specs.Races.{IsRaceAnswer, TellsLooks}
+use Rattle.sim_program.specs.Endings.{Answer, Fails, IsRunEnd}
+use Rattle.sim_program.specs.Faults.{Fault, fault_text, status_of}
+use Rattle.sim_program.specs.Races.{HasLooks, IsRaceAnswer, TellsLooks, looks_text}
 use Rattle.sim_program.specs.Runs.{IsRunAnswer}
 
 -- the command line of the arguments that are given after the program's name
@@ -28,7 +33,7 @@ unread input = Err (fault.Input input)
 -- `bounds` and `decode`: the line that answers their numbers, where they are numbers
 abbrev pub answer_of_numbers : Option (List ℕ) → Answer
 answer_of_numbers (Some text) = Ok (text, None)
-answer_of_numbers None = Err fault.BadNumber
+answer_of_numbers None = Err (fault.Own BadNumber)
 
 abbrev pub IsNumbersAnswer : Option (List ℕ) → Answer → Type 0
 IsNumbersAnswer found answer = answer ≡ answer_of_numbers found
@@ -65,3 +70,18 @@ FailsWith files request status old new err_old err_new =
     EndsBy status_of fault_text
     (λ told. Fails (IsAnswer files request) (is_in_pieces request) told old new)
     status err_old err_new
+
+-- a watched race ends with the looks of its viewer, and no other command does
+abbrev pub IsEndOf : Option Asked → Ended → Type 0
+IsEndOf (Some (Race listing turns watch)) end = HasLooks watch end
+IsEndOf _ end = IsRunEnd end
+
+-- A command that ended so has this exit status. Standard error got the line of the fault, of the
+-- step that was refused or of the looks, or a prefix of it.
+abbrev pub Concludes : Result Ended Fault → ℕ → Option (List ℕ) → Option (List ℕ) → Type 0
+Concludes (Ok ended.Done) status old new = (status ≡ 0) × (new ≡ old)
+Concludes (Ok (ended.Watched looks)) status old new =
+    (status ≡ 0) × TakesPrefix old new (line (looks_text looks))
+Concludes (Ok (ended.Stopped place refused)) status old new =
+    IsTold status_of fault_text (fault.Own (Step place refused)) status old new
+Concludes (Err refused) status old new = IsTold status_of fault_text refused status old new

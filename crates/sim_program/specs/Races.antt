@@ -1,6 +1,6 @@
 -- The race of a listing's harts, and what is printed of it.
 use Rattle.std.specs.Prelude.{◌≡◌, ℕ, ◌≤◌, List, ◌++◌, codes, decimal, length, Option, None}
-use Rattle.std.specs.Prelude.{Ok, Err, ⊤}
+use Rattle.std.specs.Prelude.{Ok, Err, ⊤, Bool, true, false}
 use Rattle.cheri_model.specs.runs.Image.{ImageParts}
 use Rattle.cheri_model.specs.runs.Replay.{IsReplay}
 use Rattle.report_lines.specs.Texts.{line}
@@ -9,9 +9,12 @@ use Rattle.sinks.specs.Sinks.{TakesPrefix}
 use Rattle.cores.specs.Cores.{CoreParts}
 use Rattle.harts.specs.declared.workers.HartReport.{HartReport}
 use Rattle.harts.specs.Reports.{AreReports}
-use Rattle.sim_program.specs.declared.faults.Fault.TheVariants.{CannotStart, ImageDiffers}
+use Rattle.program_io.specs.declared.fault.Fault.TheVariants.{Own}
+use Rattle.sim_program.specs.declared.faults.OwnFault.TheVariants.{CannotStart, ImageDiffers}
 use Rattle.sim_program.specs.declared.races.TheConstants.{LOOKS}
 use Rattle.sim_program.specs.Endings.{Answer}
+use Rattle.sim_program.specs.declared.ended.Ended.{Ended}
+use Rattle.sim_program.specs.declared.ended.Ended.TheVariants as ended
 
 -- A text shows a race of an image: it is the report of a machine that began as the image, and whose
 -- state is the replay of its trace, in which each hart's steps are those that its worker reported,
@@ -35,10 +38,17 @@ pub record TellsLooks (old new : Option (List ℕ)) : Type 0 where
   pub most : looks ≤ LOOKS
   pub told : TakesPrefix old new (line (looks_text looks))
 
+-- what the viewer of a watched race tells, and that of any other does not
+abbrev pub HasLooks : Bool → Ended → Type 0
+HasLooks true (ended.Watched looks) = looks ≤ LOOKS
+HasLooks true _ = ⊥
+HasLooks false ended.Done = ⊤
+HasLooks false _ = ⊥
+
 -- The answers to a race of an image: its report. A worker may not start; and only tests show that a
 -- race leaves the image that it was given.
 abbrev pub IsRaceAnswer : ImageParts → ℕ → Answer → Type 0
 IsRaceAnswer image turns (Ok shown) = (shown.1 ≡ None) × IsRace image turns shown.0
-IsRaceAnswer image turns (Err CannotStart) = ⊤
-IsRaceAnswer image turns (Err ImageDiffers) = ⊤
+IsRaceAnswer image turns (Err (Own CannotStart)) = ⊤
+IsRaceAnswer image turns (Err (Own ImageDiffers)) = ⊤
 IsRaceAnswer image turns (Err _) = ⊥

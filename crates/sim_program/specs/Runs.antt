@@ -1,13 +1,13 @@
 -- The run of a listing in an order, as the program answers it.
 use Rattle.std.specs.Prelude.{◌≡◌, ℕ, List, Result, Ok, Err, IfOk}
-use Rattle.cores.specs.declared.cores.TheConstants.{GREATEST_TRACE_LIMIT}
 use Rattle.simulation.specs.declared.faults.SimFault.{SimFault}
 use Rattle.cores.specs.Runs.{IsConfinedRun, Run}
-use Rattle.simulation.specs.Simulation.{json_of, report_of, run_of_texts}
+use Rattle.simulation.specs.Simulation.{json_of, report_of}
 use Rattle.command_line.specs.declared.found.Format.{Format}
 use Rattle.command_line.specs.declared.found.Format.TheVariants as forms
 use Rattle.sim_program.specs.Endings.{Answer}
-use Rattle.sim_program.specs.Faults.{sim_fault}
+use Rattle.program_io.specs.Faults.{sim_fault}
+use Rattle.program_io.specs.Runs.{longest_run}
 
 -- the report of a run in a form
 unfoldable pub report_in : Format → Run → List ℕ
@@ -18,10 +18,6 @@ report_in forms.Json run = json_of run
 abbrev pub answer_of_run : Format → Result Run SimFault → Answer
 answer_of_run form (Ok run) = Ok (report_in form run, run.1)
 answer_of_run form (Err fault) = Err (sim_fault fault)
-
--- the run of two texts, with the greatest limit of a trace
-abbrev pub longest_run : List ℕ → List ℕ → Result Run SimFault
-longest_run listing order = run_of_texts listing order GREATEST_TRACE_LIMIT
 
 -- this is the answer to a run of two texts; what the run leaves is confined to what its image gave
 abbrev pub IsRunAnswer : Format → List ℕ → List ℕ → Answer → Type 0

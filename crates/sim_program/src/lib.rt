@@ -2,13 +2,14 @@
 #![tactic(auto)]
 
 mod answers;
+mod ended;
 mod faults;
 mod laws;
 mod program;
 mod races;
-mod reporting;
 mod runs;
 
-pub use faults::Fault;
-pub use program::{perform, report_fault};
+pub use faults::{Fault, OwnFault};
+pub use program::perform;
+pub use program_io::report_fault;
 pub use races::look_often;

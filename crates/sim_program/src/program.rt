@@ -1,128 +1,146 @@
 //! The program: runs one command, or reports why it failed.
 #![tactic(auto, using(crate::proofs::ProgramLemmas::endings))]
 
-ghost use Rattle.std.specs.Prelude.{None, ◌≡◌, ◌≢◌, ◌≤◌, ◌⊎◌, IfOk, IfErr, OnErr, OnOk, Err, Some, false, true};
+ghost use Rattle.std.specs.Prelude.{None, ◌≡◌, ◌≢◌, ◌≤◌, ◌⊎◌, IfOk, IfErr, Err, Some, false, true};
 ghost use Rattle.command_line.specs.Requests.{asked, asked_by, Check, Run, Race};
 ghost use Rattle.grammar.specs.Tokens.{texts};
 ghost use Rattle.number_lines.specs.Numbers.{range_answer, word_answer};
 ghost use Rattle.printing.specs.Endings.{HasWhole};
-ghost use Rattle.report_lines.specs.Texts.{line};
-ghost use Rattle.sinks.specs.Sinks.{TakesPrefix};
-ghost use Rattle.sim_program.specs.Endings.{Fails};
-ghost use Rattle.sim_program.specs.Faults.{fault_text, no_memory, status_of};
-ghost use Rattle.sim_program.specs.Program.{command_line, IsAnswer, IsNumbersAnswer};
-ghost use Rattle.sim_program.specs.Program.{FailsWith, StderrGets, is_in_pieces};
+ghost use Rattle.program_io.specs.Faults.{no_memory};
+ghost use Rattle.program_io.specs.declared.fault.Fault.TheVariants.{Usage};
+ghost use Rattle.sim_program.specs.Endings.{Fails, IsRunEnd, stop_of};
+ghost use Rattle.sim_program.specs.Program.{command_line, IsAnswer, IsEndOf, IsNumbersAnswer};
+ghost use Rattle.sim_program.specs.Program.{Concludes, FailsWith, StderrGets, is_in_pieces};
+ghost use Rattle.sim_program.specs.Races.{HasLooks};
 
 use crate::answers::check_text;
-use crate::faults::Fault;
-use crate::races::print_race;
-use crate::runs::print_run;
+use crate::ended::Ended;
+use crate::faults::{Fault, OwnFault, number_fault};
+use crate::races::{write_looks, write_race};
+use crate::runs::write_run;
 use command_line::{Format, Request, parse};
 use inputs::{Files, command_args, read_image, read_texts};
 use number_lines::{range_line, word_line};
-use printing::{print, write_line};
+use printing::give_back;
+use program_io::{finish, report_fault};
+use sinks::{Sink, ToWrite, put_whole};
 use std::alloc::{AllocError, Global};
 use std::io::Write;
 use std::sync::Wait;
 use std::thread::Threads;
 
 /// `check LISTING`.
-fn check<F: Files, O: Write>(
+fn check<F: Files, S: Sink>(
     alloc: Global,
     listing: &str,
     files: &mut F,
-    out: &mut O,
-) -> Result<(), Fault>
-    ensures printed { OnOk result (HasWhole
-        (IsAnswer (F.bytes_of files.old) (Some (Check listing.now))) None
-        (O.contents out.old) (O.contents out.new)) }
+    sink: &mut S,
+) -> Result<Ended, Fault>
+    ensures written { IfOk result (λ end. HasWhole
+        (IsAnswer (F.bytes_of files.old) (Some (Check listing.now))) (stop_of end)
+        (S.written sink.old) (S.written sink.new)) }
+    ensures end { IfOk result IsRunEnd }
     ensures failed { IfErr result (λ fault. Fails
         (IsAnswer (F.bytes_of files.old) (Some (Check listing.now))) false fault
-        (O.contents out.old) (O.contents out.new)) }
+        (S.written sink.old) (S.written sink.new)) }
+    ensures identity { S.identity sink.new ≡ S.identity sink.old }
 {
     let image = read_image(alloc, files, listing)?;
-    print(out, check_text(alloc, &image)?.as_str())?;
-    Ok(())
+    put_whole(sink, check_text(alloc, &image)?.as_bytes())?;
+    Ok(Ended::Done)
 }
 
 /// `run LISTING --order FILE [--json]`: both files are read before either is judged.
-fn run<F: Files, O: Write>(
+fn run<F: Files, S: Sink>(
     alloc: Global,
     listing: &str,
     order: &str,
     form: Format,
     files: &mut F,
-    out: &mut O,
-) -> Result<(), Fault>
-    ensures printed { OnOk result (HasWhole
-        (IsAnswer (F.bytes_of files.old) (Some (Run listing.now order.now form))) None
-        (O.contents out.old) (O.contents out.new)) }
+    sink: &mut S,
+) -> Result<Ended, Fault>
+    ensures written { IfOk result (λ end. HasWhole
+        (IsAnswer (F.bytes_of files.old) (Some (Run listing.now order.now form))) (stop_of end)
+        (S.written sink.old) (S.written sink.new)) }
+    ensures end { IfOk result IsRunEnd }
     ensures failed { IfErr result (λ fault. Fails
         (IsAnswer (F.bytes_of files.old) (Some (Run listing.now order.now form))) true fault
-        (O.contents out.old) (O.contents out.new)) }
+        (S.written sink.old) (S.written sink.new)) }
+    ensures identity { S.identity sink.new ≡ S.identity sink.old }
 {
     let texts = read_texts(files, listing, order)?;
-    let refused = print_run(
+    write_run(
         alloc,
         form,
         texts.listing.as_slice(),
         texts.order.as_slice(),
-        out,
-    )?;
-    match refused {
-        None => Ok(()),
-        Some((place, fault)) => Err(Fault::Step(place, fault)),
-    }
+        sink,
+    )
 }
 
-/// `race LISTING --turns N [--watch]`: done, whatever stopped the harts. Where it is watched, `err`
-/// then gets the line of the looks.
-fn race<F: Files, O: Write, E: Write, R: Threads + Wait + Sync>(
-    rt: &R,
-    alloc: Global,
-    listing: &str,
+/// What `race` is asked for: the file of the listing, the most turns of a hart, and whether a viewer
+/// looks on.
+#[derive(Clone, Copy)]
+struct RaceAsked<'a> {
+    listing: &'a str,
     turns: u32,
     watch: bool,
+}
+
+/// `race LISTING --turns N [--watch]`: done, whatever stopped the harts.
+fn race<F: Files, S: Sink, R: Threads + Wait + Sync>(
+    rt: &R,
+    alloc: Global,
+    asked: RaceAsked<'_>,
     files: &mut F,
-    out: &mut O,
-    err: &mut E,
-) -> Result<(), Fault>
-    ensures printed { OnOk result (HasWhole
-        (IsAnswer (F.bytes_of files.old) (Some (Race listing.now turns watch))) None
-        (O.contents out.old) (O.contents out.new)) }
-    ensures failed { IfErr result (λ fault. Fails
-        (IsAnswer (F.bytes_of files.old) (Some (Race listing.now turns watch))) true fault
-        (O.contents out.old) (O.contents out.new)) }
-    ensures stderr { OnOk result (StderrGets (Some (Race listing.now turns watch))
-        (E.contents err.old) (E.contents err.new)) }
-    ensures stderr_unchanged { OnErr result (E.contents err.new ≡ E.contents err.old) }
+    sink: &mut S,
+) -> Result<Ended, Fault>
+    ensures written { IfOk result (λ end. HasWhole (IsAnswer (F.bytes_of files.old)
+        (Some (Race asked.entry.listing.now asked.entry.turns asked.entry.watch))) (stop_of end)
+        (S.written sink.old) (S.written sink.new)) }
+    ensures looks { IfOk result (HasLooks asked.entry.watch) }
+    ensures failed { IfErr result (λ fault. Fails (IsAnswer (F.bytes_of files.old)
+        (Some (Race asked.entry.listing.now asked.entry.turns asked.entry.watch))) true fault
+        (S.written sink.old) (S.written sink.new)) }
+    ensures identity { S.identity sink.new ≡ S.identity sink.old }
 {
-    let image = read_image(alloc, files, listing)?;
-    print_race(rt, alloc, image, turns, watch, out, err)
+    let image = read_image(alloc, files, asked.listing)?;
+    write_race(rt, alloc, image, asked.turns, asked.watch, sink)
 }
 
 /// `bounds BASE LEN`.
-fn bounds<O: Write>(alloc: Global, base: &str, len: &str, out: &mut O) -> Result<(), Fault>
-    ensures printed { OnOk result (HasWhole (IsNumbersAnswer (range_answer base.now len.now)) None
-        (O.contents out.old) (O.contents out.new)) }
+fn bounds<S: Sink>(alloc: Global, base: &str, len: &str, sink: &mut S) -> Result<Ended, Fault>
+    ensures written { IfOk result (λ end. HasWhole
+        (IsNumbersAnswer (range_answer base.now len.now)) (stop_of end)
+        (S.written sink.old) (S.written sink.new)) }
+    ensures end { IfOk result IsRunEnd }
     ensures failed { IfErr result (λ fault. Fails (IsNumbersAnswer (range_answer base.now len.now))
-        false fault (O.contents out.old) (O.contents out.new)) }
+        false fault (S.written sink.old) (S.written sink.new)) }
+    ensures identity { S.identity sink.new ≡ S.identity sink.old }
 {
-    let text = range_line(alloc, base.as_bytes(), len.as_bytes())?;
-    print(out, text.as_str())?;
-    Ok(())
+    let line = match range_line(alloc, base.as_bytes(), len.as_bytes()) {
+        Ok(line) => line,
+        Err(refused) => return Err(number_fault(refused)),
+    };
+    put_whole(sink, line.as_bytes())?;
+    Ok(Ended::Done)
 }
 
 /// `decode WORD`.
-fn decode<O: Write>(alloc: Global, word: &str, out: &mut O) -> Result<(), Fault>
-    ensures printed { OnOk result (HasWhole (IsNumbersAnswer (word_answer word.now)) None
-        (O.contents out.old) (O.contents out.new)) }
+fn decode<S: Sink>(alloc: Global, word: &str, sink: &mut S) -> Result<Ended, Fault>
+    ensures written { IfOk result (λ end. HasWhole (IsNumbersAnswer (word_answer word.now))
+        (stop_of end) (S.written sink.old) (S.written sink.new)) }
+    ensures end { IfOk result IsRunEnd }
     ensures failed { IfErr result (λ fault. Fails (IsNumbersAnswer (word_answer word.now)) false
-        fault (O.contents out.old) (O.contents out.new)) }
+        fault (S.written sink.old) (S.written sink.new)) }
+    ensures identity { S.identity sink.new ≡ S.identity sink.old }
 {
-    let text = word_line(alloc, word.as_bytes())?;
-    print(out, text.as_str())?;
-    Ok(())
+    let fields = match word_line(alloc, word.as_bytes()) {
+        Ok(fields) => fields,
+        Err(refused) => return Err(number_fault(refused)),
+    };
+    put_whole(sink, fields.as_bytes())?;
+    Ok(Ended::Done)
 }
 
 /// The arguments of the command line, of which the program's name is the first.
@@ -133,77 +151,88 @@ fn args_of<'a>(alloc: Global, args: &'a [String]) -> Result<Vec<&'a str>, AllocE
 }
 
 /// Does what a command line asks for.
-fn obey<F: Files, O: Write, E: Write, R: Threads + Wait + Sync>(
+fn obey<F: Files, S: Sink, R: Threads + Wait + Sync>(
     rt: &R,
     alloc: Global,
     request: Request<'_>,
     files: &mut F,
-    out: &mut O,
-    err: &mut E,
-) -> Result<(), Fault>
-    ensures printed { OnOk result (HasWhole
-        (IsAnswer (F.bytes_of files.old) (Some (asked_by request.entry))) None
-        (O.contents out.old) (O.contents out.new)) }
+    sink: &mut S,
+) -> Result<Ended, Fault>
+    ensures written { IfOk result (λ end. HasWhole
+        (IsAnswer (F.bytes_of files.old) (Some (asked_by request.entry))) (stop_of end)
+        (S.written sink.old) (S.written sink.new)) }
+    ensures end { IfOk result (IsEndOf (Some (asked_by request.entry))) }
     ensures failed { IfErr result (λ fault. Fails
         (IsAnswer (F.bytes_of files.old) (Some (asked_by request.entry)))
         (is_in_pieces (Some (asked_by request.entry))) fault
-        (O.contents out.old) (O.contents out.new)) }
-    ensures stderr { OnOk result (StderrGets (Some (asked_by request.entry))
-        (E.contents err.old) (E.contents err.new)) }
-    ensures stderr_unchanged { OnErr result (E.contents err.new ≡ E.contents err.old) }
+        (S.written sink.old) (S.written sink.new)) }
+    ensures identity { S.identity sink.new ≡ S.identity sink.old }
 {
     match request {
-        Request::Check { listing } => check(alloc, listing, files, out),
+        Request::Check { listing } => check(alloc, listing, files, sink),
         Request::Run {
             listing,
             order,
             form,
-        } => run(alloc, listing, order, form, files, out),
+        } => run(alloc, listing, order, form, files, sink),
         Request::Race {
             listing,
             turns,
             watch,
-        } => race(rt, alloc, listing, turns, watch, files, out, err),
-        Request::Bounds { base, len } => bounds(alloc, base, len, out),
-        Request::Decode { word } => decode(alloc, word, out),
+        } => {
+            let asked = RaceAsked {
+                listing,
+                turns,
+                watch,
+            };
+            race(rt, alloc, asked, files, sink)
+        }
+        Request::Bounds { base, len } => bounds(alloc, base, len, sink),
+        Request::Decode { word } => decode(alloc, word, sink),
     }
 }
 
 /// Does what the arguments ask for. The command line is judged first.
-fn answer<F: Files, O: Write, E: Write, R: Threads + Wait + Sync>(
+fn answer<F: Files, S: Sink, R: Threads + Wait + Sync>(
     rt: &R,
     alloc: Global,
     args: &[String],
     files: &mut F,
-    out: &mut O,
-    err: &mut E,
-) -> Result<(), Fault>
-    ensures printed { OnOk result (HasWhole
-        (IsAnswer (F.bytes_of files.old) (asked (command_line args.now))) None
-        (O.contents out.old) (O.contents out.new)) }
+    sink: &mut S,
+) -> Result<Ended, Fault>
+    ensures written { IfOk result (λ end. HasWhole
+        (IsAnswer (F.bytes_of files.old) (asked (command_line args.now))) (stop_of end)
+        (S.written sink.old) (S.written sink.new)) }
+    ensures end { IfOk result (IsEndOf (asked (command_line args.now))) }
     ensures failed { IfErr result (λ fault. Fails
         (IsAnswer (F.bytes_of files.old) (asked (command_line args.now)))
         (is_in_pieces (asked (command_line args.now))) fault
-        (O.contents out.old) (O.contents out.new)) }
+        (S.written sink.old) (S.written sink.new)) }
     ensures nothing { asked (command_line args.now) ≡ None
-        → (result ≡ Err Fault.Usage) ⊎ (result ≡ Err no_memory) }
-    ensures stderr { OnOk result (StderrGets (asked (command_line args.now))
-        (E.contents err.old) (E.contents err.new)) }
-    ensures stderr_unchanged { OnErr result (E.contents err.new ≡ E.contents err.old) }
+        → (result ≡ Err Usage) ⊎ (result ≡ Err no_memory) }
+    ensures identity { S.identity sink.new ≡ S.identity sink.old }
 {
     let args = args_of(alloc, args)?;
     let request = parse(alloc, args.as_slice())?;
-    obey(rt, alloc, request, files, out, err)
+    obey(rt, alloc, request, files, sink)
 }
 
-/// Reports a fault in one line, and gives its status, whether the line was taken or not.
-pub fn report_fault<E: Write>(err: &mut E, fault: Fault) -> u8
-    ensures status { result ≡ status_of fault }
-    ensures told { TakesPrefix (E.contents err.old) (E.contents err.new)
-        (line (fault_text fault)) }
+/// The exit status of a command that ended so: 0, or that of the fault, which is reported. A step
+/// that was refused is such a fault. The looks of a watched race are written to `err`.
+fn conclude<E: Write>(err: &mut E, ended: Result<Ended, Fault>) -> u8
+    ensures { Concludes ended result (E.contents err.old) (E.contents err.new) }
 {
-    let _ = write_line(err, fault);
-    fault.status()
+    match ended {
+        Ok(Ended::Done) => 0,
+        Ok(Ended::Watched(looks)) => {
+            write_looks(err, looks);
+            0
+        }
+        Ok(Ended::Stopped(place, fault)) => {
+            report_fault(err, Fault::Own(OwnFault::Step(place, fault)))
+        }
+        Err(fault) => report_fault(err, fault),
+    }
 }
 
 /// Does what the arguments of a command line ask for, which are those after the program's name, and
@@ -235,8 +264,9 @@ pub fn perform<F: Files, O: Write, E: Write, R: Threads + Wait + Sync>(
         (E.contents err.old) (E.contents err.new) }
     ensures nothing { asked (command_line args.now) ≡ None → (result ≡ 2) ⊎ (result ≡ 3) }
 {
-    match answer(rt, alloc, args, files, out, err) {
-        Ok(()) => 0,
-        Err(fault) => report_fault(err, fault),
-    }
+    let mut sink = ToWrite::new(out);
+    let answered = answer(rt, alloc, args, files, &mut sink);
+    let ended = finish(&mut sink, answered);
+    give_back(sink);
+    conclude(err, ended)
 }

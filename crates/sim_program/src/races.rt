@@ -1,24 +1,27 @@
-//! The race of a listing's harts, printed.
+//! The race of a listing's harts, and the report of what they left.
 #![tactic(auto, using(crate::proofs::RaceLemmas::races))]
 
-ghost use Rattle.std.specs.Prelude.{◌≡◌, ◌≤◌, ◌↔◌, length, OnOk, OnErr, IfOk, IfErr, Err, None};
+ghost use Rattle.std.specs.Prelude.{◌≡◌, ◌≤◌, ◌↔◌, ℕ, List, Option, length, IfOk, IfErr, Err};
 ghost use Rattle.std.specs.Prelude.{false, true};
 ghost use Rattle.cheri_model.specs.runs.Replay.{IsReplay};
 ghost use Rattle.cores.specs.Cores.{is_limit};
 ghost use Rattle.harts.specs.Reports.{AreReports};
 ghost use Rattle.report_lines.specs.Texts.{line};
 ghost use Rattle.printing.specs.Endings.{HasWhole};
+ghost use Rattle.reports.specs.Report.{report};
 ghost use Rattle.sinks.specs.Sinks.{TakesPrefix};
-ghost use Rattle.sim_program.specs.Endings.{Fails};
-ghost use Rattle.sim_program.specs.Races.{IsRaceAnswer, TellsLooks, looks_text};
+ghost use Rattle.sim_program.specs.Endings.{Fails, stop_of};
+ghost use Rattle.sim_program.specs.Races.{HasLooks, IsRace, IsRaceAnswer, looks_text};
 
-use crate::faults::Fault;
-use crate::reporting::print_report;
+use crate::ended::Ended;
+use crate::faults::{Fault, race_fault};
 use cheri_model::Image;
 use cores::{BootFault, Core, GREATEST_TRACE_LIMIT};
 use harts::{Calls, Gate, HartReport, RunFault, Turn, Viewer, run_harts, run_watched};
 use printing::write_line;
+use reports::write_report;
 use shared_machine::{Naming, Watch};
+use sinks::Sink;
 use std::alloc::Global;
 use std::io::Write;
 use std::marker::Model;
@@ -121,20 +124,21 @@ impl fmt::Display for Looks {
 }
 
 /// Writes how many looks a viewer got, whether the line is taken or not.
-fn write_looks<E: Write>(err: &mut E, looks: u32)
+pub fn write_looks<E: Write>(err: &mut E, looks: u32)
     ensures { TakesPrefix
         (E.contents err.old) (E.contents err.new) (line (looks_text looks)) }
 {
     let _ = write_line(err, Looks(looks));
 }
 
-/// Tells how many looks the viewer of a watched race got, whether the line is taken or not.
-fn tell_looks<E: Write>(err: &mut E, watch: bool, looker: &Looker)
-    ensures told { watch ≡ true → TellsLooks (E.contents err.old) (E.contents err.new) }
-    ensures stderr { watch ≡ false → E.contents err.new ≡ E.contents err.old }
+/// How a race ends: with the looks of its viewer, where it was watched.
+fn race_end(watch: bool, looker: &Looker) -> Ended
+    ensures { HasLooks watch result }
 {
     if watch {
-        write_looks(err, looker.looks());
+        Ended::Watched(looker.looks())
+    } else {
+        Ended::Done
     }
 }
 
@@ -170,30 +174,45 @@ fn raced<R: Threads + Wait + Sync>(
     }
 }
 
-/// Races the harts of an image, each in up to this many turns, and prints the report of what they
-/// left. Where the race is watched, a viewer looks on, and then its looks are printed to `err`,
-/// whether the line is taken or not.
-pub fn print_race<O: Write, E: Write, R: Threads + Wait + Sync>(
+/// Races the harts of an image, each in up to this many turns.
+fn run_race<R: Threads + Wait + Sync>(
     rt: &R,
     alloc: Global,
     image: Image,
     turns: u32,
     watch: bool,
-    out: &mut O,
-    err: &mut E,
-) -> Result<(), Fault>
-    ensures printed { OnOk result (HasWhole (IsRaceAnswer image turns) None
-        (O.contents out.old) (O.contents out.new)) }
+    looker: &mut Looker,
+) -> Result<Core, Fault>
+    ensures race { IfOk result (λ core. IsRace image turns
+        (report core.image core.trace core.state)) }
+    ensures refused { IfErr result (λ fault.
+        (at : Option (List ℕ)) → Fails (IsRaceAnswer image turns) true fault at at) }
+{
+    match raced(rt, alloc, image, turns, watch, looker) {
+        Ok((core, _reports)) => Ok(core),
+        Err(refused) => Err(race_fault(refused)),
+    }
+}
+
+/// Races the harts of an image, each in up to this many turns, and writes the report of what they
+/// left. Where the race is watched, a viewer looks on meanwhile.
+pub fn write_race<S: Sink, R: Threads + Wait + Sync>(
+    rt: &R,
+    alloc: Global,
+    image: Image,
+    turns: u32,
+    watch: bool,
+    sink: &mut S,
+) -> Result<Ended, Fault>
+    ensures written { IfOk result (λ end. HasWhole (IsRaceAnswer image turns) (stop_of end)
+        (S.written sink.old) (S.written sink.new)) }
+    ensures looks { IfOk result (HasLooks watch) }
     ensures failed { IfErr result (λ fault. Fails (IsRaceAnswer image turns) true fault
-        (O.contents out.old) (O.contents out.new)) }
-    ensures stderr { watch ≡ false → E.contents err.new ≡ E.contents err.old }
-    ensures told { watch ≡ true
-        → OnOk result (TellsLooks (E.contents err.old) (E.contents err.new)) }
-    ensures stderr_unchanged { OnErr result (E.contents err.new ≡ E.contents err.old) }
+        (S.written sink.old) (S.written sink.new)) }
+    ensures identity { S.identity sink.new ≡ S.identity sink.old }
 {
     let mut looker = Looker::new();
-    let (core, _reports) = raced(rt, alloc, image, turns, watch, &mut looker)?;
-    print_report(alloc, core.view(), out)?;
-    tell_looks(err, watch, &looker);
-    Ok(())
+    let core = run_race(rt, alloc, image, turns, watch, &mut looker)?;
+    write_report(alloc, core.view(), sink)?;
+    Ok(race_end(watch, &looker))
 }

@@ -1,8 +1,11 @@
-use Rattle.std.proofs.Common.{◌≡◌, refl, ◌∙◌, ap, sym, map}
+use Rattle.std.proofs.Common.{◌≡◌, refl, ◌∙◌, ap, sym, map, true}
 use Rattle.std.proofs.lemmas.Result.{err_from_is_err_and}
 use Rattle.explain_line.specs.Requests.{explain_asked, explain_asked_by}
 use Rattle.explain_program.specs.Program.{command_line}
-use Rattle.explain_program.proofs.ProgramLemmas.{command_fails, refused_words, asked_printed, asked_fails, asked_something}
+use Rattle.program_io.proofs.FaultLemmas.{command_fails, refused_words}
+use Rattle.explain_program.specs.Faults.{own_failure}
+use Rattle.explain_program.specs.Program.{IsAnswer}
+use Rattle.explain_program.proofs.ProgramLemmas.{asked_printed, asked_fails, asked_something, none_answers}
 use Rattle.explain_program.proofs.program.answer.Goals as goal
 
 pub returns-in_err-request-clause-failed : goal.returns-in_err-request-clause-failed
@@ -11,8 +14,9 @@ returns-in_err-request-clause-failed g c =
     let same : map (λ arg. arg.now) c.as_slice.result.now ≡ command_line c.args.args.now =
     ap (map (λ arg. arg.now)) c.as_slice.ensures.value ∙ c.in_ok-args.ensures in
     rw (p.1, p.2)
-    (command_fails (g.F.Files.bytes_of c.args.files.now) (explain_asked (command_line c.args.args.now)) c.explain_request.result
-    c.in_err-request.field-0.0 _ _ c.in_err-request.was (λ usage. ap explain_asked (sym same) ∙ c.explain_request.ensures.usage usage) refl)
+    (command_fails own_failure true (IsAnswer (g.F.Files.bytes_of c.args.files.now) (explain_asked (command_line c.args.args.now))) _ _
+    c.explain_request.result c.in_err-request.field-0.0 c.in_err-request.was
+    (λ usage. none_answers (g.F.Files.bytes_of c.args.files.now) _ (ap explain_asked (sym same) ∙ c.explain_request.ensures.usage usage)) refl)
 
 pub returns-in_err-request-clause-nothing : goal.returns-in_err-request-clause-nothing
 returns-in_err-request-clause-nothing g c =

@@ -1,0 +1,4 @@
+-- How a program ends.
+pub mod FaultLemmas
+pub mod EndingLemmas
+pub mod RunLemmas
