@@ -18,6 +18,10 @@ static cheri_range ranges[N];
 static cheri_bounds out[N];
 static cheri_cap caps[N];
 static uint64_t addrs[N], near[N], lens[N];
+/* Code and data, alike sealed; the aligned addresses in the bounds of caps, and what holds all memory. */
+static cheri_cap codes[N], datas[N], pccs[N];
+static uint64_t places[N];
+static cheri_range everywhere = {0, ~UINT64_C(0)};
 static volatile uint64_t sink;
 
 static uint64_t random_number(void) {
@@ -47,6 +51,41 @@ static void make_inputs(void) {
     }
 }
 
+static void make_jumps(void) {
+    cheri_cap root = cheri_caps_root(CHERI_CAPS_ALL);
+    cheri_cap plain = cheri_caps_root(CHERI_CAPS_ALL & ~CHERI_CAPS_EXECUTE);
+    for (int i = 0; i < N; i++) {
+        cheri_cap sealer = cheri_caps_set_address(root, random_number() % CHERI_CAPS_LAST_SEALABLE);
+        cheri_cap at = cheri_caps_set_address(root, random_number() >> 1 & ~UINT64_C(0xffff));
+        pccs[i] = cheri_caps_inc_offset(cheri_caps_set_bounds(at, random_size() % 0x100000 + 64), 16);
+        codes[i] = cheri_caps_seal(pccs[i], sealer);
+        datas[i] = cheri_caps_seal(cheri_caps_set_address(plain, random_number()), sealer);
+        do {
+            caps[i] = cheri_caps_set_bounds(cheri_caps_set_address(root, random_number()), random_size() | 1024);
+        } while (!caps[i].tag);
+        places[i] = (cheri_caps_read(caps[i]).base + 31) & ~UINT64_C(15);
+    }
+}
+
+static int checks_differ(void) {
+#define DIFFERS(name, arguments)                                                                   \
+    (cheri_caps_##name arguments.cause != conventional_##name arguments.cause ||                   \
+     cheri_caps_##name arguments.cause != 0)
+    int differ = 0;
+    for (int i = 0; i < N; i++) {
+        differ += DIFFERS(check_load, (caps[i], 1, places[i], 3, everywhere));
+        differ += DIFFERS(check_store_cap, (caps[i], 1, places[i], caps[i ^ 1], everywhere));
+        differ += DIFFERS(check_fetch, (pccs[i], everywhere));
+        differ += DIFFERS(check_jump, (pccs[i], 1, 4));
+        differ += DIFFERS(check_invoke, (codes[i], 1, datas[i], 2));
+        cheri_jumped a = cheri_caps_jump(pccs[i], pccs[i ^ 1], 1, 4), b = conventional_jump(pccs[i], pccs[i ^ 1], 1, 4);
+        cheri_jumped c = cheri_caps_invoke(codes[i], 1, datas[i], 2), d = conventional_invoke(codes[i], 1, datas[i], 2);
+        differ += !cheri_caps_equal_exact(a.pcc, b.pcc) || !cheri_caps_equal_exact(a.left, b.left) || !a.pcc.tag;
+        differ += !cheri_caps_equal_exact(c.pcc, d.pcc) || !cheri_caps_equal_exact(c.left, d.left) || !c.left.tag;
+    }
+    return differ;
+}
+
 static double now(void) {
     struct timespec time;
     clock_gettime(CLOCK_MONOTONIC, &time);
@@ -55,6 +94,11 @@ static double now(void) {
 
 static uint64_t sum_bytes(const void *from, size_t bytes) {
     uint64_t sum = 0, part;
+    if (bytes < 8) {
+        part = 0;
+        memcpy(&part, from, bytes);
+        return part;
+    }
     for (size_t i = 0; i + 8 <= bytes; i += 8) {
         memcpy(&part, (const char *)from + i, 8);
         sum ^= part;
@@ -69,7 +113,7 @@ static uint64_t sum_bytes(const void *from, size_t bytes) {
         double start = now();                                                                      \
         for (int i = 0; i < N; i++) {                                                              \
             __auto_type found = call;                                                              \
-            sum += sum_bytes(&found, sizeof found & ~(size_t)7);                                   \
+            sum += sum_bytes(&found, sizeof found);                                   \
         }                                                                                          \
         double taken = (now() - start) / N;                                                        \
         sink = sum;                                                                                \
@@ -114,6 +158,22 @@ int main(int argc, char **argv) {
     ALONE(read, (caps[i]));
     ALONE(seal, (caps[i], caps[i ^ 1]));
     ALONE(test_subset, (caps[i], caps[i ^ 1]));
+    make_jumps();
+    if (checks_differ()) {
+        printf("the checks differ\n");
+        return 1;
+    }
+    BOTH(check_load, (caps[i], 1, places[i], 3, everywhere));
+    BOTH(check_store, (caps[i], 1, places[i], 3, everywhere));
+    BOTH(check_load_cap, (caps[i], 1, places[i], everywhere));
+    BOTH(check_store_cap, (caps[i], 1, places[i], caps[i ^ 1], everywhere));
+    BOTH(check_swap, (caps[i], 1, places[i], caps[i ^ 1], everywhere));
+    BOTH(check_fetch, (pccs[i], everywhere));
+    BOTH(check_branch, (pccs[i], pccs[i].addr + 4));
+    BOTH(check_jump, (pccs[i], 1, 4));
+    BOTH(check_invoke, (codes[i], 1, datas[i], 2));
+    BOTH(jump, (pccs[i], pccs[i ^ 1], 1, 4));
+    BOTH(invoke, (codes[i], 1, datas[i], 2));
     double best = 1e18;
     for (int run = 0; run < runs; run++) {
         double start = now();

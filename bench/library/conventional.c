@@ -106,3 +106,183 @@ cheri_cap conventional_and_perms(cheri_cap cap, uint64_t mask) {
     cap.upper = ((fields & 0xffffffffffff) | (fields >> 48 & kept) << 48) ^ NULL_FIELDS;
     return cap;
 }
+
+/*
+ * Checks, which test a tag as the library does: it counts on the word of a capability alone.
+ */
+
+static inline uint64_t fields_of(cheri_cap cap) { return cap.upper ^ NULL_FIELDS; }
+
+static inline unsigned type_of(cheri_cap cap) { return fields_of(cap) >> 27 & 0x3ffff; }
+
+static inline bool has(cheri_cap cap, unsigned permission) { return fields_of(cap) >> (48 + permission) & 1; }
+
+static inline bool counts(cheri_cap cap) {
+    uint64_t fields = fields_of(cap), base;
+    if (!cap.tag || fields >> 46 & 3)
+        return false;
+    unsigned type = fields >> 27 & 0x3ffff, ie = fields >> 26 & 1, e = 0, b = fields & 0x3fff;
+    if (type == 0x3fffc || type == 0x3fffd)
+        return false;
+    if (ie) {
+        e = (fields >> 14 & 7) << 3 | (b & 7);
+        if (e > 52)
+            return false;
+        b &= ~7u;
+    }
+    wide top = decode(cap.upper, cap.addr, &base);
+    return (base >> e & 0x3fff) == b && base <= top && top <= (wide)1 << 64;
+}
+
+static inline bool holds(cheri_cap cap, uint64_t from, unsigned bytes) {
+    uint64_t base;
+    wide top = decode(cap.upper, cap.addr, &base);
+    return base <= from && (wide)from + bytes <= top;
+}
+
+static inline bool lies_in(cheri_range range, uint64_t from, unsigned bytes) {
+    return range.base <= from && (wide)from + bytes <= (wide)range.base + range.len;
+}
+
+static inline cheri_trap trap(unsigned cause, unsigned reg) {
+    return (cheri_trap){(uint8_t)cause, (uint8_t)reg};
+}
+
+static inline cheri_trap check_access(cheri_cap auth, uint8_t reg, uint64_t addr, unsigned bytes, bool loads,
+                                      bool stores, const cheri_cap *stored, cheri_range memory) {
+    if (!counts(auth))
+        return trap(CHERI_CAPS_TRAP_TAG, reg);
+    if (type_of(auth) != CHERI_CAPS_UNSEALED)
+        return trap(CHERI_CAPS_TRAP_SEAL, reg);
+    if (loads && !has(auth, 2))
+        return trap(CHERI_CAPS_TRAP_LOAD, reg);
+    if (stores && !has(auth, 3))
+        return trap(CHERI_CAPS_TRAP_STORE, reg);
+    if (stored && counts(*stored)) {
+        if (!has(auth, 5))
+            return trap(CHERI_CAPS_TRAP_STORE_CAP, reg);
+        if (!has(*stored, 0) && !has(auth, 6))
+            return trap(CHERI_CAPS_TRAP_STORE_LOCAL, reg);
+    }
+    if (!holds(auth, addr, bytes))
+        return trap(CHERI_CAPS_TRAP_LENGTH, reg);
+    if (addr & (bytes - 1))
+        return trap(CHERI_CAPS_TRAP_ALIGNMENT, reg);
+    if (!lies_in(memory, addr, bytes))
+        return trap(CHERI_CAPS_TRAP_PLACE, reg);
+    return trap(0, 0);
+}
+
+cheri_trap conventional_check_load(cheri_cap auth, uint8_t reg, uint64_t addr, uint8_t log2_bytes, cheri_range memory) {
+    return check_access(auth, reg, addr, 1u << (log2_bytes & 3), true, false, NULL, memory);
+}
+
+cheri_trap conventional_check_store(cheri_cap auth, uint8_t reg, uint64_t addr, uint8_t log2_bytes, cheri_range memory) {
+    return check_access(auth, reg, addr, 1u << (log2_bytes & 3), false, true, NULL, memory);
+}
+
+cheri_trap conventional_check_load_cap(cheri_cap auth, uint8_t reg, uint64_t addr, cheri_range memory) {
+    return check_access(auth, reg, addr, 16, true, false, NULL, memory);
+}
+
+cheri_trap conventional_check_store_cap(cheri_cap auth, uint8_t reg, uint64_t addr, cheri_cap stored, cheri_range memory) {
+    return check_access(auth, reg, addr, 16, false, true, &stored, memory);
+}
+
+cheri_trap conventional_check_swap(cheri_cap auth, uint8_t reg, uint64_t addr, cheri_cap stored, cheri_range memory) {
+    return check_access(auth, reg, addr, 16, true, true, &stored, memory);
+}
+
+cheri_trap conventional_check_fetch(cheri_cap pcc, cheri_range code) {
+    if (!counts(pcc))
+        return trap(CHERI_CAPS_TRAP_TAG, CHERI_CAPS_TRAP_PCC);
+    if (type_of(pcc) != CHERI_CAPS_UNSEALED)
+        return trap(CHERI_CAPS_TRAP_SEAL, CHERI_CAPS_TRAP_PCC);
+    if (!has(pcc, 1))
+        return trap(CHERI_CAPS_TRAP_EXECUTE, CHERI_CAPS_TRAP_PCC);
+    if (!holds(pcc, pcc.addr, 4))
+        return trap(CHERI_CAPS_TRAP_LENGTH, CHERI_CAPS_TRAP_PCC);
+    if (pcc.addr & 3)
+        return trap(CHERI_CAPS_TRAP_ALIGNMENT, CHERI_CAPS_TRAP_PCC);
+    return lies_in(code, pcc.addr, 4) ? trap(0, 0) : trap(CHERI_CAPS_TRAP_FETCH, CHERI_CAPS_TRAP_PCC);
+}
+
+cheri_trap conventional_check_branch(cheri_cap pcc, uint64_t target) {
+    return holds(pcc, target, 4) ? trap(0, 0) : trap(CHERI_CAPS_TRAP_LENGTH, CHERI_CAPS_TRAP_PCC);
+}
+
+static inline cheri_trap check_jump(cheri_cap through, uint8_t reg, uint64_t offset) {
+    uint64_t target = (through.addr + offset) & ~UINT64_C(1);
+    if (!counts(through))
+        return trap(CHERI_CAPS_TRAP_TAG, reg);
+    if (type_of(through) != CHERI_CAPS_UNSEALED && !(type_of(through) == CHERI_CAPS_SENTRY && offset == 0))
+        return trap(CHERI_CAPS_TRAP_SEAL, reg);
+    if (!has(through, 1))
+        return trap(CHERI_CAPS_TRAP_EXECUTE, reg);
+    if (!holds(through, target, 4))
+        return trap(CHERI_CAPS_TRAP_LENGTH, reg);
+    return target & 3 ? trap(CHERI_CAPS_TRAP_ALIGNMENT, reg) : trap(0, 0);
+}
+
+cheri_trap conventional_check_jump(cheri_cap through, uint8_t reg, uint64_t offset) {
+    return check_jump(through, reg, offset);
+}
+
+static inline cheri_trap check_invoke(cheri_cap code, uint8_t c1, cheri_cap data, uint8_t c2) {
+    uint64_t target = code.addr & ~UINT64_C(1);
+    if (!counts(code))
+        return trap(CHERI_CAPS_TRAP_TAG, c1);
+    if (!counts(data))
+        return trap(CHERI_CAPS_TRAP_TAG, c2);
+    if (type_of(code) > CHERI_CAPS_LAST_SEALABLE)
+        return trap(CHERI_CAPS_TRAP_SEAL, c1);
+    if (type_of(data) > CHERI_CAPS_LAST_SEALABLE)
+        return trap(CHERI_CAPS_TRAP_SEAL, c2);
+    if (type_of(code) != type_of(data))
+        return trap(CHERI_CAPS_TRAP_TYPE, c1);
+    if (!has(code, 8))
+        return trap(CHERI_CAPS_TRAP_CINVOKE, c1);
+    if (!has(data, 8))
+        return trap(CHERI_CAPS_TRAP_CINVOKE, c2);
+    if (!has(code, 1))
+        return trap(CHERI_CAPS_TRAP_EXECUTE, c1);
+    if (has(data, 1))
+        return trap(CHERI_CAPS_TRAP_EXECUTE, c2);
+    if (!holds(code, target, 4))
+        return trap(CHERI_CAPS_TRAP_LENGTH, c1);
+    return target & 3 ? trap(CHERI_CAPS_TRAP_ALIGNMENT, c1) : trap(0, 0);
+}
+
+cheri_trap conventional_check_invoke(cheri_cap code, uint8_t c1, cheri_cap data, uint8_t c2) {
+    return check_invoke(code, c1, data, c2);
+}
+
+/* Unsealed, at an address that the checks have found in its bounds. */
+static inline cheri_cap entered(cheri_cap cap, uint64_t addr) {
+    cap.upper = (fields_of(cap) | (uint64_t)CHERI_CAPS_UNSEALED << 27) ^ NULL_FIELDS;
+    cap.addr = addr;
+    return cap;
+}
+
+cheri_jumped conventional_jump(cheri_cap pcc, cheri_cap through, uint8_t reg, uint64_t offset) {
+    cheri_jumped jumped = {{0, 0, false}, {0, 0, false}, check_jump(through, reg, offset)};
+    if (jumped.trap.cause)
+        return jumped;
+    jumped.pcc = entered(through, (through.addr + offset) & ~UINT64_C(1));
+    jumped.left = pcc;
+    jumped.left.tag = counts(pcc) && type_of(pcc) == CHERI_CAPS_UNSEALED && has(pcc, 1) &&
+                      conventional_is_representable(pcc.upper, pcc.addr, pcc.addr + 4);
+    jumped.left.addr += 4;
+    uint64_t fields = fields_of(pcc) & ~(UINT64_C(0x3ffff) << 27);
+    jumped.left.upper = (fields | (uint64_t)CHERI_CAPS_SENTRY << 27) ^ NULL_FIELDS;
+    return jumped;
+}
+
+cheri_jumped conventional_invoke(cheri_cap code, uint8_t c1, cheri_cap data, uint8_t c2) {
+    cheri_jumped jumped = {{0, 0, false}, {0, 0, false}, check_invoke(code, c1, data, c2)};
+    if (jumped.trap.cause)
+        return jumped;
+    jumped.pcc = entered(code, code.addr & ~UINT64_C(1));
+    jumped.left = entered(data, data.addr);
+    return jumped;
+}

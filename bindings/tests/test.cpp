@@ -81,6 +81,35 @@ int main() {
     expect(cheri_caps_test_subset(root, sixteen) && !cheri_caps_test_subset(sixteen, root), "test_subset");
     expect(!cheri_caps_equal_exact(sixteen, cheri_caps_clear_tag(sixteen)), "equal_exact");
 
+    const cheri_range ram = {addr, 4096}, code = {0x10000000, 64};
+    auto traps = [](cheri_trap trap, int cause, int reg) { return trap.cause == cause && trap.reg == reg; };
+    expect(traps(cheri_caps_check_load(sixteen, 3, addr + 8, 3, ram), 0, 0), "check_load");
+    expect(traps(cheri_caps_check_load(sixteen, 3, addr + 12, 3, ram), CHERI_CAPS_TRAP_LENGTH, 3), "check_load past the end");
+    expect(traps(cheri_caps_check_store(root, 4, addr + 4096, 0, ram), CHERI_CAPS_TRAP_PLACE, 4), "check_store");
+    expect(traps(cheri_caps_check_load_cap(root, 4, addr + 8, ram), CHERI_CAPS_TRAP_ALIGNMENT, 4), "check_load_cap");
+    cheri_cap data_only = cheri_caps_and_perms(sixteen, CHERI_CAPS_LOAD | CHERI_CAPS_STORE);
+    expect(traps(cheri_caps_check_store_cap(data_only, 5, addr, root, ram), CHERI_CAPS_TRAP_STORE_CAP, 5), "check_store_cap");
+    expect(traps(cheri_caps_check_store_cap(data_only, 5, addr, cheri_caps_null(), ram), 0, 0), "check_store_cap of null");
+    expect(traps(cheri_caps_check_swap(cheri_caps_and_perms(root, CHERI_CAPS_STORE), 6, addr, root, ram), CHERI_CAPS_TRAP_LOAD, 6), "check_swap");
+    cheri_cap pcc = cheri_caps_set_bounds(cheri_caps_set_address(root, 0x10000000), 64);
+    expect(traps(cheri_caps_check_fetch(pcc, code), 0, 0), "check_fetch");
+    expect(traps(cheri_caps_check_fetch(cheri_caps_null(), code), CHERI_CAPS_TRAP_TAG, CHERI_CAPS_TRAP_PCC), "check_fetch of null");
+    expect(traps(cheri_caps_check_branch(pcc, 0x10000040), CHERI_CAPS_TRAP_LENGTH, CHERI_CAPS_TRAP_PCC), "check_branch");
+    cheri_cap entry = cheri_caps_seal_entry(cheri_caps_inc_offset(pcc, 8));
+    expect(traps(cheri_caps_check_jump(entry, 7, 0), 0, 0), "check_jump");
+    expect(traps(cheri_caps_check_jump(entry, 7, 4), CHERI_CAPS_TRAP_SEAL, 7), "check_jump of a sentry by an offset");
+    cheri_jumped jumped = cheri_caps_jump(pcc, entry, 7, 0);
+    expect(is(jumped.pcc, true, pcc.upper, 0x10000008) && jumped.left.addr == 0x10000004 &&
+               cheri_caps_read(jumped.left).otype == UINT64_C(0xfffffffffffffffe) && traps(jumped.trap, 0, 0),
+           "jump");
+    cheri_cap sealed_code = cheri_caps_seal(pcc, authority);
+    expect(traps(cheri_caps_check_invoke(sealed_code, 8, sealed, 9), CHERI_CAPS_TRAP_EXECUTE, 9), "check_invoke");
+    cheri_cap sealed_data = cheri_caps_seal(cheri_caps_and_perms(sixteen, CHERI_CAPS_ALL & ~CHERI_CAPS_EXECUTE), authority);
+    jumped = cheri_caps_invoke(sealed_code, 8, sealed_data, 9);
+    expect(is(jumped.pcc, true, pcc.upper, 0x10000000) && jumped.left.tag && !cheri_caps_read(jumped.left).sealed, "invoke");
+    jumped = cheri_caps_invoke(sealed_code, 8, sixteen, 9);
+    expect(is(jumped.pcc, false, 0, 0) && is(jumped.left, false, 0, 0) && traps(jumped.trap, CHERI_CAPS_TRAP_SEAL, 9), "invoke of open data");
+
     const cheri_word words[] = {{addr, upper}, {0, 0}};
     cheri_bounds out[2];
     expect(cheri_caps_bounds_of(words, 2, out, 2) == 2 && out[0].top == addr + 16 && out[1].top_high == 1, "bounds_of");

@@ -1,2 +1,5 @@
 pub mod StructLemmas
 pub mod Filling
+pub mod VerdictLemmas
+pub mod Unfold
+pub mod MachineChecks

@@ -6,10 +6,13 @@
 #![tactic(auto)]
 
 mod arrays;
+mod checks;
 mod instructions;
+mod jumps;
 pub mod laws;
 mod making;
 mod ranges;
 mod structs;
 mod values;
+mod verdicts;
 mod words;

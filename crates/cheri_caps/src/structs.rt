@@ -85,3 +85,21 @@ pub struct CheriMade {
     pub cap: CheriCap,
     pub status: u8,
 }
+
+/// The first check that fails, as the number of its cause, and the register that it speaks of, 32
+/// for PCC. Both are 0 where none fails.
+#[derive(Clone, Copy)]
+#[repr(C)]
+pub struct CheriTrap {
+    pub cause: u8,
+    pub reg: u8,
+}
+
+/// A jump: what becomes of PCC, and what it leaves in a register; or null twice, and why it traps.
+#[derive(Clone, Copy)]
+#[repr(C)]
+pub struct CheriJumped {
+    pub pcc: CheriCap,
+    pub left: CheriCap,
+    pub trap: CheriTrap,
+}
