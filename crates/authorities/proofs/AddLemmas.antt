@@ -1,13 +1,13 @@
 -- One more rights in the list of the greatest.
-use Rattle.std.proofs.Common.{◌≡◌, ℕ, ◌<◌, List, [], ◌∷◌, ◌++◌, arith, ap, sym, ◌∙◌, refl, inl, inr, ◌⊎◌, subst}
+use Rattle.std.proofs.Common.{◌≡◌, ℕ, List, [], ◌∷◌, ◌++◌, ap, sym, ◌∙◌, refl, inl, inr, ◌⊎◌, subst}
 use Rattle.std.specs.Prelude.{Bool, true, false, not, filter, if◌then◌else◌, ◌||◌}
 use Rattle.std.specs.List.{list_any}
 use Rattle.std.proofs.lemmas.Bool.{cases_Bool}
-use Rattle.authorities.specs.declared.rights.Rights.{Rights}
+use Rattle.explore_rights.specs.declared.rights.Rights.{Rights}
 use Rattle.authorities.specs.declared.rights.Authority.{Authority}
-use Rattle.authorities.specs.Authorities.{is_within, is_before}
-use Rattle.authorities.specs.Gathering.{IsIn, IsSorted, IsCovered, AreApart, stays, stays_beside, is_covered, with_rights}
-use Rattle.authorities.proofs.RightsLemmas.{true_false, within_self, within_trans, before_trans, before_other}
+use Rattle.explore_rights.specs.Rights.{is_within, is_before}
+use Rattle.authorities.specs.Gathering.{IsIn, IsSorted, IsCovered, AreApart, stays, is_covered, with_rights}
+use Rattle.explore_rights.proofs.RightsLemmas.{true_false, within_self, within_trans, before_trans, before_other}
 use Rattle.authorities.proofs.ListLemmas.{in_left, in_right, in_either, in_filter, filter_in, sorted_filter, sorted_append}
 
 pub covered_of : (xs : List Authority) (r : Rights) → is_covered xs r ≡ true → IsCovered xs r
@@ -52,7 +52,7 @@ own_side false = refl
 -- what stays, before the new rights and after them
 stays_parts : (r : Rights) (before : Bool) (a : Authority) → stays r before a ≡ true →
     (is_within a.rights r ≡ false) × (is_before a.rights r ≡ before)
-unfolding stays stays_beside
+unfolding stays
 stays_parts r before a t = elim (cases_Bool (is_within a.rights r)) [
   | inl so ↦ absurd (true_false false (ap (λ (b : Bool). if b then false
       else (if before then is_before a.rights r else not (is_before a.rights r))) (sym so) ∙ t) refl)
@@ -64,7 +64,7 @@ stays_parts r before a t = elim (cases_Bool (is_within a.rights r)) [
 ]
 
 stays_made : (r : Rights) (a : Authority) → is_within a.rights r ≡ false → stays r (is_before a.rights r) a ≡ true
-unfolding stays stays_beside
+unfolding stays
 stays_made r a not_so =
     ap (λ (b : Bool). if b then false
     else (if is_before a.rights r then is_before a.rights r else not (is_before a.rights r))) not_so

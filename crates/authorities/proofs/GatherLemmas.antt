@@ -1,25 +1,27 @@
 -- How the greatest rights are gathered.
 use Rattle.std.proofs.Common.{◌≡◌, ◌≢◌, ℕ, zero, suc, ◌+◌, ◌<◌, List, [], ◌∷◌, ◌++◌, length, take, get_or, arith, ap, sym, ◌∙◌, refl, inl, inr, ◌⊎◌, subst}
-use Rattle.std.specs.Prelude.{Option, Some, None, IfSome, Bool, true, false, slice_get, slice_index_or, ◌≤◌}
+use Rattle.std.specs.Prelude.{Option, Some, IfSome, Bool, true, false, slice_get, slice_index_or, ◌≤◌}
 use Rattle.std.proofs.lemmas.Bool.{cases_eq, cases_lt}
 use Rattle.std.proofs.lemmas.List.{take_more}
 use Rattle.std.proofs.lemmas.Option.{none-some, same_Some}
 use Rattle.cap_model.specs.values.CapValue.{CapValue, tag_of}
 use Rattle.cheri_model.specs.runs.Machine.{MachineState}
 use Rattle.state_store.specs.Stores.{Stored}
-use Rattle.authorities.specs.declared.rights.Rights.{Rights}
+use Rattle.explore_rights.specs.declared.rights.Rights.{Rights}
 use Rattle.authorities.specs.declared.rights.Authority.{Authority}
 use Rattle.authorities.specs.declared.holders.Holder.{Holder}
-use Rattle.authorities.specs.Authorities.{values_of, rights_of, is_within, Holds, IsHeld, IsFirst, AreGreatest}
+use Rattle.authorities.specs.Authorities.{values_of, IsHeld, AreGreatest}
+use Rattle.explore_rights.specs.Rights.{rights_of}
+use Rattle.explore_rights.specs.Held.{Holds}
 use Rattle.graph_search.specs.Trees.{state_at}
 use Rattle.graph_search.proofs.TreeLemmas.{node_means}
 use Rattle.states.specs.Graphs.{GraphParts, state_in}
 use Rattle.authorities.specs.Holders.{place_of, part_in, part_numbers, HasPart, HoldsNumbered, AreNumbersOf}
 use Rattle.authorities.proofs.HolderLemmas.{numbers_of, has_part}
-use Rattle.authorities.specs.Gathering.{IsIn, IsCovered, AreApart, with_rights, IsValueCovered, AreMarked, AreMarkedParts, Gathers, AreGathered, IsGathering}
-use Rattle.authorities.proofs.RightsLemmas.{within_self, before_self}
+use Rattle.authorities.specs.Gathering.{IsCovered, AreApart, with_rights, IsValueCovered, AreMarked, AreMarkedParts, Gathers, AreGathered, IsGathering}
+use Rattle.explore_rights.proofs.RightsLemmas.{before_self}
 use Rattle.authorities.proofs.ListLemmas.{in_get, get_in, sorted_get}
-use Rattle.authorities.proofs.AddLemmas.{Adds, adds}
+use Rattle.authorities.proofs.AddLemmas.{adds}
 
 -- the single one of a list
 single : {A : Type 0} (x y : A) (k : ℕ) → slice_get (x ∷ []) k ≡ Some y → x ≡ y

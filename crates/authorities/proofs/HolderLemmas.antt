@@ -1,6 +1,6 @@
 -- The numbers of what a holder has.
-use Rattle.std.proofs.Common.{◌≡◌, ℕ, zero, suc, ◌+◌, ◌<◌, ◌≤◌, List, [], ◌∷◌, length, drop, arith, ap, sym, ◌∙◌, refl, subst}
-use Rattle.std.specs.Prelude.{Option, Some, None, IsSome, Bool, true, false, option_and_then, option_map, slice_get, slice_index_or}
+use Rattle.std.proofs.Common.{◌≡◌, ℕ, zero, suc, ◌+◌, ◌<◌, ◌≤◌, List, [], ◌∷◌, length, drop, arith, ap, sym, ◌∙◌, subst}
+use Rattle.std.specs.Prelude.{Some, IsSome, true, false, option_and_then, option_map, slice_get, slice_index_or}
 use Rattle.std.proofs.lemmas.Option.{none-some, same_Some, slice_get_within, slice_get-get_or}
 use Rattle.cap_model.specs.values.CapValue.{CapValue, raw, tag_of}
 use Rattle.cheri_model.specs.declared.trace.Status.{Status}
@@ -16,11 +16,12 @@ use Rattle.state_store.proofs.ViewLemmas.{row_of_memory}
 use Rattle.state_store.proofs.SeenLemmas.{memory_there}
 use Rattle.states.specs.Graphs.{GraphParts, state_in}
 use Rattle.states.proofs.NodeLemmas.{node_of, some_state, is_some}
-use Rattle.authorities.specs.declared.rights.Rights.{Rights}
+use Rattle.explore_rights.specs.declared.rights.Rights.{Rights}
 use Rattle.authorities.specs.declared.holders.Holder.{Holder}
 use Rattle.authorities.specs.declared.holders.Holder.TheVariants as holder
-use Rattle.authorities.specs.Authorities.{hart_values, memory_values, values_of, rights_of, Holds}
-use Rattle.authorities.specs.Holders.{place_of, part_in, part_numbers, HoldsNumbered, AreNumbersOf, HasPart}
+use Rattle.authorities.specs.Authorities.{values_of}
+use Rattle.explore_rights.specs.Held.{Holds}
+use Rattle.authorities.specs.Holders.{place_of, part_in, part_numbers, AreNumbersOf, HasPart}
 
 -- numbers that mean values
 each_numbers : (values : List CapValue) (ids : List ℕ) (xs : List CapValue) → each (slice_get values) ids ≡ Some xs →

@@ -1,5 +1,4 @@
 pub mod Unfold
-pub mod RightsLemmas
 pub mod ListLemmas
 pub mod AddLemmas
 pub mod HolderLemmas

@@ -1,12 +1,12 @@
 -- Lists of authorities.
-use Rattle.std.proofs.Common.{◌≡◌, ℕ, zero, suc, ◌+◌, ◌<◌, List, [], ◌∷◌, ◌++◌, arith, ap, sym, ◌∙◌, refl, inl, inr, ◌⊎◌, subst}
-use Rattle.std.specs.Prelude.{Option, Some, None, Bool, true, false, filter, slice_get, cond}
+use Rattle.std.proofs.Common.{◌≡◌, ℕ, zero, suc, ◌<◌, List, [], ◌∷◌, ◌++◌, arith, ap, sym, ◌∙◌, refl, inl, inr, ◌⊎◌, subst}
+use Rattle.std.specs.Prelude.{Some, Bool, true, false, filter, slice_get, cond}
 use Rattle.std.proofs.lemmas.Bool.{cases_Bool}
 use Rattle.std.proofs.lemmas.Option.{none-some, same_Some}
 use Rattle.authorities.specs.declared.rights.Authority.{Authority}
-use Rattle.authorities.specs.Authorities.{is_before}
+use Rattle.explore_rights.specs.Rights.{is_before}
 use Rattle.authorities.specs.Gathering.{IsIn, IsBeforeAll, IsSorted}
-use Rattle.authorities.proofs.RightsLemmas.{true_false}
+use Rattle.explore_rights.proofs.RightsLemmas.{true_false}
 
 pub in_get : (a : Authority) (xs : List Authority) → IsIn a xs → (k : ℕ) × (slice_get xs k ≡ Some a)
 in_get a [] is = absurd is

@@ -1,17 +1,17 @@
 -- The greatest rights that a holder, a hart or memory, has over the states that a search kept.
-use Rattle.std.specs.Prelude.{◌≡◌, ℕ, ◌<◌, nat_le, nat_lt, ◌==◌, ◌∷◌, List, slice_get, Option, Some}
-use Rattle.std.specs.Prelude.{Bool, true, ◌&&◌, bit_and, if◌then◌else◌}
-use Rattle.cap_model.specs.values.CapValue.{CapValue, tag_of}
-use Rattle.cap_model.specs.results.Readings.{base_of, top_of, permissions_of}
+use Rattle.std.specs.Prelude.{◌≡◌, ℕ, ◌<◌, List, slice_get, Option, Some, true}
+use Rattle.cap_model.specs.values.CapValue.{CapValue}
 use Rattle.cheri_model.specs.runs.Machine.{MachineState, hart_at}
-use Rattle.authorities.specs.declared.rights.Rights.{Rights}
+use Rattle.explore_rights.specs.declared.rights.Rights.{Rights}
+use Rattle.explore_rights.specs.Rights.{is_within, is_before}
+use Rattle.explore_rights.specs.Held.{Holds, held_by}
 use Rattle.authorities.specs.declared.rights.Authority.{Authority}
 use Rattle.authorities.specs.declared.holders.Holder.{Holder}
 use Rattle.authorities.specs.declared.holders.Holder.TheVariants as holder
 
 -- what is held by a hart, in its PCC and registers, and in memory
 abbrev pub hart_values : ℕ → MachineState → List CapValue
-hart_values number state = (hart_at state number).pcc ∷ (hart_at state number).regs
+hart_values number state = held_by (hart_at state number)
 
 abbrev pub memory_values : MachineState → List CapValue
 memory_values state = state.memory
@@ -19,30 +19,6 @@ memory_values state = state.memory
 abbrev pub values_of : Holder → MachineState → List CapValue
 values_of (holder.Hart number) = hart_values number
 values_of holder.Memory = memory_values
-
--- the bounds and permissions of a value
-unfoldable pub rights_of : CapValue → Rights
-rights_of v = record { base = base_of v; top = top_of v; perms = record { 0 = permissions_of v } }
-
--- a tagged one of the values has just these rights
-abbrev pub Holds : List CapValue → Rights → Type 0
-Holds values rights =
-    (k : ℕ) × (v : CapValue) × (slice_get values k ≡ Some v) × (tag_of v ≡ true)
-    × (rights_of v ≡ rights)
-
--- whether bounds and permissions lie within others
-unfoldable pub is_within : Rights → Rights → Bool
-is_within inner outer =
-    nat_le outer.base inner.base && nat_le inner.top outer.top
-    && (bit_and inner.perms.0 outer.perms.0 == inner.perms.0)
-
--- whether the first come before the second: ascending by base, then by top descending, then by
--- permissions as a number
-unfoldable pub is_before : Rights → Rights → Bool
-is_before a b =
-    if a.base == b.base
-    then (if a.top == b.top then nat_lt a.perms.0 b.perms.0 else nat_lt b.top a.top)
-    else nat_lt a.base b.base
 
 -- these rights are held in this state
 unfoldable pub IsHeld : (ℕ → Option MachineState) → (MachineState → List CapValue) → ℕ → Rights

@@ -4,11 +4,12 @@ use Rattle.std.specs.Prelude.{Bool, true, false, not, ◌⊎◌, ◌++◌, filte
 use Rattle.std.specs.List.{list_any}
 use Rattle.cap_model.specs.values.CapValue.{CapValue, tag_of}
 use Rattle.cheri_model.specs.runs.Machine.{MachineState}
-use Rattle.authorities.specs.declared.rights.Rights.{Rights}
+use Rattle.explore_rights.specs.declared.rights.Rights.{Rights}
 use Rattle.authorities.specs.declared.rights.Authority.{Authority}
 use Rattle.state_store.specs.Stores.{Stored}
 use Rattle.authorities.specs.declared.holders.Holder.{Holder}
-use Rattle.authorities.specs.Authorities.{values_of, rights_of, is_within, is_before, IsHeld, IsFirst}
+use Rattle.authorities.specs.Authorities.{values_of, IsHeld, IsFirst}
+use Rattle.explore_rights.specs.Rights.{rights_of, is_within, is_before}
 use Rattle.authorities.specs.Holders.{part_numbers, HoldsNumbered}
 
 -- it is one of the list
@@ -36,13 +37,10 @@ pub record AreApart (list : List Authority) : Type 0 where
   pub sorted : IsSorted list
 
 -- whether rights stay beside new ones: before these, or after them
-unfoldable pub stays_beside : Rights → Bool → Rights → Bool
-stays_beside new before rights =
-    if is_within rights new then false
-    else (if before then is_before rights new else not (is_before rights new))
-
 unfoldable pub stays : Rights → Bool → Authority → Bool
-stays new before a = stays_beside new before a.rights
+stays new before a =
+    if is_within a.rights new then false
+    else (if before then is_before a.rights new else not (is_before a.rights new))
 
 -- whether the rights lie within some of the list
 unfoldable pub is_covered : List Authority → Rights → Bool

@@ -4,10 +4,11 @@ use Rattle.std.specs.Prelude.{Option, Some, IsSome, option_map, true}
 use Rattle.cap_model.specs.values.CapValue.{CapValue, tag_of}
 use Rattle.state_store.specs.Stores.{Stored}
 use Rattle.states.specs.Graphs.{GraphParts, state_in}
-use Rattle.authorities.specs.declared.rights.Rights.{Rights}
+use Rattle.explore_rights.specs.declared.rights.Rights.{Rights}
 use Rattle.authorities.specs.declared.holders.Holder.{Holder}
 use Rattle.authorities.specs.declared.holders.Holder.TheVariants as holder
-use Rattle.authorities.specs.Authorities.{rights_of, Holds}
+use Rattle.explore_rights.specs.Rights.{rights_of}
+use Rattle.explore_rights.specs.Held.{Holds}
 
 -- where its part of a state is in the state's row
 abbrev pub place_of : Holder → ℕ

@@ -26,8 +26,9 @@ ghost use Rattle.authorities.specs.Gathering.{AreApart, AreMarked, Gathers, IsGa
 
 use crate::greatest::add;
 use crate::holders::Holder;
-use crate::rights::{Authority, Rights};
+use crate::rights::Authority;
 use cap_ops::Cap;
+use explore_rights::Rights;
 use graph_search::Reached;
 use state_store::Store;
 use states::MachineGraph;

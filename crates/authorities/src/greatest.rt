@@ -4,7 +4,8 @@
 ghost use Rattle.std.specs.Prelude.{◌≡◌, ◌++◌, filter, IfOk};
 ghost use Rattle.authorities.specs.Gathering.{is_covered, stays, with_rights};
 
-use crate::rights::{Authority, Rights};
+use crate::rights::Authority;
+use explore_rights::Rights;
 use std::alloc::{AllocError, Global};
 
 /// Adds rights that are held in a state, unless they lie within some of the list. What lies within
@@ -49,7 +50,7 @@ fn push_staying(
         ≡ after.old.items ++ filter (stays rights before) greatest.now) }
 {
     for authority in greatest {
-        if authority.rights.stays(rights, before) {
+        if authority.stays(rights, before) {
             after.push(*authority)?;
         }
     }

@@ -9,4 +9,4 @@ mod holders;
 mod rights;
 
 pub use authority::{Authorities, authorities_of};
-pub use rights::{Authority, Rights};
+pub use rights::Authority;

@@ -1,21 +1,10 @@
-//! Bounds and permissions.
+//! Rights that are held.
 #![tactic(auto, unfolding(crate::proofs::Unfold::rights))]
 
 ghost use Rattle.std.specs.Prelude.{◌≡◌};
-ghost use Rattle.authorities.specs.Authorities.{rights_of, is_within, is_before};
-ghost use Rattle.authorities.specs.Gathering.{stays_beside};
+ghost use Rattle.authorities.specs.Gathering.{stays};
 
-use bitflags::Flags;
-use cap_ops::Cap;
-use cheri_model::Perms;
-
-/// Bounds and permissions: the base, the top, which is the first address above, and a set.
-#[derive(Clone, Copy, Debug, PartialEq, Eq)]
-pub struct Rights {
-    pub base: u64,
-    pub top: u128,
-    pub perms: Perms,
-}
+use explore_rights::Rights;
 
 /// Rights that are held, and the number of the first kept state in which just these are held.
 #[derive(Clone, Copy, Debug, PartialEq, Eq)]
@@ -24,50 +13,14 @@ pub struct Authority {
     pub first: u32,
 }
 
-impl Rights {
-    /// The bounds and permissions of a value.
-    pub(crate) fn of(cap: Cap) -> Rights
-        ensures { result ≡ rights_of cap }
-    {
-        let (base, top) = cap.bounds();
-        Rights {
-            base,
-            top,
-            perms: cap.perm(),
-        }
-    }
-
-    /// Whether these lie within others.
-    pub(crate) fn is_within(self, outer: Rights) -> bool
-        ensures { result ≡ is_within self outer }
-    {
-        if self.base < outer.base || outer.top < self.top {
-            return false;
-        }
-        self.perms.bits() & outer.perms.bits() == self.perms.bits()
-    }
-
-    /// Whether these come before others: ascending by base, then by top descending, then by
-    /// permissions as a number.
-    pub(crate) fn is_before(self, other: Rights) -> bool
-        ensures { result ≡ is_before self other }
-    {
-        if self.base != other.base {
-            return self.base < other.base;
-        }
-        if self.top != other.top {
-            return other.top < self.top;
-        }
-        self.perms.bits() < other.perms.bits()
-    }
-
-    /// Whether these stay beside new ones: before these, or after them.
+impl Authority {
+    /// Whether its rights stay beside new ones: before these, or after them.
     pub(crate) fn stays(self, new: Rights, before: bool) -> bool
-        ensures { result ≡ stays_beside new before self }
+        ensures { result ≡ stays new before self }
     {
-        if self.is_within(new) {
+        if self.rights.is_within(new) {
             return false;
         }
-        self.is_before(new) == before
+        self.rights.is_before(new) == before
     }
 }

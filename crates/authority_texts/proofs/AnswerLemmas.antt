@@ -15,6 +15,12 @@ use Rattle.cap_model.specs.values.CapValue.{CapValue}
 use Rattle.cheri_model.specs.runs.Image.{ImageParts}
 use Rattle.cheri_model.specs.runs.Machine.{MachineState}
 use Rattle.cheri_model.specs.runs.Replay.{replayed_state}
+use Rattle.explore_rights.specs.Held.{Holds}
+use Rattle.explore_rights.specs.Rights.{is_within}
+use Rattle.explore_rights.specs.declared.rights.Rights.{Rights}
+use Rattle.explore_rights.proofs.RightsLemmas.{within_self, within_trans}
+use Rattle.explore_sights.specs.declared.sights.Sight.{Sight}
+use Rattle.explore_turns.specs.Turns.{rest_of, rest_by}
 use Rattle.schedules.specs.declared.ranges.SweepRange.{SweepRange}
 use Rattle.shown_states.specs.Endings.{ending_of}
 use Rattle.shown_states.specs.declared.form.Ending.{Ending}
@@ -58,12 +64,25 @@ memory_known kept harts memory found = greatest_known kept memory_values memory 
 
 -- ---- what was found
 
-bounds_of : (kept : KeptParts) (values : MachineState → List CapValue) (xs : List Authority) → AreGreatest (at kept) values xs
-    → AreAllKept kept → AreBounds kept.image kept.sweeps values xs
+-- whatever is held lies within what is held in the state with each hart at its rest
+abbrev pub RestsBound : KeptParts → (MachineState → List CapValue) → Type 0
+RestsBound kept values = (s : MachineState) (r : Rights) → Holds (values s) r →
+    (t : Rights) × Holds (values (rest_by kept.image kept.sweeps kept.sight s)) t × (is_within r t ≡ true)
+
+bounds_of : (kept : KeptParts) (values : MachineState → List CapValue) (xs : List Authority) → RestsBound kept values
+    → AreGreatest (at kept) values xs → AreAllKept kept → AreBounds kept.image kept.sweeps values xs
 unfolding IsHeld
-bounds_of kept values xs greatest all order allowed legal r holds =
+bounds_of kept values xs rests greatest all order allowed legal r holds =
+    let state = replayed_state kept.image order in
     let there = all order allowed legal in
-    greatest.bounded there.0 r (replayed_state kept.image order, there.1, holds)
+    let held = rests state r holds in
+    let found = greatest.bounded there.0 held.0 (rest_by kept.image kept.sweeps kept.sight state, there.1, held.1) in
+    (found.0, found.1, found.2, within_trans r held.0 found.1.rights held.2 found.3)
+
+-- memory is the same
+memory_rests : (kept : KeptParts) → RestsBound kept memory_values
+unfolding rest_of
+memory_rests kept s r holds = (r, holds, within_self r)
 
 at_some : {X : Type 0} (P : X → Type 0) (o : Option X) (x : X) → o ≡ Some x → IfSome o P → P x
 at_some P o x is so = subst (λ (q : Option _). IfSome q P) is so
@@ -72,18 +91,18 @@ are_found : (kept final : KeptParts) (harts : List (Vec Authority Global)) (memo
     → final ≡ kept → length harts ≡ length kept.image.harts
     → ((n : ℕ) → IfSome (slice_get harts n) (λ list. AreGreatest (at kept) (hart_values n) list.items))
     → AreGreatest (at kept) memory_values memory → complete ≡ kept.complete → (complete ≡ true → AreAllKept kept)
-    → AreFound final harts memory
-are_found kept final harts memory complete same size of_hart of_memory complete_is all =
+    → ((n : ℕ) → RestsBound kept (hart_values n)) → AreFound final harts memory
+are_found kept final harts memory complete same size of_hart of_memory complete_is all rests =
     subst (λ (k : KeptParts). AreFound k harts memory) (sym same) (record {
       one_each = size;
       of_hart = λ n list is.
           at_some (λ (l : Vec Authority Global). AreGreatest (at kept) (hart_values n) l.items) (slice_get harts n) list is (of_hart n);
       of_memory = of_memory;
       hart_bounds = λ whole n list is.
-          bounds_of kept (hart_values n) list.items
+          bounds_of kept (hart_values n) list.items (rests n)
           (at_some (λ (l : Vec Authority Global). AreGreatest (at kept) (hart_values n) l.items) (slice_get harts n) list is (of_hart n))
           (all (complete_is ∙ whole));
-      memory_bounds = λ whole. bounds_of kept memory_values memory of_memory (all (complete_is ∙ whole));
+      memory_bounds = λ whole. bounds_of kept memory_values memory (memory_rests kept) of_memory (all (complete_is ∙ whole));
     })
 
 pub found_is : {E : Type 0} (kept : KeptParts) (result : Result Authorities E) (complete : Bool)
@@ -92,23 +111,24 @@ pub found_is : {E : Type 0} (kept : KeptParts) (result : Result Authorities E) (
     → IfOk result (λ found. (n : ℕ) → IfSome (slice_get found.harts.items n)
     (λ list. AreGreatest (at kept) (hart_values n) list.items))
     → IfOk result (λ found. AreGreatest (at kept) memory_values found.memory.items)
-    → complete ≡ kept.complete → (complete ≡ true → AreAllKept kept)
+    → complete ≡ kept.complete → (complete ≡ true → AreAllKept kept) → ((n : ℕ) → RestsBound kept (hart_values n))
     → IfOk result (λ found. AreFound found.kept found.harts.items found.memory.items)
-found_is kept (Ok found) complete same size of_hart of_memory complete_is all =
-    are_found kept found.kept found.harts.items found.memory.items complete same size of_hart of_memory complete_is all
-found_is kept (Err fault) complete same size of_hart of_memory complete_is all = tt
+found_is kept (Ok found) complete same size of_hart of_memory complete_is all rests =
+    are_found kept found.kept found.harts.items found.memory.items complete same size of_hart of_memory complete_is all rests
+found_is kept (Err fault) complete same size of_hart of_memory complete_is all rests = tt
 
 -- ---- the answer
 
 pub answer_is : (kept : KeptParts) (format : Format) (harts : List (Vec Authority Global)) (memory : List Authority)
     (told_harts : List (Vec Told Global)) (told_memory : List Told) → IsSearch kept → AreFound kept harts memory
     → AreAllTold kept harts told_harts → AreTold kept memory told_memory
-    → IsAuthorityAnswer kept.image kept.sweeps kept.limit format
+    → IsAuthorityAnswer kept.image kept.sweeps kept.sight kept.limit format
     (said format kept.complete kept.image (count kept) told_harts told_memory) (ending_of kept.complete)
 answer_is kept format harts memory told_harts told_memory search found harts_told memory_told = record {
   kept = kept;
   image_is = refl;
   sweeps_are = refl;
+  sight_is = refl;
   limit_is = refl;
   search = search;
   harts = harts;
@@ -123,22 +143,23 @@ answer_is kept format harts memory told_harts told_memory search found harts_tol
 }
 
 pub said_is : (kept : KeptParts) (format : Format) (text : List ℕ) (ending : Ending) (told_harts : List (Vec Told Global))
-    (told_memory : List Told) → IsAuthorityAnswer kept.image kept.sweeps kept.limit format
+    (told_memory : List Told) → IsAuthorityAnswer kept.image kept.sweeps kept.sight kept.limit format
     (said format kept.complete kept.image (count kept) told_harts told_memory) (ending_of kept.complete)
     → text ≡ said format kept.complete kept.image (count kept) told_harts told_memory → ending ≡ ending_of kept.complete
-    → IsAuthorityAnswer kept.image kept.sweeps kept.limit format text ending
+    → IsAuthorityAnswer kept.image kept.sweeps kept.sight kept.limit format text ending
 said_is kept format text ending told_harts told_memory answer text_is ending_is =
     rw (text_is, ending_is) answer
 
 -- of the image, the sweeps and the limit that were asked for
-pub asked : (kept : KeptParts) (image : ImageParts) (sweeps : List SweepRange) (limit : ℕ) (format : Format) (text : List ℕ) (ending : Ending)
-    → kept.image ≡ image → kept.sweeps ≡ sweeps → kept.limit ≡ limit
-    → IsAuthorityAnswer kept.image kept.sweeps kept.limit format text ending
-    → IsAuthorityAnswer image sweeps limit format text ending
-asked kept image sweeps limit format text ending image_is sweeps_are limit_is answer = record {
+pub asked : (kept : KeptParts) (image : ImageParts) (sweeps : List SweepRange) (sight : Sight) (limit : ℕ) (format : Format) (text : List ℕ)
+    (ending : Ending) → kept.image ≡ image → kept.sweeps ≡ sweeps → kept.sight ≡ sight → kept.limit ≡ limit
+    → IsAuthorityAnswer kept.image kept.sweeps kept.sight kept.limit format text ending
+    → IsAuthorityAnswer image sweeps sight limit format text ending
+asked kept image sweeps sight limit format text ending image_is sweeps_are sight_is limit_is answer = record {
   kept = answer.kept;
   image_is = answer.image_is ∙ image_is;
   sweeps_are = answer.sweeps_are ∙ sweeps_are;
+  sight_is = answer.sight_is ∙ sight_is;
   limit_is = answer.limit_is ∙ limit_is;
   search = answer.search;
   harts = answer.harts;

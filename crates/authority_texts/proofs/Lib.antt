@@ -1,3 +1,4 @@
 pub mod ToldLemmas
 pub mod AnswerLemmas
 pub mod JsonLemmas
+pub mod RestLemmas

@@ -1,14 +1,17 @@
 -- What the search for the greatest rights answers.
 use Rattle.std.specs.Prelude.{◌≡◌, ℕ, List, length, slice_get, Some, true, Vec}
 use Rattle.std.specs.Global.{Global}
-use Rattle.authorities.specs.Authorities.{AreGreatest, Holds, is_within, hart_values, memory_values}
+use Rattle.authorities.specs.Authorities.{AreGreatest, hart_values, memory_values}
+use Rattle.explore_rights.specs.Rights.{is_within}
+use Rattle.explore_rights.specs.Held.{Holds}
 use Rattle.authorities.specs.declared.rights.Authority.{Authority}
-use Rattle.authorities.specs.declared.rights.Rights.{Rights}
+use Rattle.explore_rights.specs.declared.rights.Rights.{Rights}
 use Rattle.cap_model.specs.values.CapValue.{CapValue}
 use Rattle.cheri_model.specs.declared.operation.Op.{Op}
 use Rattle.cheri_model.specs.runs.Image.{ImageParts}
 use Rattle.cheri_model.specs.runs.Machine.{MachineState, opening_state}
 use Rattle.cheri_model.specs.runs.Replay.{is_legal, replayed_state}
+use Rattle.explore_sights.specs.declared.sights.Sight.{Sight}
 use Rattle.schedules.specs.declared.ranges.SweepRange.{SweepRange}
 use Rattle.schedules.specs.Schedules.{AreAllowed}
 use Rattle.shown_states.specs.Endings.{ending_of}
@@ -44,11 +47,12 @@ pub record AreFound (kept : KeptParts) (harts : List (Vec Authority Global))
 
 -- The answer: the greatest rights over the kept states, each with the witness of the first state in
 -- which just these are held.
-pub record IsAuthorityAnswer (image : ImageParts) (sweeps : List SweepRange) (limit : ℕ)
-    (format : Format) (text : List ℕ) (ending : Ending) : Type 0 where
+pub record IsAuthorityAnswer (image : ImageParts) (sweeps : List SweepRange) (sight : Sight)
+    (limit : ℕ) (format : Format) (text : List ℕ) (ending : Ending) : Type 0 where
   pub kept : KeptParts
   pub image_is : kept.image ≡ image
   pub sweeps_are : kept.sweeps ≡ sweeps
+  pub sight_is : kept.sight ≡ sight
   pub limit_is : kept.limit ≡ limit
   pub search : IsSearch kept
   pub harts : List (Vec Authority Global)

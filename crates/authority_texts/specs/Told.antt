@@ -10,7 +10,7 @@ use Rattle.states.specs.Kept.{KeptParts, at, IsWitnessOrder}
 pub record IsTold (kept : KeptParts) (authority : Authority) (told : Told) : Type 0 where
   pub rights : told.rights ≡ authority.rights
   pub order : (s : MachineState) → at kept authority.first ≡ Some s →
-      IsWitnessOrder kept.image kept.sweeps s told.order.items
+      IsWitnessOrder kept.image kept.sweeps kept.sight s told.order.items
 
 abbrev pub AreTold : KeptParts → List Authority → List Told → Type 0
 AreTold kept [] [] = Unit {0}

@@ -1,6 +1,8 @@
 //! The search, and its answer.
 
-ghost use Rattle.std.specs.Prelude.{◌≡◌, ◌+◌, ◌++◌, ◌<◌, ◌≤◌, length};
+ghost use Rattle.std.specs.Prelude.{◌≡◌, ◌+◌, ◌++◌};
+ghost use Rattle.explore_sights.specs.Sights.{sight_of};
+ghost use Rattle.shown_states.specs.Searches.{IsSearchable};
 ghost use Rattle.std.specs.Prelude.{IfOk, IfErr, OnOk, string_bytes};
 ghost use Rattle.authority_texts.specs.Answers.{AreFound, IsAuthorityAnswer};
 ghost use Rattle.authority_texts.specs.AuthorityTexts.{said};
@@ -12,13 +14,13 @@ use crate::json::write_json;
 use crate::text::write_text;
 use crate::told::{Told, all_told_of, told_of};
 use authorities::{Authorities, authorities_of};
-use cheri_model::{Image, NoMemory};
+use cheri_model::NoMemory;
+use explore_sights::Sight;
 use found_texts::opened;
 use graph_search::Progress;
-use schedules::SweepRange;
-use shown_states::{Answer, Ending, Format, put_answer};
+use shown_states::{Answer, Ending, Format, Search, put_answer};
 use sinks::{Sink, WriteFault};
-use states::{Kept, MAX_SWEEPS, search_from};
+use states::{Kept, search_from};
 use std::alloc::{AllocError, Global};
 
 /// Appends an answer in a form.
@@ -40,25 +42,45 @@ fn write_said(
     }
 }
 
+/// What a search sees: every step, where that is asked for, else those by which rights are lost.
+fn sight_of(every_step: bool) -> Sight
+    ensures { result ≡ sight_of every_step Sight.Rights }
+{
+    if every_step {
+        Sight::EveryStep
+    } else {
+        Sight::Rights
+    }
+}
+
 /// Searches the states that an image reaches, and gathers the greatest rights over them.
 fn found_authorities<P: Progress>(
     alloc: Global,
-    image: &Image,
-    sweeps: &[SweepRange],
-    limit: u32,
+    search: &Search<'_>,
     progress: &mut P,
 ) -> Result<Authorities, AllocError>
-    requires some { 0 < limit }
-    requires few { length sweeps.now ≤ MAX_SWEEPS }
-    ensures image { IfOk result (λ found. found.kept.image ≡ image.now) }
-    ensures sweeps { IfOk result (λ found. found.kept.sweeps ≡ sweeps.now) }
-    ensures limit { IfOk result (λ found. found.kept.limit ≡ limit) }
+    requires { IsSearchable search.now }
+    ensures image { IfOk result (λ found. found.kept.image ≡ search.now.image.now) }
+    ensures sweeps { IfOk result (λ found. found.kept.sweeps ≡ search.now.sweeps.now) }
+    ensures sight { IfOk result (λ found.
+        found.kept.sight ≡ sight_of search.now.every_step Sight.Rights) }
+    ensures limit { IfOk result (λ found. found.kept.limit ≡ search.now.states) }
     ensures found { IfOk result (λ found.
         AreFound found.kept found.harts.items found.memory.items) }
 {
-    let core = opened(alloc, image)?;
+    let core = opened(alloc, search.image)?;
     let view = core.view();
-    let kept = search_from(alloc, image, view.harts, view.ram, sweeps, limit, progress)?;
+    let sight = sight_of(search.every_step);
+    let kept = search_from(
+        alloc,
+        search.image,
+        view.harts,
+        view.ram,
+        search.sweeps,
+        &sight,
+        search.states,
+        progress,
+    )?;
     // Its clause says that, where it is so, every order leads to a kept state.
     let _complete = kept.is_complete();
     authorities_of(alloc, kept)
@@ -68,7 +90,8 @@ fn found_authorities<P: Progress>(
 fn answer_of(alloc: Global, format: Format, found: &Authorities) -> Result<Answer, NoMemory>
     requires { AreFound found.now.kept found.now.harts.items found.now.memory.items }
     ensures { IfOk result (λ answer. IsAuthorityAnswer found.now.kept.image found.now.kept.sweeps
-        found.now.kept.limit format (string_bytes answer.text) answer.ending) }
+        found.now.kept.sight found.now.kept.limit format
+        (string_bytes answer.text) answer.ending) }
 {
     // Its clause says that this is a search.
     let _count = found.kept.len();
@@ -93,25 +116,25 @@ fn answer_of(alloc: Global, format: Format, found: &Authorities) -> Result<Answe
 /// out, nothing is written; where the sink fails, it took a prefix of the answer.
 pub fn authority<P: Progress, S: Sink>(
     alloc: Global,
-    image: &Image,
-    sweeps: &[SweepRange],
-    limit: u32,
-    format: Format,
+    search: &Search<'_>,
     progress: &mut P,
     sink: &mut S,
 ) -> Result<Ending, WriteFault>
-    requires some { 0 < limit }
-    requires few { length sweeps.now ≤ MAX_SWEEPS }
+    requires { IsSearchable search.now }
     ensures written { IfOk result (λ ending. IsWritten
-        (λ text. IsAuthorityAnswer image.now sweeps.now limit format text ending)
+        (λ text. IsAuthorityAnswer search.now.image.now search.now.sweeps.now
+        (sight_of search.now.every_step Sight.Rights) search.now.states search.now.format
+        text ending)
         (S.written sink.old) (S.written sink.new)) }
     ensures begun { IfErr result (IsUnwritten (λ text. (ending : Ending)
-        × IsAuthorityAnswer image.now sweeps.now limit format text ending)
+        × IsAuthorityAnswer search.now.image.now search.now.sweeps.now
+        (sight_of search.now.every_step Sight.Rights) search.now.states search.now.format
+        text ending)
         (S.written sink.old) (S.written sink.new)) }
     ensures failures { S.failures sink.new ≡ S.failures sink.old + failures_of result }
     ensures identity { S.identity sink.new ≡ S.identity sink.old }
 {
-    let found = found_authorities(alloc, image, sweeps, limit, progress)?;
-    let answer = answer_of(alloc, format, &found)?;
+    let found = found_authorities(alloc, search, progress)?;
+    let answer = answer_of(alloc, search.format, &found)?;
     put_answer(sink, &answer)
 }

@@ -5,8 +5,9 @@ ghost use Rattle.std.specs.Prelude.{◌<◌, IfOk};
 ghost use Rattle.authority_texts.specs.Told.{AreKnown, AreAllKnown, AreTold, AreAllTold, IsTold};
 ghost use Rattle.states.specs.Kept.{count};
 
-use authorities::{Authority, Rights};
+use authorities::Authority;
 use cheri_model::Op;
+use explore_rights::Rights;
 use states::Kept;
 use std::alloc::{AllocError, Global};
 

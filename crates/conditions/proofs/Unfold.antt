@@ -19,6 +19,8 @@ use Rattle.conditions.specs.Shown.{shown_of}
 use Rattle.conditions.specs.Items.{items_of, ItemList}
 use Rattle.conditions.specs.Values.{field_value, value_in, number_at, compares, has_status, grants}
 use Rattle.conditions.specs.Values.{reaches, atom_holds, holds}
+use Rattle.conditions.specs.Hiding.{atom_holds_of, holds_of, keeps_hart, hides}
+use Rattle.cheri_model.specs.steps.Hart.{HartState}
 
 unfoldable pub places : List ℕ → Option Field
 unfolding field_of number_in fits_image address_in holder_named hart_place granule_place width_of data_place place_of
@@ -51,3 +53,7 @@ values field value = field_value field value
 unfoldable pub holding : Comparison → ℕ → ℕ → Bool
 unfolding compares has_status grants reaches atom_holds
 holding comparison first second = compares comparison first second
+
+unfoldable pub hiding : List Atom → HartState → HartState → Bool
+unfolding atom_holds_of holds_of keeps_hart hides
+hiding atoms before after = hides atoms before after

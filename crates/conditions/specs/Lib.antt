@@ -6,3 +6,4 @@ pub mod Conditions
 pub mod Shown
 pub mod Items
 pub mod Values
+pub mod Hiding

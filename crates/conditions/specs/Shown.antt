@@ -1,6 +1,6 @@
 -- What an item shows: a place with its optional field, or `H.status` (this project's own format).
 use Rattle.std.specs.Prelude.{ℕ, ◌-◌, nat_le, Bool, ◌&&◌, if◌then◌else◌, List, length, drop}
-use Rattle.std.specs.Prelude.{slice_index, Option, Some, None, codes, bytes_eq}
+use Rattle.std.specs.Prelude.{slice_index, Option, Some, codes, bytes_eq}
 use Rattle.cheri_model.specs.runs.Image.{ImageParts}
 use Rattle.grammar.specs.Labels.{is_decimal_digit}
 use Rattle.conditions.specs.declared.parts.Shown.{Shown}

@@ -3,7 +3,6 @@ use Rattle.std.specs.Prelude.{ℕ, ◌+◌, ◌==◌, nat_lt, nat_le, Bool, true
 use Rattle.std.specs.Prelude.{List, zero, suc, bit_and}
 use Rattle.std.specs.List.{list_all}
 use Rattle.cap_model.specs.declared.perms.Perms.{Perms}
-use Rattle.cap_model.specs.values.Capability.{Capability}
 use Rattle.cap_model.specs.values.CapValue.{CapValue, valid, raw, bits_of, tag_of}
 use Rattle.cap_model.specs.results.Addresses.{address_of, length_of}
 use Rattle.cap_model.specs.results.Readings.{number_of, base_of, top_of, permissions_of, is_sealed}

@@ -1,7 +1,7 @@
 //! Conditions: one argument's grammar, and whether a condition holds in a state.
 #![tactic(auto, unfolding(crate::proofs::Unfold::conditions))]
 
-ghost use Rattle.std.specs.Prelude.{◌≡◌, map};
+ghost use Rattle.std.specs.Prelude.{◌≡◌, IfOk, map};
 ghost use Rattle.conditions.specs.Conditions.{
   may_end,
   atoms_from,
@@ -17,13 +17,13 @@ use crate::reading::{Expected, Step, step_of};
 use crate::view::StateView;
 use crate::words::{WordFault, push, word_start, words_of};
 use cheri_model::Image;
-use std::alloc::Global;
+use std::alloc::{AllocError, Global};
 use std::marker::Model;
 
 /// A condition on states of the machine: all its atoms hold.
 #[derive(Debug, Drop)]
 pub struct Condition {
-    atoms: Vec<Atom>,
+    pub(crate) atoms: Vec<Atom>,
 }
 
 impl Model for Condition {
@@ -84,6 +84,14 @@ pub fn read_condition(alloc: Global, image: &Image, text: &str) -> Result<Condit
 }
 
 impl Condition {
+    /// The same condition. Fails only when out of memory.
+    pub fn copy(&self, alloc: Global) -> Result<Condition, AllocError>
+        ensures { IfOk result (λ copy. copy ≡ self.now) }
+    {
+        let atoms = Vec::from_slice(alloc, self.atoms.as_slice())?;
+        Ok(Condition { atoms })
+    }
+
     /// Whether all atoms hold in a state.
     pub fn holds<V: StateView>(&self, view: &V) -> bool
         ensures { result ≡ holds (V.state view.now) self.now }

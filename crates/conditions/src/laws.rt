@@ -1,10 +1,24 @@
-//! The number that code and definitions share, by its numeral. Definitions take it from the code,
-//! so that a wrong one would be wrong on both sides; this law holds it to what the documents say.
+//! The number that code and definitions share, by its numeral: definitions take it from the code, so
+//! that a wrong one would be wrong on both sides. And what it means that a condition hides a step.
 
-ghost use Rattle.std.specs.Prelude.{◌≡◌};
+ghost use Rattle.std.specs.Prelude.{◌≡◌, ℕ, List, Some, true, slice_get, slice_set};
+ghost use Rattle.cheri_model.specs.runs.Machine.{MachineState};
+ghost use Rattle.cheri_model.specs.steps.Hart.{HartState};
+ghost use Rattle.conditions.specs.Hiding.{hides};
+ghost use Rattle.conditions.specs.Values.{holds};
 ghost use Rattle.conditions.specs.declared.items.TheConstants.{MAX_ITEMS};
+ghost use Rattle.conditions.specs.declared.parts.Atom.{Atom};
 
 /// The most items of a list.
 pub fn limits()
     ensures items { MAX_ITEMS ≡ 16 }
+{}
+
+/// A condition that holds in a state still holds where a step that it hides was taken: where the
+/// hart after it stands in the place of the hart before it, whichever place that is.
+pub fn hidden_steps_keep_conditions()
+    ensures { (atoms : List Atom) (before after : HartState) (state : MachineState) (number : ℕ) →
+        hides atoms before after ≡ true → slice_get state.harts number ≡ Some before →
+        holds state atoms ≡ true →
+        holds (record state { harts = slice_set state.harts number after }) atoms ≡ true }
 {}

@@ -5,6 +5,7 @@
 mod atoms;
 mod conditions;
 mod fault;
+mod hiding;
 mod holding;
 mod items;
 pub mod laws;

@@ -1,5 +1,5 @@
 -- The sweeps that arguments write, one by one.
-use Rattle.std.proofs.Common.{◌≡◌, ◌∙◌, ◌<◌, ◌≤◌, ◌+◌, ◌-◌, ◌^◌, ◌==◌, ◌&&◌, nat_lt, nat_le, ℕ, suc, Bool, true, false, cond, inl, inr, arith, take, List, [], ◌∷◌, ◌++◌, map, length, drop, Option, Some, None, refl, sym, ap, append-nil, append_assoc, drop-cons, drop_of_length-le}
+use Rattle.std.proofs.Common.{◌≡◌, ◌∙◌, ◌<◌, ◌≤◌, ◌+◌, ◌^◌, ◌==◌, ◌&&◌, nat_lt, nat_le, ℕ, suc, Bool, true, false, cond, inl, inr, arith, take, List, [], ◌∷◌, ◌++◌, map, length, drop, Option, Some, None, refl, sym, ap, append-nil, append_assoc, drop-cons, drop_of_length-le}
 use Rattle.std.proofs.lemmas.List.{length-map}
 use Rattle.std.proofs.lemmas.Bool.Decides.{nat_tests}
 use Rattle.std.specs.Borrow.{Bor}

@@ -8,11 +8,11 @@ use Rattle.command_line.specs.Arguments.{flag, required_word, single_option, wan
 abbrev pub repeated_option : Text → Rule
 repeated_option name = record (new_rule name) { long = Some name; action = Some Append }
 
--- `[--sweep LO,HI].. [--states N] [--json]`, which each command takes
+-- `[--sweep LO,HI].. [--states N] [--steps] [--json]`, which each command takes
 abbrev pub with_search_options : App → App
 with_search_options app =
-    with_rule (with_rule (with_rule app (repeated_option (codes "sweep")))
-    (single_option (codes "states"))) (flag (codes "json"))
+    with_rule (with_rule (with_rule (with_rule app (repeated_option (codes "sweep")))
+    (single_option (codes "states"))) (flag (codes "steps"))) (flag (codes "json"))
 
 -- `outcomes LISTING [--show ITEM[,ITEM]..]`
 abbrev pub outcomes_command : App

@@ -1,8 +1,8 @@
 -- What the arguments of a command line of `cheri_explore` ask for.
-use Rattle.std.specs.Prelude.{ℕ, List, Option, Some, None, option_and_then, option_map, codes, if◌then◌else◌}
+use Rattle.std.specs.Prelude.{ℕ, Bool, List, Option, Some, None, option_and_then, option_map, codes, if◌then◌else◌}
 use Rattle.std.specs.Str.{bytes_eq}
 use Rattle.clap.specs.Words.{Row, Text, all_of, fault_of, first_of, subcommand_of}
-use Rattle.command_line.specs.Found.{◌>>=◌, form_of, unless_faulty}
+use Rattle.command_line.specs.Found.{◌>>=◌, form_of, is_given, unless_faulty}
 use Rattle.command_line.specs.Numbers.{number_or}
 use Rattle.command_line.specs.declared.found.Format.{Format}
 use Rattle.explore_line.specs.Commands.{explore_program}
@@ -23,6 +23,7 @@ pub record ExploreAsked : Type 0 where
   pub listing : Text
   pub sweeps : List Sweep
   pub states : ℕ
+  pub every_step : Bool
   pub form : Format
   pub question : AskedQuestion
 
@@ -36,6 +37,7 @@ explore_asked_by request = record {
   listing = request.listing.now;
   sweeps = request.sweeps.items;
   states = request.states;
+  every_step = request.every_step;
   form = request.form;
   question = question_asked_by request.question;
 }
@@ -59,6 +61,7 @@ explore_asked_of name rows = do
     listing = listing;
     sweeps = sweeps;
     states = states;
+    every_step = is_given (first_of (codes "steps") rows);
     form = form_of (first_of (codes "json") rows);
     question = question;
   })

@@ -24,7 +24,7 @@ fn repeated_option<'a>(alloc: Global, name: &'a str) -> Arg<'a>
     Arg::new(alloc, name).long(name).action(ArgAction::Append)
 }
 
-/// A command with the options of a search: `[--sweep LO,HI].. [--states N] [--json]`.
+/// A command with the options of a search: `[--sweep LO,HI].. [--states N] [--steps] [--json]`.
 fn with_search_options<'a>(alloc: Global, command: Command<'a>) -> Result<Command<'a>, AllocError>
     ensures app { IfOk result (λ more. app_of more ≡ with_search_options (app_of command.entry)) }
     ensures local { has_globals command.entry ≡ false
@@ -32,7 +32,8 @@ fn with_search_options<'a>(alloc: Global, command: Command<'a>) -> Result<Comman
 {
     let with_sweeps = command.arg(repeated_option(alloc, "sweep"))?;
     let with_states = with_sweeps.arg(single_option(alloc, "states"))?;
-    with_states.arg(flag(alloc, "json"))
+    let with_steps = with_states.arg(flag(alloc, "steps"))?;
+    with_steps.arg(flag(alloc, "json"))
 }
 
 /// `outcomes LISTING [--show ITEM[,ITEM]..]`.

@@ -1,7 +1,7 @@
 //! What some command lines ask for, which the definitions decide by themselves: examples to read
 //! them by.
 
-ghost use Rattle.std.specs.Prelude.{◌≡◌, Some, None, [], ◌∷◌, codes};
+ghost use Rattle.std.specs.Prelude.{◌≡◌, Some, None, true, false, [], ◌∷◌, codes};
 ghost use Rattle.explore_line.specs.Requests.{Authority, Find, Outcomes, explore_asked};
 ghost use Rattle.explore_line.specs.declared.requests.TheConstants.{GREATEST_STATES, USUAL_STATES};
 ghost use Rattle.explore_line.specs.declared.sweeps.TheConstants.{MAX_SWEEPS};
@@ -23,6 +23,7 @@ pub fn known_explore_lines()
           listing = codes "first.lst";
           sweeps = [];
           states = 1000000;
+          every_step = false;
           form = Format.Text;
           question = Outcomes None;
         }) }
@@ -32,6 +33,7 @@ pub fn known_explore_lines()
           listing = codes "first.lst";
           sweeps = [];
           states = 1000000;
+          every_step = false;
           form = Format.Text;
           question = Outcomes (Some (codes "0.c7,mem8[0x10]"));
         }) }
@@ -41,6 +43,7 @@ pub fn known_explore_lines()
           listing = codes "first.lst";
           sweeps = [];
           states = 1000000;
+          every_step = false;
           form = Format.Text;
           question = Outcomes (Some []);
         }) }
@@ -50,6 +53,7 @@ pub fn known_explore_lines()
           listing = codes "first.lst";
           sweeps = [];
           states = 1000000;
+          every_step = false;
           form = Format.Json;
           question = Find (codes "0 is halted");
         }) }
@@ -59,8 +63,19 @@ pub fn known_explore_lines()
           listing = codes "first.lst";
           sweeps = [];
           states = 10;
+          every_step = false;
           form = Format.Text;
           question = Authority;
+        }) }
+    ensures steps { explore_asked (codes "cheri_explore" ∷ codes "find" ∷ codes "first.lst"
+        ∷ codes "--steps" ∷ codes "0 is halted" ∷ [])
+        ≡ Some (record {
+          listing = codes "first.lst";
+          sweeps = [];
+          states = 1000000;
+          every_step = true;
+          form = Format.Text;
+          question = Find (codes "0 is halted");
         }) }
     ensures swept { explore_asked (codes "cheri_explore" ∷ codes "authority" ∷ codes "first.lst"
         ∷ codes "--sweep" ∷ codes "16,0x20" ∷ codes "--sweep=0,0x10000000000000000" ∷ [])
@@ -69,6 +84,7 @@ pub fn known_explore_lines()
           sweeps = record { lo = 16; hi = 32 }
               ∷ record { lo = 0; hi = 18446744073709551616 } ∷ [];
           states = 1000000;
+          every_step = false;
           form = Format.Text;
           question = Authority;
         }) }
@@ -78,6 +94,7 @@ pub fn known_explore_lines()
           listing = codes "first.lst";
           sweeps = record { lo = 7; hi = 7 } ∷ [];
           states = 1000000;
+          every_step = false;
           form = Format.Text;
           question = Outcomes None;
         }) }
@@ -87,6 +104,7 @@ pub fn known_explore_lines()
           listing = codes "first.lst";
           sweeps = [];
           states = 100000000;
+          every_step = false;
           form = Format.Text;
           question = Outcomes None;
         }) }
@@ -128,6 +146,12 @@ pub fn known_explore_lines()
         ≡ None }
     ensures states_twice { explore_asked (codes "cheri_explore" ∷ codes "outcomes"
         ∷ codes "first.lst" ∷ codes "--states" ∷ codes "1" ∷ codes "--states" ∷ codes "1" ∷ [])
+        ≡ None }
+    ensures steps_twice { explore_asked (codes "cheri_explore" ∷ codes "outcomes"
+        ∷ codes "first.lst" ∷ codes "--steps" ∷ codes "--steps" ∷ [])
+        ≡ None }
+    ensures steps_of_a_number { explore_asked (codes "cheri_explore" ∷ codes "outcomes"
+        ∷ codes "first.lst" ∷ codes "--steps=1" ∷ [])
         ≡ None }
     ensures shown_authority { explore_asked (codes "cheri_explore" ∷ codes "authority"
         ∷ codes "first.lst" ∷ codes "--show" ∷ codes "0.c1" ∷ [])

@@ -14,7 +14,7 @@ ghost use Rattle.explore_line.specs.declared.sweeps.TheConstants.{MAX_SWEEPS};
 
 use crate::sweeps::{Sweep, sweeps_found};
 use clap::ArgMatches;
-use command_line::found::{form_found, value_found};
+use command_line::found::{flag_found, form_found, value_found};
 use command_line::numbers::number_or;
 use command_line::{CommandFault, Format};
 use std::alloc::Global;
@@ -37,12 +37,15 @@ pub enum Question<'a> {
 }
 
 /// What a command line asks for: to search the states that the image of the listing in the file of
-/// this name reaches, with these sweeps, up to so many states, and to answer in this form.
+/// this name reaches, with these sweeps, up to so many states, and to answer in this form. Where
+/// `every_step` is true, states are told apart after each step, also where the question doesn't
+/// see it.
 #[derive(Debug, Drop)]
 pub struct ExploreRequest<'a> {
     pub listing: &'a str,
     pub sweeps: Vec<Sweep>,
     pub states: u32,
+    pub every_step: bool,
     pub form: Format,
     pub question: Question<'a>,
 }
@@ -101,6 +104,7 @@ fn explore_of<'a>(
         listing,
         sweeps,
         states,
+        every_step: flag_found(found, "steps"),
         form: form_found(found),
         question,
     })

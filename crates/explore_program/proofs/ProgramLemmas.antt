@@ -90,32 +90,32 @@ asked_fails files request asked result old new is fails = rw is fails
 -- the question that was answered is the one that was asked
 pub find_asked : (image : ImageParts) (asked : ExploreAsked) (condition : List ℕ) (sweeps : List SweepRange) (states : ℕ) (format : Format)
     (answer : Answer Ending Fault) → asked.question ≡ Find condition → sweeps ≡ map range_of asked.sweeps → states ≡ asked.states
-    → format ≡ format_of asked.form → IsFindSaid image condition sweeps states format answer
+    → format ≡ format_of asked.form → IsFindSaid image condition sweeps asked.every_step states format answer
     → IsQuestionAnswer image asked asked.question answer
 find_asked image asked condition sweeps states format answer question sweeps_are states_are format_is said =
     subst (λ (q : AskedQuestion). IsQuestionAnswer image asked q answer) (sym question)
-    (subst (λ (f : Format). IsFindSaid image condition (map range_of asked.sweeps) asked.states f answer) format_is
-    (subst (λ (n : ℕ). IsFindSaid image condition (map range_of asked.sweeps) n format answer) states_are
-    (subst (λ (s : List SweepRange). IsFindSaid image condition s states format answer) sweeps_are said)))
+    (subst (λ (f : Format). IsFindSaid image condition (map range_of asked.sweeps) asked.every_step asked.states f answer) format_is
+    (subst (λ (n : ℕ). IsFindSaid image condition (map range_of asked.sweeps) asked.every_step n format answer) states_are
+    (subst (λ (s : List SweepRange). IsFindSaid image condition s asked.every_step states format answer) sweeps_are said)))
 
 -- the outcomes that were asked for
 pub outcomes_asked : (image : ImageParts) (asked : ExploreAsked) (show : Option (List ℕ)) (sweeps : List SweepRange) (states : ℕ)
     (format : Format) (answer : Answer Ending Fault) → asked.question ≡ Outcomes show → sweeps ≡ map range_of asked.sweeps
-    → states ≡ asked.states → format ≡ format_of asked.form → IsOutcomesSaid image show sweeps states format answer
+    → states ≡ asked.states → format ≡ format_of asked.form → IsOutcomesSaid image show sweeps asked.every_step states format answer
     → IsQuestionAnswer image asked asked.question answer
 outcomes_asked image asked show sweeps states format answer question sweeps_are states_are format_is said =
     subst (λ (q : AskedQuestion). IsQuestionAnswer image asked q answer) (sym question)
-    (subst (λ (f : Format). IsOutcomesSaid image show (map range_of asked.sweeps) asked.states f answer) format_is
-    (subst (λ (n : ℕ). IsOutcomesSaid image show (map range_of asked.sweeps) n format answer) states_are
-    (subst (λ (s : List SweepRange). IsOutcomesSaid image show s states format answer) sweeps_are said)))
+    (subst (λ (f : Format). IsOutcomesSaid image show (map range_of asked.sweeps) asked.every_step asked.states f answer) format_is
+    (subst (λ (n : ℕ). IsOutcomesSaid image show (map range_of asked.sweeps) asked.every_step n format answer) states_are
+    (subst (λ (s : List SweepRange). IsOutcomesSaid image show s asked.every_step states format answer) sweeps_are said)))
 
 -- the rights that were asked for
 pub authority_asked : (image : ImageParts) (asked : ExploreAsked) (sweeps : List SweepRange) (states : ℕ) (format : Format)
     (answer : Answer Ending Fault) → asked.question ≡ Authority → sweeps ≡ map range_of asked.sweeps → states ≡ asked.states
-    → format ≡ format_of asked.form → IsAuthoritySaid image sweeps states format answer
+    → format ≡ format_of asked.form → IsAuthoritySaid image sweeps asked.every_step states format answer
     → IsQuestionAnswer image asked asked.question answer
 authority_asked image asked sweeps states format answer question sweeps_are states_are format_is said =
     subst (λ (q : AskedQuestion). IsQuestionAnswer image asked q answer) (sym question)
-    (subst (λ (f : Format). IsAuthoritySaid image (map range_of asked.sweeps) asked.states f answer) format_is
-    (subst (λ (n : ℕ). IsAuthoritySaid image (map range_of asked.sweeps) n format answer) states_are
-    (subst (λ (s : List SweepRange). IsAuthoritySaid image s states format answer) sweeps_are said)))
+    (subst (λ (f : Format). IsAuthoritySaid image (map range_of asked.sweeps) asked.every_step asked.states f answer) format_is
+    (subst (λ (n : ℕ). IsAuthoritySaid image (map range_of asked.sweeps) asked.every_step n format answer) states_are
+    (subst (λ (s : List SweepRange). IsAuthoritySaid image s asked.every_step states format answer) sweeps_are said)))

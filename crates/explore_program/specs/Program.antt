@@ -34,12 +34,12 @@ format_of forms.Json = Json
 abbrev pub IsQuestionAnswer : ImageParts → ExploreAsked → AskedQuestion → Answer Ending Fault
     → Type 0
 IsQuestionAnswer image asked (Find condition) answer =
-    IsFindSaid image condition (map range_of asked.sweeps) asked.states
+    IsFindSaid image condition (map range_of asked.sweeps) asked.every_step asked.states
     (format_of asked.form) answer
 IsQuestionAnswer image asked (Outcomes show) answer =
-    IsOutcomesSaid image show (map range_of asked.sweeps) asked.states (format_of asked.form) answer
+    IsOutcomesSaid image show (map range_of asked.sweeps) asked.every_step asked.states (format_of asked.form) answer
 IsQuestionAnswer image asked Authority answer =
-    IsAuthoritySaid image (map range_of asked.sweeps) asked.states (format_of asked.form) answer
+    IsAuthoritySaid image (map range_of asked.sweeps) asked.every_step asked.states (format_of asked.form) answer
 
 -- the answers to a request; `usage` where the arguments ask for nothing
 abbrev pub IsAnswer : KnownFiles → Option ExploreAsked → Answer Ending Fault → Type 0

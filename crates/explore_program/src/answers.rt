@@ -3,6 +3,7 @@
 
 ghost use Rattle.std.specs.Prelude.{◌≡◌, option_map, Some, IfOk, IfErr};
 ghost use Rattle.printing.specs.Endings.{HasWhole, FailsBy};
+ghost use Rattle.shown_states.specs.Searches.{IsSearchable};
 ghost use Rattle.shown_states.specs.Endings.{IsUnwritten, IsWritten};
 ghost use Rattle.shown_states.specs.declared.form.Ending.{Ending};
 ghost use Rattle.explore_program.specs.Faults.{failure_of};
@@ -11,15 +12,14 @@ ghost use Rattle.explore_program.specs.Questions.{
   IsFindSaid,
   IsOutcomesSaid,
   IsSaid,
-  IsSearchable,
 };
 
 use crate::faults::Fault;
-use crate::questions::{Authority, Find, Outcomes, Question, Search, ShownOutcomes};
+use crate::questions::{Authority, Find, Outcomes, Question, ShownOutcomes};
 use conditions::{read_condition, read_items};
 use graph_search::Progress;
 use printing::flush;
-use shown_states::Ending;
+use shown_states::{Ending, Search};
 use sinks::{ToWrite, WriteFault};
 use std::alloc::Global;
 use std::io::Write;
@@ -74,11 +74,11 @@ pub fn answer_find<P: Progress, O: Write>(
 ) -> Result<Ending, Fault>
     requires { IsSearchable search }
     ensures printed { IfOk result (λ ending. HasWhole (IsFindSaid search.entry.image.now
-        condition.now search.entry.sweeps.now search.entry.states search.entry.format) ending
+        condition.now search.entry.sweeps.now search.entry.every_step search.entry.states search.entry.format) ending
         (O.contents out.old) (O.contents out.new)) }
     ensures failed { IfErr result (λ fault. FailsBy (failure_of fault)
         (IsFindSaid search.entry.image.now condition.now search.entry.sweeps.now
-        search.entry.states search.entry.format) fault
+        search.entry.every_step search.entry.states search.entry.format) fault
         (O.contents out.old) (O.contents out.new)) }
 {
     let condition = read_condition(alloc, search.image, condition)?;
@@ -98,11 +98,11 @@ pub fn answer_authority<P: Progress, O: Write>(
 ) -> Result<Ending, Fault>
     requires { IsSearchable search }
     ensures printed { IfOk result (λ ending. HasWhole (IsAuthoritySaid search.entry.image.now
-        search.entry.sweeps.now search.entry.states search.entry.format) ending
+        search.entry.sweeps.now search.entry.every_step search.entry.states search.entry.format) ending
         (O.contents out.old) (O.contents out.new)) }
     ensures failed { IfErr result (λ fault. FailsBy (failure_of fault)
         (IsAuthoritySaid search.entry.image.now search.entry.sweeps.now
-        search.entry.states search.entry.format) fault
+        search.entry.every_step search.entry.states search.entry.format) fault
         (O.contents out.old) (O.contents out.new)) }
 {
     ask(alloc, &Authority { search }, progress, out)
@@ -118,11 +118,11 @@ fn answer_shown<P: Progress, O: Write>(
 ) -> Result<Ending, Fault>
     requires { IsSearchable search }
     ensures printed { IfOk result (λ ending. HasWhole (IsOutcomesSaid search.entry.image.now
-        (Some items.now) search.entry.sweeps.now search.entry.states search.entry.format) ending
+        (Some items.now) search.entry.sweeps.now search.entry.every_step search.entry.states search.entry.format) ending
         (O.contents out.old) (O.contents out.new)) }
     ensures failed { IfErr result (λ fault. FailsBy (failure_of fault)
         (IsOutcomesSaid search.entry.image.now (Some items.now) search.entry.sweeps.now
-        search.entry.states search.entry.format) fault
+        search.entry.every_step search.entry.states search.entry.format) fault
         (O.contents out.old) (O.contents out.new)) }
 {
     let items = read_items(alloc, search.image, items)?;
@@ -144,11 +144,11 @@ pub fn answer_outcomes<P: Progress, O: Write>(
     requires { IsSearchable search }
     ensures printed { IfOk result (λ ending. HasWhole (IsOutcomesSaid search.entry.image.now
         (option_map (λ items. items.now) show.entry) search.entry.sweeps.now
-        search.entry.states search.entry.format) ending
+        search.entry.every_step search.entry.states search.entry.format) ending
         (O.contents out.old) (O.contents out.new)) }
     ensures failed { IfErr result (λ fault. FailsBy (failure_of fault)
         (IsOutcomesSaid search.entry.image.now (option_map (λ items. items.now) show.entry)
-        search.entry.sweeps.now search.entry.states search.entry.format) fault
+        search.entry.sweeps.now search.entry.every_step search.entry.states search.entry.format) fault
         (O.contents out.old) (O.contents out.new)) }
 {
     match show {

@@ -11,12 +11,12 @@ ghost use Rattle.explore_program.specs.Program.{Ends, IsAnswer, command_line, fo
 use crate::answers::{answer_authority, answer_find, answer_outcomes};
 use crate::faults::Fault;
 use crate::progress::TerminalProgress;
-use crate::questions::{Search, ranges_of};
+use crate::questions::ranges_of;
 use explore_line::{ExploreRequest, Question, explore_request};
 use graph_search::{NoProgress, Progress};
 use inputs::{Files, command_args, read_image};
 use printing::write_line;
-use shown_states::{Ending, Format};
+use shown_states::{Ending, Format, Search};
 use states::MAX_SWEEPS;
 use std::alloc::Global;
 use std::io::Write;
@@ -54,6 +54,7 @@ fn answer_request<F: Files, O: Write, P: Progress>(
     let search = Search {
         image: &image,
         sweeps: sweeps.as_slice(),
+        every_step: request.every_step,
         states: request.states,
         format: format_of(request.form),
     };

@@ -7,17 +7,20 @@ ghost use Rattle.found_texts.specs.Find.{IsFindAnswer};
 ghost use Rattle.outcome_texts.specs.Answers.{IsListedAnswer, IsShownAnswer};
 ghost use Rattle.shown_states.specs.Endings.{failures_of, IsUnwritten, IsWritten};
 ghost use Rattle.shown_states.specs.declared.form.Ending.{Ending};
-ghost use Rattle.explore_program.specs.Questions.{IsSearchable, range_of};
+ghost use Rattle.explore_program.specs.Questions.{range_of};
+ghost use Rattle.explore_sights.specs.declared.sights.Sight.TheVariants.{NoStep, Rights};
+ghost use Rattle.explore_sights.specs.Sights.{sight_of};
+ghost use Rattle.shown_states.specs.Searches.{IsSearchable};
 
 use authority_texts::authority;
-use cheri_model::{Image, NoMemory};
+use cheri_model::NoMemory;
 use conditions::{Condition, Items};
 use explore_line::Sweep;
 use found_texts::find;
 use graph_search::Progress;
 use outcome_texts::{list_outcomes, show_outcomes};
 use schedules::SweepRange;
-use shown_states::{Ending, Format};
+use shown_states::{Ending, Search};
 use sinks::{Sink, WriteFault};
 use std::alloc::Global;
 
@@ -33,16 +36,6 @@ pub fn ranges_of(alloc: Global, sweeps: &[Sweep]) -> Result<Vec<SweepRange>, NoM
         })?;
     }
     Ok(ranges)
-}
-
-/// What is searched: an image, with these sweeps, up to so many states; and how the answer is
-/// written.
-#[derive(Clone, Copy)]
-pub struct Search<'a> {
-    pub image: &'a Image,
-    pub sweeps: &'a [SweepRange],
-    pub states: u32,
-    pub format: Format,
 }
 
 /// A question about the states that a search keeps.
@@ -82,7 +75,7 @@ impl<'a, 'b> Question for Find<'a, 'b> {
     ghost is_askable = { λ q. IsSearchable q.search };
 
     ghost answers = { λ q. IsFindAnswer q.search.image.now q.condition.now q.search.sweeps.now
-        q.search.states q.search.format };
+        q.search.every_step q.search.states q.search.format };
 
     fn write<P: Progress, S: Sink>(
         &self,
@@ -90,22 +83,7 @@ impl<'a, 'b> Question for Find<'a, 'b> {
         progress: &mut P,
         sink: &mut S,
     ) -> Result<Ending, WriteFault> {
-        let Search {
-            image,
-            sweeps,
-            states,
-            format,
-        } = self.search;
-        find(
-            alloc,
-            image,
-            self.condition,
-            sweeps,
-            states,
-            format,
-            progress,
-            sink,
-        )
+        find(alloc, &self.search, self.condition, progress, sink)
     }
 }
 
@@ -119,7 +97,7 @@ impl<'a> Question for Authority<'a> {
     ghost is_askable = { λ q. IsSearchable q.search };
 
     ghost answers = { λ q. IsAuthorityAnswer q.search.image.now q.search.sweeps.now
-        q.search.states q.search.format };
+        (sight_of q.search.every_step Rights) q.search.states q.search.format };
 
     fn write<P: Progress, S: Sink>(
         &self,
@@ -127,13 +105,7 @@ impl<'a> Question for Authority<'a> {
         progress: &mut P,
         sink: &mut S,
     ) -> Result<Ending, WriteFault> {
-        let Search {
-            image,
-            sweeps,
-            states,
-            format,
-        } = self.search;
-        authority(alloc, image, sweeps, states, format, progress, sink)
+        authority(alloc, &self.search, progress, sink)
     }
 }
 
@@ -147,7 +119,7 @@ impl<'a> Question for Outcomes<'a> {
     ghost is_askable = { λ q. IsSearchable q.search };
 
     ghost answers = { λ q. IsListedAnswer q.search.image.now q.search.sweeps.now
-        q.search.states q.search.format };
+        (sight_of q.search.every_step NoStep) q.search.states q.search.format };
 
     fn write<P: Progress, S: Sink>(
         &self,
@@ -155,13 +127,7 @@ impl<'a> Question for Outcomes<'a> {
         progress: &mut P,
         sink: &mut S,
     ) -> Result<Ending, WriteFault> {
-        let Search {
-            image,
-            sweeps,
-            states,
-            format,
-        } = self.search;
-        list_outcomes(alloc, image, sweeps, states, format, progress, sink)
+        list_outcomes(alloc, &self.search, progress, sink)
     }
 }
 
@@ -176,7 +142,7 @@ impl<'a, 'b, 'c> Question for ShownOutcomes<'a, 'b, 'c> {
     ghost is_askable = { λ q. IsSearchable q.search };
 
     ghost answers = { λ q. IsShownAnswer q.search.image.now (list_of q.items.now)
-        q.search.sweeps.now q.search.states q.search.format };
+        q.search.sweeps.now (sight_of q.search.every_step NoStep) q.search.states q.search.format };
 
     fn write<P: Progress, S: Sink>(
         &self,
@@ -184,14 +150,6 @@ impl<'a, 'b, 'c> Question for ShownOutcomes<'a, 'b, 'c> {
         progress: &mut P,
         sink: &mut S,
     ) -> Result<Ending, WriteFault> {
-        let Search {
-            image,
-            sweeps,
-            states,
-            format,
-        } = self.search;
-        show_outcomes(
-            alloc, image, self.items, sweeps, states, format, progress, sink,
-        )
+        show_outcomes(alloc, &self.search, self.items, progress, sink)
     }
 }

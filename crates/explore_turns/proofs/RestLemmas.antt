@@ -11,6 +11,7 @@ use Rattle.cheri_model.specs.declared.instr.Instr.{Instr}
 use Rattle.cheri_model.specs.runs.Machine.{is_running}
 use Rattle.cheri_model.specs.runs.Sweeps.{cleared_in_hart, swept_hart}
 use Rattle.cheri_model.specs.steps.Hart.{HartState}
+use Rattle.explore_turns.specs.Orders.{if_it_comes}
 use Rattle.explore_turns.specs.QuietSteps.{asks_memory, own_step, is_whole, is_quiet, come, rest, steps_to_rest}
 use Rattle.schedules.specs.declared.ranges.SweepRange.{SweepRange}
 
@@ -85,6 +86,7 @@ module _ (program : List Instr) (sweeps : List SweepRange) (hides : HartState �
     pub alone : asks_memory program h ≡ false
     pub whole : is_whole sweeps h ≡ true
     pub whole_after : is_whole sweeps (own h) ≡ true
+    pub unseen : hides h (own h) ≡ true
 
   pub quiet_is : (h : HartState) → quiet h ≡ true → IsQuiet h
   unfolding is_quiet
@@ -100,6 +102,7 @@ module _ (program : List Instr) (sweeps : List SweepRange) (hides : HartState �
         alone = not-true (asks_memory program h) b.0;
         whole = c.0;
         whole_after = d.0;
+        unseen = d.1;
       }
 
   pub come_on : (k : ℕ) (h : HartState) → quiet h ≡ true → way (suc k) h ≡ way k (own h)
@@ -110,7 +113,7 @@ module _ (program : List Instr) (sweeps : List SweepRange) (hides : HartState �
   unfolding come
   come_none h holds = rw holds
 
-  come_stop : (k : ℕ) (h : HartState) → quiet h ≡ false → way k h ≡ Some h
+  pub come_stop : (k : ℕ) (h : HartState) → quiet h ≡ false → way k h ≡ Some h
   unfolding come
   come_stop zero h fails = rw fails
   come_stop (suc k) h fails = rw fails
@@ -148,11 +151,11 @@ module _ (program : List Instr) (sweeps : List SweepRange) (hides : HartState �
     | inr fails ↦ subst (λ (x : HartState). is_whole sweeps x ≡ true) (stopped_at (suc k) h g fails is) whole
   ]
 
-  steps_on : (k : ℕ) (h : HartState) → quiet h ≡ true → steps (suc k) h ≡ suc (steps k (own h))
+  pub steps_on : (k : ℕ) (h : HartState) → quiet h ≡ true → steps (suc k) h ≡ suc (steps k (own h))
   unfolding steps_to_rest
   steps_on k h holds = rw holds
 
-  steps_stop : (k : ℕ) (h : HartState) → quiet h ≡ false → steps k h ≡ 0
+  pub steps_stop : (k : ℕ) (h : HartState) → quiet h ≡ false → steps k h ≡ 0
   unfolding steps_to_rest
   steps_stop zero h fails = refl
   steps_stop (suc k) h fails = rw fails
@@ -277,7 +280,7 @@ module _ (program : List Instr) (sweeps : List SweepRange) (hides : HartState �
     unfolding to_go
     go_broken h broken = rw broken
 
-    go_few : (h : HartState) → to_go h ≤ suc most
+    pub go_few : (h : HartState) → to_go h ≤ suc most
     go_few h = elim (cases_Bool (is_whole sweeps h)) [
       | inl whole ↦
           let e = go_whole h whole in
@@ -327,6 +330,31 @@ module _ (program : List Instr) (sweeps : List SweepRange) (hides : HartState �
     rest_never i h at is past quiet_at =
         let zero_left : most - i ≡ 0 = omega arith in
         rest_none h (sym is ∙ (ap (λ (k : ℕ). way k at) zero_left ∙ come_none at quiet_at))
+
+  -- a loop over quiet steps counts them
+  abbrev pub IsCounted : ℕ → ℕ → HartState → HartState → Type 0
+  IsCounted most i h at = steps most h ≡ i + steps (most - i) at
+
+  pub count_on : (most i : ℕ) (h at : HartState) → IsCounted most i h at → i < most → quiet at ≡ true →
+      IsCounted most (i + 1) h (own at)
+  count_on most i h at is below quiet_at =
+      let more : most - i ≡ suc (most - (i + 1)) = omega arith in
+      let one = ap (λ (k : ℕ). steps k at) more ∙ steps_on (most - (i + 1)) at quiet_at in
+      omega (arith, is, one)
+
+  pub counted_here : (most i : ℕ) (h at : HartState) → IsOnWay most i h at → IsCounted most i h at → quiet at ≡ false →
+      if_it_comes (way most h) (steps most h) ≡ i
+  counted_here most i h at way_is is stays =
+      let none = steps_stop (most - i) at stays in
+      let some : way most h ≡ Some at = sym way_is ∙ come_stop (most - i) at stays in
+      ap (λ (o : Option HartState). if_it_comes o (steps most h)) some ∙ omega (arith, is, none)
+
+  pub counted_never : (most i : ℕ) (h at : HartState) → IsOnWay most i h at → most ≤ i → quiet at ≡ true →
+      if_it_comes (way most h) (steps most h) ≡ 0
+  counted_never most i h at is past quiet_at =
+      let zero_left : most - i ≡ 0 = omega arith in
+      ap (λ (o : Option HartState). if_it_comes o (steps most h))
+      (sym is ∙ (ap (λ (k : ℕ). way k at) zero_left ∙ come_none at quiet_at))
 
   -- what a step that may be quiet answers
   abbrev pub quiet_or_none : HartState → Option HartState

@@ -1,6 +1,6 @@
 -- The states with each hart at its rest stand for all states.
 use Rattle.std.proofs.Common.{◌≡◌, ◌≢◌, ℕ, zero, suc, ◌+◌, ◌<◌, ◌≤◌, List, [], ◌∷◌, ◌++◌, length, map, take, drop, set, get_or, arith, ap, sym, ◌∙◌, refl, inl, inr, ◌⊎◌, subst, nat_lt, length-set}
-use Rattle.std.specs.Prelude.{Some, Bool, true, slice_get}
+use Rattle.std.specs.Prelude.{Some, Bool, true, false, slice_get}
 use Rattle.std.proofs.lemmas.Bool.{cases_Bool, eqb-true, eq-eqb, and_parts, and_from, lt-ltb}
 use Rattle.std.proofs.lemmas.List.{length-map, map-set, set-set, set-get_or, get_or-set_same, get_or-set_other, get_or-map, take_all, drop_all, append-nil}
 use Rattle.std.proofs.lemmas.List.Edits.{map_over_more}
@@ -8,24 +8,24 @@ use Rattle.std.proofs.lemmas.Option.{none-some, same_Some, slice_get-get_or, get
 use Rattle.cap_model.specs.values.CapValue.{CapValue}
 use Rattle.cheri_model.specs.declared.operation.Op.{Op}
 use Rattle.cheri_model.specs.declared.operation.Op.TheVariants as operation
-use Rattle.cheri_model.specs.runs.Image.{ImageParts}
-use Rattle.cheri_model.specs.runs.Machine.{MachineState, hart_at, no_hart, is_running, may_take, state_after_one, state_after_step, swept_state}
+use Rattle.cheri_model.specs.runs.Image.{ImageParts, opening_hart}
+use Rattle.cheri_model.specs.runs.Machine.{MachineState, opening_state, hart_at, no_hart, is_running, may_take, state_after_one, state_after_step, swept_state}
 use Rattle.cheri_model.specs.runs.Sweeps.{swept_hart, swept_memory}
 use Rattle.cheri_model.specs.steps.Hart.{HartState}
 use Rattle.cheri_model.specs.steps.HartStep.{hart_step}
 use Rattle.explore_turns.proofs.QuietLemmas.{own_step_alone}
-use Rattle.explore_turns.proofs.RestLemmas.{rested, moves_or_rests, rest_twice, rest_own, running_rest, swept_rest, to_go, go_swept, go_own, quiet, quiet_is, rest_none, rest_some, option_cases, come_on, come_none, stopped_at}
+use Rattle.explore_turns.proofs.RestLemmas.{go_few, rested, moves_or_rests, rest_twice, rest_stopped, rest_own, running_rest, swept_rest, to_go, go_swept, go_own, quiet, quiet_is, rest_none, rest_some, option_cases, come_on, come_none, stopped_at}
 use Rattle.explore_turns.specs.QuietSteps.{own_step, come}
-use Rattle.explore_turns.specs.Turns.{rest_of, has_harts_of}
-use Rattle.graph_merging.proofs.MergingLemmas.{walk_on, walk_from, walk_fits}
+use Rattle.explore_turns.specs.Turns.{rest_of, turn, has_harts_of}
+use Rattle.graph_merging.proofs.MergingLemmas.{walk_on, walk_from, walk_fits, found_reachable}
 use Rattle.graph_merging.specs.Merging.{IsMerging, Stays}
-use Rattle.graph_search.specs.Walks.{IsWalk}
+use Rattle.graph_search.specs.Walks.{IsWalk, IsReachable}
 use Rattle.schedules.proofs.WalkLemmas.{next_some, some_next, step_hart, label_of_step, step_label, allowed_of, same_harts}
 use Rattle.schedules.specs.declared.ranges.SweepRange.{SweepRange}
 use Rattle.schedules.specs.Schedules.{next, operation_of_label}
 
 -- two states with equal harts and memories are equal
-same_state : (harts harts' : List HartState) (memory memory' : List CapValue) → harts ≡ harts' → memory ≡ memory' →
+pub same_state : (harts harts' : List HartState) (memory memory' : List CapValue) → harts ≡ harts' → memory ≡ memory' →
     ◌≡◌ {A = MachineState} (record { harts = harts; memory = memory }) (record { harts = harts'; memory = memory' })
 same_state harts harts' memory memory' same also =
     ap (λ (hs : List HartState). record { harts = hs; memory = memory }) same
@@ -48,19 +48,22 @@ module _ (image : ImageParts) (sweeps : List SweepRange) (hides : HartState → 
   merge s = rest_of image sweeps hides most s
 
   -- the state with another hart in this place
-  abbrev with_hart : MachineState → ℕ → HartState → MachineState
+  abbrev pub with_hart : MachineState → ℕ → HartState → MachineState
   with_hart s l h = record { harts = set s.harts l h; memory = s.memory }
 
   abbrev pub go : MachineState → ℕ → ℕ
   go s l = to_go image.program sweeps hides most (hart_at s l)
 
-  abbrev Fits : MachineState → Type 0
+  pub go_most : (s : MachineState) (m : ℕ) → go s m ≤ suc most
+  go_most s m = go_few image.program sweeps hides most (hart_at s m)
+
+  abbrev pub Fits : MachineState → Type 0
   Fits s = length s.harts ≡ length image.harts
 
-  fits_is : (s : MachineState) → has_harts_of image s ≡ true → Fits s
+  pub fits_is : (s : MachineState) → has_harts_of image s ≡ true → Fits s
   fits_is s fit = eqb-true (length s.harts) (length image.harts) fit
 
-  is_fit : (s : MachineState) → Fits s → has_harts_of image s ≡ true
+  pub is_fit : (s : MachineState) → Fits s → has_harts_of image s ≡ true
   is_fit s fit = eq-eqb (length s.harts) (length image.harts) fit
 
   -- the hart of the state in which all rest
@@ -68,7 +71,7 @@ module _ (image : ImageParts) (sweeps : List SweepRange) (hides : HartState → 
   unfolding hart_at rest_of
   hart_rested s l low = get_or-map resting s.harts l no_hart no_hart low
 
-  rest_state_twice : (harts : List HartState) → map resting (map resting harts) ≡ map resting harts
+  pub rest_state_twice : (harts : List HartState) → map resting (map resting harts) ≡ map resting harts
   rest_state_twice [] = refl
   rest_state_twice (h ∷ harts) =
       ap (λ (g : HartState). g ∷ map resting (map resting harts)) (rest_twice image.program sweeps hides most h)
@@ -85,7 +88,7 @@ module _ (image : ImageParts) (sweeps : List SweepRange) (hides : HartState → 
       (swept_harts_rest k range there harts)
 
   -- a step of a hart that moves changes this hart alone
-  step_moves : (s : MachineState) (l : ℕ) → quiet image.program sweeps hides (hart_at s l) ≡ true →
+  pub step_moves : (s : MachineState) (l : ℕ) → quiet image.program sweeps hides (hart_at s l) ≡ true →
       state_after_step image s l ≡ with_hart s l (own (hart_at s l))
   unfolding state_after_step
   step_moves s l moves =
@@ -105,7 +108,7 @@ module _ (image : ImageParts) (sweeps : List SweepRange) (hides : HartState → 
       same_state (map resting (set s.harts l h)) (map resting s.harts) s.memory s.memory
       (placed ∙ (ap (set (map resting s.harts) l) there ∙ set-get_or (map resting s.harts) l no_hart)) refl
 
-  hart_with : (s : MachineState) (l : ℕ) (h : HartState) → l < length s.harts → hart_at (with_hart s l h) l ≡ h
+  pub hart_with : (s : MachineState) (l : ℕ) (h : HartState) → l < length s.harts → hart_at (with_hart s l h) l ≡ h
   unfolding hart_at
   hart_with s l h low = get_or-set_same s.harts l h no_hart low
 
@@ -251,7 +254,7 @@ module _ (image : ImageParts) (sweeps : List SweepRange) (hides : HartState → 
             inr (forth_sweep s t l sweep.0 sweep.1 (edge.1 ∙ ap (λ (op : Op). Some op) sweep.2) goes)
       ]
 
-  keeps : (s t : MachineState) (l : ℕ) → has_harts_of image s ≡ true → next image sweeps s l ≡ Some t →
+  pub keeps : (s t : MachineState) (l : ℕ) → has_harts_of image s ≡ true → next image sweeps s l ≡ Some t →
       has_harts_of image t ≡ true
   keeps s t l fit goes =
       let edge = next_some image sweeps s t l goes in
@@ -297,13 +300,13 @@ module _ (image : ImageParts) (sweeps : List SweepRange) (hides : HartState → 
       )
 
   -- a hart in its own place
-  own_place : (s : MachineState) (l : ℕ) (g : HartState) → hart_at s l ≡ g → s ≡ with_hart s l g
+  pub own_place : (s : MachineState) (l : ℕ) (g : HartState) → hart_at s l ≡ g → s ≡ with_hart s l g
   unfolding hart_at
   own_place s l g same =
       same_state s.harts (set s.harts l g) s.memory s.memory
       (sym (set-get_or s.harts l no_hart) ∙ ap (set s.harts l) same) refl
 
-  with_twice : (s : MachineState) (l : ℕ) (h g : HartState) → with_hart (with_hart s l h) l g ≡ with_hart s l g
+  pub with_twice : (s : MachineState) (l : ℕ) (h g : HartState) → with_hart (with_hart s l h) l g ≡ with_hart s l g
   with_twice s l h g = same_state (set (set s.harts l h) l g) (set s.harts l g) s.memory s.memory (set-set s.harts l h g) refl
 
   -- a hart's quiet steps as a walk
@@ -400,3 +403,31 @@ module _ (image : ImageParts) (sweeps : List SweepRange) (hides : HartState → 
     leads = leads;
     still = still;
   }
+
+  pub opening_fits : Fits (opening_state image)
+  unfolding opening_state
+  opening_fits = length-map image.harts opening_hart
+
+  -- what turns lead to
+  pub rest_reached : (s : MachineState) → IsReachable (next image sweeps) (opening_state image) s →
+      IsReachable (turn image sweeps hides most) (merge (opening_state image)) (merge s)
+  rest_reached s reached =
+      found_reachable (next image sweeps) (length image.harts) (has_harts_of image) merge go merging
+      (opening_state image) s (is_fit (opening_state image) opening_fits) reached
+
+  -- a state in which no hart runs rests
+  pub stopped_rests : (s : MachineState) → ((l : ℕ) (h : HartState) → slice_get s.harts l ≡ Some h → is_running h.status ≡ false) →
+      merge s ≡ s
+  unfolding rest_of
+  stopped_rests s stopped = same_state (map resting s.harts) s.harts s.memory s.memory (all s.harts stopped) refl
+    where
+      all : (hs : List HartState) → ((l : ℕ) (h : HartState) → slice_get hs l ≡ Some h → is_running h.status ≡ false) →
+          map resting hs ≡ hs
+      all [] none = refl
+      all (h ∷ hs) none =
+          ap (λ (g : HartState). g ∷ map resting hs) (rest_stopped image.program sweeps hides most h (none 0 h refl))
+          ∙ ap (λ (gs : List HartState). h ∷ gs) (all hs (λ l g at. none (suc l) g at))
+
+pub opening_count : (image : ImageParts) → length (opening_state image).harts ≡ length image.harts
+unfolding opening_state
+opening_count image = length-map image.harts opening_hart

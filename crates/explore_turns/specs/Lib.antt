@@ -1,2 +1,3 @@
 pub mod QuietSteps
 pub mod Turns
+pub mod Orders

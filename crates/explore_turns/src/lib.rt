@@ -4,7 +4,7 @@
 
 pub mod laws;
 mod quiet;
-mod sights;
+mod turn_orders;
 
-pub use quiet::{MAX_QUIET_STEPS, rest};
-pub use sights::{EveryStep, NoStep, Sight};
+pub use quiet::{MAX_QUIET_STEPS, asks_memory, rest};
+pub use turn_orders::order_of_turns;

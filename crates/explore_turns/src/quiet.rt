@@ -1,11 +1,12 @@
 //! Quiet steps, and where they lead.
 
 ghost use Rattle.std.specs.Prelude.{◌≡◌, Some, None, false, if◌then◌else◌};
+ghost use Rattle.explore_sights.specs.Sights.{hides};
 ghost use Rattle.explore_turns.specs.QuietSteps.{asks_memory, is_access, is_quiet, is_whole, own_step, rest};
 ghost use Rattle.instructions.specs.Actions.{action_of};
 
-use crate::sights::Sight;
 use cheri_model::{Instr, Status};
+use explore_sights::Sight;
 use hart::Hart;
 use hart_step::{fetch, step};
 use instructions::{Action, instr_action};
@@ -37,7 +38,7 @@ fn is_access(action: Action) -> bool
 /// Whether a hart's next step fetches an instruction that asks for an access, also for one that
 /// would trap.
 #[tactic(auto, unfolding(crate::specs::QuietSteps::asks_memory))]
-fn asks_memory(program: &[Instr], hart: &Hart) -> bool
+pub fn asks_memory(program: &[Instr], hart: &Hart) -> bool
     ensures { result ≡ asks_memory program.now hart.now }
 {
     match fetch(program, hart.pcc()) {
@@ -72,15 +73,15 @@ fn own_step(program: &[Instr], hart: &Hart, ram: &mut Ram) -> Hart
 
 /// The hart after its next step, where that is quiet. `ram` is any memory, to work in.
 #[tactic(auto, unfolding(crate::specs::QuietSteps::is_quiet))]
-fn quiet_step<S: Sight>(
+pub(crate) fn quiet_step(
     program: &[Instr],
     sweeps: &[SweepRange],
-    sight: &S,
+    sight: &Sight,
     hart: &Hart,
     ram: &mut Ram,
 ) -> Option<Hart>
     ensures ram { ram.new ≡ ram.old }
-    ensures value { result ≡ (if is_quiet program.now sweeps.now (S.hides sight.now) hart.now
+    ensures value { result ≡ (if is_quiet program.now sweeps.now (hides sight.now) hart.now
         then Some (own_step program.now hart.now) else None) }
 {
     match hart.status() {
@@ -105,16 +106,16 @@ fn quiet_step<S: Sight>(
 
 /// A hart at its rest: after its quiet steps, or as it is where there are more than
 /// `MAX_QUIET_STEPS`. `ram` is any memory, to work in.
-pub fn rest<S: Sight>(
+pub fn rest(
     program: &[Instr],
     sweeps: &[SweepRange],
-    sight: &S,
+    sight: &Sight,
     hart: &Hart,
     ram: &mut Ram,
 ) -> Hart
     ensures ram { ram.new ≡ ram.old }
     ensures value { result
-        ≡ rest program.now sweeps.now (S.hides sight.now) MAX_QUIET_STEPS hart.now }
+        ≡ rest program.now sweeps.now (hides sight.now) MAX_QUIET_STEPS hart.now }
 {
     let mut at = *hart;
     for _ in 0..MAX_QUIET_STEPS {

@@ -3,60 +3,125 @@
 ghost use Rattle.std.specs.Prelude.{
   ◌≡◌,
   ℕ,
-  List,
   ◌+◌,
   ◌<◌,
-  ◌≤◌,
-  length,
   string_bytes,
+  true,
   None,
   Some,
   Ok,
   IfOk,
   IfErr,
+  IfSome,
 };
-ghost use Rattle.cheri_model.specs.runs.Machine.{opening_state};
+ghost use Rattle.cheri_model.specs.runs.Machine.{MachineState, opening_state};
 ghost use Rattle.conditions.specs.Values.{holds};
-ghost use Rattle.found_texts.specs.Find.{IsFindAnswer, IsNowhere, IsShown, Says};
-ghost use Rattle.found_texts.specs.FoundTexts.{absent_ending};
+ghost use Rattle.explore_sights.specs.Sights.{sight_of};
+ghost use Rattle.found_texts.specs.Find.{
+  IsFindAnswer,
+  IsLed,
+  IsNowhere,
+  IsShortened,
+  Says,
+};
+ghost use Rattle.found_texts.specs.FoundTexts.{absent, absent_ending};
 ghost use Rattle.shown_states.specs.Endings.{failures_of, IsUnwritten, IsWritten};
+ghost use Rattle.shown_states.specs.Searches.{IsSearchable};
 ghost use Rattle.shown_states.specs.declared.form.Ending.{Ending};
-ghost use Rattle.states.specs.Kept.{count, AreAllKept};
+ghost use Rattle.states.specs.Kept.{at, count, IsFirstPassing, IsWitnessOrder};
 
 use crate::absent::absent_text;
+use crate::running::{are_allowed, ran};
 use crate::shown::found_text;
-use cheri_model::{Image, NoMemory};
+use crate::trimming::trimmed;
+use cheri_model::{Image, NoMemory, Op};
 use conditions::Condition;
 use cores::Core;
+use explore_sights::Sight;
 use graph_search::Progress;
-use hart::Hart;
-use schedules::SweepRange;
-use shown_states::{Answer, ConditionTest, Ending, Format, Loaded, put_answer};
+use shown_states::{Answer, ConditionTest, Ending, Format, Loaded, Search, put_answer};
 use sinks::{Sink, WriteFault};
-use states::{Found, Kept, MAX_SWEEPS, find_from};
+use states::{Found, Kept, find_from};
 use std::alloc::{AllocError, Global};
-use tagged_mem::Ram;
 
-/// What is said of a kept state: itself, and its witness.
-fn state_text(
-    alloc: Global,
-    format: Format,
-    harts: &[Hart],
-    ram: &Ram,
-    kept: &Kept,
-    number: u32,
-) -> Result<String, NoMemory>
+/// An order, and the state that it leaves.
+#[derive(Drop)]
+struct Led {
+    order: Vec<Op>,
+    state: Loaded,
+}
+
+/// The witness of a kept state, and this state.
+fn witnessed(alloc: Global, core: &Core, kept: &Kept, number: u32) -> Result<Led, NoMemory>
     requires there { number < count kept.now }
-    requires opening { opening_state kept.now.image
-        ≡ record { harts = harts.now; memory = ram.now } }
-    ensures { IfOk result (λ text. IsShown format kept.now number (string_bytes text)) }
+    requires opening { core.now.state ≡ opening_state kept.now.image }
+    ensures { IfOk result (λ led. (at kept.now number ≡ Some led.state)
+        × IsWitnessOrder kept.now.image kept.now.sweeps kept.now.sight led.state
+        led.order.items) }
 {
     // Its clause says that the image is one.
     let _granules = kept.image().granules();
-    let mut loaded = Loaded::new(alloc, harts, ram)?;
-    loaded.load(kept.state(number));
+    let view = core.view();
+    let mut state = Loaded::new(alloc, view.harts, view.ram)?;
+    state.load(kept.state(number));
     let order = kept.witness(alloc, number)?;
-    found_text(alloc, format, kept.image(), order.as_slice(), &loaded)
+    Ok(Led { order, state })
+}
+
+/// An order without steps that the condition doesn't need, and the state that it leaves, by the
+/// machine's own run; none where the condition doesn't hold there.
+fn shortened(
+    alloc: Global,
+    search: &Search<'_>,
+    condition: &Condition,
+    order: &[Op],
+) -> Result<Option<Led>, NoMemory>
+    ensures { IfOk result (λ found. IfSome found (λ led.
+        IsShortened search.now.image.now condition.now search.now.sweeps.now led.order.items
+        led.state)) }
+{
+    let order = trimmed(alloc, search.image, condition, order)?;
+    if !are_allowed(search.sweeps, order.as_slice()) {
+        return Ok(None);
+    }
+    let Some(core) = ran(alloc, search.image, order.as_slice())? else {
+        return Ok(None);
+    };
+    let view = core.view();
+    let state = Loaded::new(alloc, view.harts, view.ram)?;
+    if !condition.holds(&state) {
+        return Ok(None);
+    }
+    Ok(Some(Led { order, state }))
+}
+
+/// What leads to a state in which the condition holds, where it holds in this kept state: its
+/// witness, without steps that the condition doesn't need where not every step is asked for.
+fn led_to(
+    alloc: Global,
+    search: &Search<'_>,
+    condition: &Condition,
+    core: &Core,
+    kept: &Kept,
+    number: u32,
+) -> Result<Led, NoMemory>
+    requires there { number < count kept.now }
+    requires opening { core.now.state ≡ opening_state kept.now.image }
+    requires image { kept.now.image ≡ search.now.image.now }
+    requires sweeps { kept.now.sweeps ≡ search.now.sweeps.now }
+    requires passing { (s : MachineState) → at kept.now number ≡ Some s →
+        holds s condition.now ≡ true }
+    ensures { IfOk result (λ led. IsLed search.now.every_step condition.now kept.now number
+        led.order.items led.state) }
+{
+    let witness = witnessed(alloc, core, kept, number)?;
+    if search.every_step {
+        return Ok(witness);
+    }
+    match shortened(alloc, search, condition, witness.order.as_slice())? {
+        Some(led) => Ok(led),
+        None => Ok(witness),
+    }
 }
 
 /// How the answer ends that no kept state is one that was looked for.
@@ -73,8 +138,10 @@ fn absent_ending(complete: bool) -> Ending
 /// That answer.
 fn none_found(alloc: Global, format: Format, kept: &Kept) -> Result<Answer, NoMemory>
     ensures says { IfOk result (λ answer.
-        Says format kept.now None (string_bytes answer.text) answer.ending) }
-    ensures all { IfOk result (λ answer. answer.ending ≡ Ending.Nowhere → AreAllKept kept.now) }
+        (string_bytes answer.text ≡ absent format kept.now.complete kept.now.image (count kept.now))
+        × (answer.ending ≡ absent_ending kept.now.complete)) }
+    ensures complete { IfOk result (λ answer. answer.ending ≡ Ending.Nowhere
+        → kept.now.complete ≡ true) }
 {
     let complete = kept.is_complete();
     let text = absent_text(alloc, format, complete, kept.image(), kept.len())?;
@@ -85,29 +152,52 @@ fn none_found(alloc: Global, format: Format, kept: &Kept) -> Result<Answer, NoMe
 /// The answer that a search found.
 fn answer_of(
     alloc: Global,
-    format: Format,
-    harts: &[Hart],
-    ram: &Ram,
+    search: &Search<'_>,
+    condition: &Condition,
+    core: &Core,
     found: &Found,
 ) -> Result<Answer, NoMemory>
-    requires there { (k : ℕ) → found.now.state ≡ Some k → k < count found.now.kept }
-    requires opening { opening_state found.now.kept.image
-        ≡ record { harts = harts.now; memory = ram.now } }
-    ensures says { IfOk result (λ answer.
-        Says format found.now.kept found.now.state (string_bytes answer.text) answer.ending) }
+    requires opening { core.now.state ≡ opening_state found.now.kept.image }
+    requires image { found.now.kept.image ≡ search.now.image.now }
+    requires sweeps { found.now.kept.sweeps ≡ search.now.sweeps.now }
+    requires first { IsFirstPassing found.now.kept (λ s. holds s condition.now)
+        found.now.state }
+    ensures says { IfOk result (λ answer. Says search.now.every_step condition.now
+        search.now.format found.now.kept found.now.state (string_bytes answer.text)
+        answer.ending) }
     ensures nowhere { IfOk result (λ answer. answer.ending ≡ Ending.Nowhere
-        → (found.now.state ≡ None) × AreAllKept found.now.kept) }
+        → (found.now.state ≡ None) × (found.now.kept.complete ≡ true)) }
 {
     match found.state {
         Some(number) => {
-            let text = state_text(alloc, format, harts, ram, &found.kept, number)?;
+            let led = led_to(alloc, search, condition, core, &found.kept, number)?;
+            let image = found.kept.image();
+            let text = found_text(
+                alloc,
+                search.format,
+                image,
+                led.order.as_slice(),
+                &led.state,
+            )?;
             Ok(Answer {
                 text,
                 ending: Ending::Done,
             })
         }
-        None => none_found(alloc, format, &found.kept),
+        None => none_found(alloc, search.format, &found.kept),
     }
+}
+
+/// What a search sees: every step, where that is asked for, else those that the condition sees.
+/// Fails only when out of memory.
+fn sight_of(alloc: Global, every_step: bool, condition: &Condition) -> Result<Sight, AllocError>
+    ensures { IfOk result (λ sight. sight
+        ≡ sight_of every_step (Sight.Condition condition.now)) }
+{
+    if every_step {
+        return Ok(Sight::EveryStep);
+    }
+    Ok(Sight::Condition(condition.copy(alloc)?))
 }
 
 /// The machine of an image before its first step.
@@ -120,41 +210,48 @@ pub fn opened(alloc: Global, image: &Image) -> Result<Core, NoMemory>
     }
 }
 
-/// Searches the states that an image reaches, by steps of its harts and these sweeps, for the first
-/// one in which a condition holds, and writes it with its witness; or that none was found, of so
-/// many states. At most `limit` states are kept. Where memory runs out, nothing is written; where
-/// the sink fails, it took a prefix of the answer.
+/// Searches the states that an image reaches, by steps of its harts and sweeps, for one in which a
+/// condition holds, and writes such a state with an order that leads to it; or that none was found,
+/// of so many states. Where memory runs out, nothing is written; where the sink fails, it took a
+/// prefix of the answer.
 pub fn find<P: Progress, S: Sink>(
     alloc: Global,
-    image: &Image,
+    search: &Search<'_>,
     condition: &Condition,
-    sweeps: &[SweepRange],
-    limit: u32,
-    format: Format,
     progress: &mut P,
     sink: &mut S,
 ) -> Result<Ending, WriteFault>
-    requires some { 0 < limit }
-    requires few { length sweeps.now ≤ MAX_SWEEPS }
+    requires { IsSearchable search.now }
     ensures written { IfOk result (λ ending. IsWritten
-        (λ text. IsFindAnswer image.now condition.now sweeps.now limit format text ending)
+        (λ text. IsFindAnswer search.now.image.now condition.now search.now.sweeps.now
+        search.now.every_step search.now.states search.now.format text ending)
         (S.written sink.old) (S.written sink.new)) }
     ensures begun { IfErr result (IsUnwritten (λ text. (ending : Ending)
-        × IsFindAnswer image.now condition.now sweeps.now limit format text ending)
+        × IsFindAnswer search.now.image.now condition.now search.now.sweeps.now
+        search.now.every_step search.now.states search.now.format text ending)
         (S.written sink.old) (S.written sink.new)) }
     ensures nowhere { result ≡ Ok Ending.Nowhere
-        → IsNowhere image.now condition.now sweeps.now }
+        → IsNowhere search.now.image.now condition.now search.now.sweeps.now }
     ensures failures { S.failures sink.new ≡ S.failures sink.old + failures_of result }
     ensures identity { S.identity sink.new ≡ S.identity sink.old }
 {
-    let core = opened(alloc, image)?;
+    let core = opened(alloc, search.image)?;
     let view = core.view();
     let test = ConditionTest { condition };
+    let sight = sight_of(alloc, search.every_step, condition)?;
     let found = find_from(
-        alloc, image, view.harts, view.ram, sweeps, limit, &test, progress,
+        alloc,
+        search.image,
+        view.harts,
+        view.ram,
+        search.sweeps,
+        &sight,
+        search.states,
+        &test,
+        progress,
     )?;
     // Its clause says that this is a search.
     let _count = found.kept.len();
-    let answer = answer_of(alloc, format, view.harts, view.ram, &found)?;
+    let answer = answer_of(alloc, search, condition, &core, &found)?;
     put_answer(sink, &answer)
 }

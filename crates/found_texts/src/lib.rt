@@ -3,6 +3,8 @@
 
 mod absent;
 mod finding;
+mod running;
 mod shown;
+mod trimming;
 
 pub use finding::{find, opened};

@@ -1,1 +1,2 @@
 pub mod MergingLemmas
+pub mod CountLemmas

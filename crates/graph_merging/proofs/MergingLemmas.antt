@@ -27,12 +27,12 @@ takes_more [] ms m takes = takes
 takes_more (l ∷ ls) ms m takes = inr (takes_more ls ms m takes)
 
 -- an edge between states that stand for others is an edge of the graph
-merged_some : {S : Type 0} (merge : S → S) (o : Option S) (r : S) → option_map merge o ≡ Some r →
+pub merged_some : {S : Type 0} (merge : S → S) (o : Option S) (r : S) → option_map merge o ≡ Some r →
     (t : S) × (o ≡ Some t) × (merge t ≡ r)
 merged_some {S} merge None r is = absurd (none-some r is)
 merged_some {S} merge (Some t) r is = (t, refl, same_Some (merge t) r is)
 
-some_merged : {S : Type 0} (next : S → ℕ → Option S) (merge : S → S) (s t : S) (l : ℕ) → next s l ≡ Some t →
+pub some_merged : {S : Type 0} (next : S → ℕ → Option S) (merge : S → S) (s t : S) (l : ℕ) → next s l ≡ Some t →
     merged next merge s l ≡ Some (merge t)
 some_merged next merge s t l is = ap (option_map merge) is
 

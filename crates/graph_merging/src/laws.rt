@@ -1,10 +1,10 @@
 //! The laws of states that stand for others. Each is said of any function that merges the states
 //! of a graph.
 
-ghost use Rattle.std.specs.Prelude.{◌≡◌, ℕ, ◌<◌, List, Option, Bool, true};
-ghost use Rattle.graph_loops.specs.Loops.{IsFair, IsLoop, Takes};
+ghost use Rattle.std.specs.Prelude.{◌≡◌, ℕ, suc, ◌+◌, ◌*◌, ◌<◌, ◌≤◌, List, Option, Bool, true};
+ghost use Rattle.graph_loops.specs.Loops.{IsFair, IsLoop, Takes, actor_count};
 ghost use Rattle.graph_merging.specs.Merging.{IsMerging, merged};
-ghost use Rattle.graph_search.specs.Walks.{IsReachable};
+ghost use Rattle.graph_search.specs.Walks.{IsReachable, IsWalk};
 
 use graph_search::Graph;
 
@@ -50,4 +50,16 @@ pub fn loops_are_merged_loops<G: Graph>()
         fits s ≡ true → IsFair next actors s ls →
         ((m : ℕ) → m < actors → Takes ls m → Takes ms m) →
         IsFair (merged next merge) actors (merge s) ms }
+{}
+
+/// Where no actor ever has more than `most` edges to go that stay, a walk of the graph has at most
+/// so many times more edges of actors than walks between states that stand for others have.
+pub fn merged_walks_bound_walks<G: Graph>()
+    ensures { (next : G.State → ℕ → Option G.State) (actors : ℕ) (fits : G.State → Bool)
+        (merge : G.State → G.State) (to_go : G.State → ℕ → ℕ) (most count : ℕ) →
+        IsMerging next actors fits merge to_go → ((s : G.State) (m : ℕ) → to_go s m ≤ most) →
+        (o t : G.State) (ls : List ℕ) → fits o ≡ true →
+        ((u : G.State) (ms : List ℕ) → IsWalk (merged next merge) (merge o) ms u →
+        actor_count actors ms < count) →
+        IsWalk next o ls t → actor_count actors ls < suc most * count + actors * most }
 {}

@@ -4,4 +4,5 @@ pub mod ToldLemmas
 pub mod PartLemmas
 pub mod ListedLemmas
 pub mod RowLemmas
+pub mod RestLemmas
 pub mod AnswerLemmas

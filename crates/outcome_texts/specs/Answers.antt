@@ -13,6 +13,7 @@ use Rattle.outcome_texts.specs.Told.{AreOutcomesTold, AreRowsTold}
 use Rattle.outcome_texts.specs.declared.told.Outcome.{Outcome}
 use Rattle.outcome_texts.specs.declared.told.ShownRow.{ShownRow}
 use Rattle.outcome_texts.specs.declared.searching.Searched.{Searched}
+use Rattle.explore_sights.specs.declared.sights.Sight.{Sight}
 use Rattle.schedules.specs.declared.ranges.SweepRange.{SweepRange}
 use Rattle.schedules.specs.Schedules.{AreAllowed}
 use Rattle.shown_states.specs.Endings.{ending_of}
@@ -33,10 +34,11 @@ AreAllListed kept numbers = (order : List Op) → AreAllowed kept.sweeps order �
 
 -- The search of an image's states: the kept ones, whether runs through them can go on for ever, and
 -- the outcomes among them; where the kept states are all, so are the outcomes.
-pub record IsSearched (image : ImageParts) (sweeps : List SweepRange) (limit : ℕ)
-    (kept : KeptParts) (endless : Endless) (numbers : List ℕ) : Type 0 where
+pub record IsSearched (image : ImageParts) (sweeps : List SweepRange) (sight : Sight)
+    (limit : ℕ) (kept : KeptParts) (endless : Endless) (numbers : List ℕ) : Type 0 where
   pub image_is : kept.image ≡ image
   pub sweeps_are : kept.sweeps ≡ sweeps
+  pub sight_is : kept.sight ≡ sight
   pub limit_is : kept.limit ≡ limit
   pub search : IsSearch kept
   pub forever : IsEndless kept endless
@@ -46,16 +48,16 @@ pub record IsSearched (image : ImageParts) (sweeps : List SweepRange) (limit : �
 -- the same of what was found
 abbrev pub IsFound : Searched → Type 0
 IsFound found =
-    IsSearched found.kept.image found.kept.sweeps found.kept.limit found.kept found.endless
-    found.outcomes.items
+    IsSearched found.kept.image found.kept.sweeps found.kept.sight found.kept.limit found.kept
+    found.endless found.outcomes.items
 
 -- The answer: each outcome, with its witness.
-pub record IsListedAnswer (image : ImageParts) (sweeps : List SweepRange) (limit : ℕ)
-    (format : Format) (text : List ℕ) (ending : Ending) : Type 0 where
+pub record IsListedAnswer (image : ImageParts) (sweeps : List SweepRange) (sight : Sight)
+    (limit : ℕ) (format : Format) (text : List ℕ) (ending : Ending) : Type 0 where
   pub kept : KeptParts
   pub endless : Endless
   pub numbers : List ℕ
-  pub searched : IsSearched image sweeps limit kept endless numbers
+  pub searched : IsSearched image sweeps sight limit kept endless numbers
   pub outcomes : List Outcome
   pub told : AreOutcomesTold kept numbers outcomes
   pub text_is : text ≡ listed format kept endless outcomes
@@ -64,11 +66,11 @@ pub record IsListedAnswer (image : ImageParts) (sweeps : List SweepRange) (limit
 -- The answer where items are shown: each distinct row of what they hold in outcomes, with just as
 -- many outcomes as have it, and the witness of the first of these.
 pub record IsShownAnswer (image : ImageParts) (items : ItemList) (sweeps : List SweepRange)
-    (limit : ℕ) (format : Format) (text : List ℕ) (ending : Ending) : Type 0 where
+    (sight : Sight) (limit : ℕ) (format : Format) (text : List ℕ) (ending : Ending) : Type 0 where
   pub kept : KeptParts
   pub endless : Endless
   pub numbers : List ℕ
-  pub searched : IsSearched image sweeps limit kept endless numbers
+  pub searched : IsSearched image sweeps sight limit kept endless numbers
   pub rows : List Row
   pub distinct : AreRows (values_at kept items.shown) numbers rows
   pub shown_rows : List ShownRow

@@ -19,7 +19,7 @@ kept_state kept number = state_meant (at kept number)
 pub record IsWitnessText (kept : KeptParts) (number : ℕ) (text : List ℕ) : Type 0 where
   pub order : List Op
   pub witness : (s : MachineState) → at kept number ≡ Some s →
-      IsWitnessOrder kept.image kept.sweeps s order
+      IsWitnessOrder kept.image kept.sweeps kept.sight s order
   pub text_is : text ≡ order_text order
 
 -- an outcome with its witness

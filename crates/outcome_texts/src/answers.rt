@@ -1,8 +1,11 @@
 //! The answers.
 
-ghost use Rattle.std.specs.Prelude.{◌≡◌, ◌+◌, ◌<◌, ◌≤◌, length, IfOk, IfErr, string_bytes};
+ghost use Rattle.std.specs.Prelude.{◌≡◌, ◌+◌, IfOk, IfErr, string_bytes};
 ghost use Rattle.cheri_model.specs.runs.Machine.{opening_state};
 ghost use Rattle.conditions.specs.Items.{list_of};
+ghost use Rattle.explore_sights.specs.declared.sights.Sight.TheVariants.{NoStep};
+ghost use Rattle.explore_sights.specs.Sights.{sight_of};
+ghost use Rattle.shown_states.specs.Searches.{IsSearchable};
 ghost use Rattle.outcome_texts.specs.Answers.{IsFound, IsListedAnswer, IsShownAnswer};
 ghost use Rattle.shown_states.specs.Endings.{ending_of, failures_of, IsUnwritten, IsWritten};
 ghost use Rattle.shown_states.specs.declared.form.Ending.{Ending};
@@ -13,16 +16,14 @@ use crate::listed::listed_text;
 use crate::searching::{Searched, search_outcomes};
 use crate::shown::shown_text;
 use crate::told::{outcomes_told, rows_told};
-use cheri_model::{Image, NoMemory};
+use cheri_model::NoMemory;
 use conditions::Items;
 use found_texts::opened;
 use graph_search::Progress;
 use hart::Hart;
 use outcomes::rows_of;
-use schedules::SweepRange;
-use shown_states::{Answer, Ending, Format, Loaded, put_answer};
+use shown_states::{Answer, Ending, Format, Loaded, Search, put_answer};
 use sinks::{Sink, WriteFault};
-use states::MAX_SWEEPS;
 use std::alloc::Global;
 use tagged_mem::Ram;
 
@@ -62,7 +63,7 @@ fn listed_answer(
     requires opening { opening_state searched.now.kept.image
         ≡ record { harts = harts.now; memory = ram.now } }
     ensures { IfOk result (λ answer. IsListedAnswer searched.now.kept.image
-        searched.now.kept.sweeps searched.now.kept.limit format
+        searched.now.kept.sweeps searched.now.kept.sight searched.now.kept.limit format
         (string_bytes answer.text) answer.ending) }
 {
     // Its clause says that the image is one.
@@ -91,7 +92,7 @@ fn shown_answer(
 ) -> Result<Answer, NoMemory>
     requires found { IsFound searched.now }
     ensures { IfOk result (λ answer. IsShownAnswer searched.now.kept.image (list_of items.now)
-        searched.now.kept.sweeps searched.now.kept.limit format
+        searched.now.kept.sweeps searched.now.kept.sight searched.now.kept.limit format
         (string_bytes answer.text) answer.ending) }
 {
     let shown = items.shown.as_slice();
@@ -105,34 +106,33 @@ fn shown_answer(
     Ok(Answer { text, ending })
 }
 
-/// Searches the states that an image reaches, by steps of its harts and these sweeps, and writes
-/// those in which no hart runs, each with the order that leads to it. At most `limit` states are
-/// kept. Where memory runs out, nothing is written; where the sink fails, it took a prefix of the
-/// answer.
+/// Searches the states that an image reaches, by steps of its harts and sweeps, and writes those
+/// in which no hart runs, each with the order that leads to it. Where memory runs out, nothing is
+/// written; where the sink fails, it took a prefix of the answer.
 pub fn list_outcomes<P: Progress, S: Sink>(
     alloc: Global,
-    image: &Image,
-    sweeps: &[SweepRange],
-    limit: u32,
-    format: Format,
+    search: &Search<'_>,
     progress: &mut P,
     sink: &mut S,
 ) -> Result<Ending, WriteFault>
-    requires some { 0 < limit }
-    requires few { length sweeps.now ≤ MAX_SWEEPS }
+    requires { IsSearchable search.now }
     ensures written { IfOk result (λ ending. IsWritten
-        (λ text. IsListedAnswer image.now sweeps.now limit format text ending)
+        (λ text. IsListedAnswer search.now.image.now search.now.sweeps.now
+        (sight_of search.now.every_step NoStep) search.now.states search.now.format
+        text ending)
         (S.written sink.old) (S.written sink.new)) }
     ensures begun { IfErr result (IsUnwritten (λ text. (ending : Ending)
-        × IsListedAnswer image.now sweeps.now limit format text ending)
+        × IsListedAnswer search.now.image.now search.now.sweeps.now
+        (sight_of search.now.every_step NoStep) search.now.states search.now.format
+        text ending)
         (S.written sink.old) (S.written sink.new)) }
     ensures failures { S.failures sink.new ≡ S.failures sink.old + failures_of result }
     ensures identity { S.identity sink.new ≡ S.identity sink.old }
 {
-    let core = opened(alloc, image)?;
-    let searched = search_outcomes(alloc, image, &core, sweeps, limit, progress)?;
+    let core = opened(alloc, search.image)?;
+    let searched = search_outcomes(alloc, search, &core, progress)?;
     let view = core.view();
-    let listed = listed_answer(alloc, format, view.harts, view.ram, &searched)?;
+    let listed = listed_answer(alloc, search.format, view.harts, view.ram, &searched)?;
     put_answer(sink, &listed)
 }
 
@@ -140,27 +140,27 @@ pub fn list_outcomes<P: Progress, S: Sink>(
 /// outcomes have it and the order that leads to the first of them.
 pub fn show_outcomes<P: Progress, S: Sink>(
     alloc: Global,
-    image: &Image,
+    search: &Search<'_>,
     items: &Items<'_>,
-    sweeps: &[SweepRange],
-    limit: u32,
-    format: Format,
     progress: &mut P,
     sink: &mut S,
 ) -> Result<Ending, WriteFault>
-    requires some { 0 < limit }
-    requires few { length sweeps.now ≤ MAX_SWEEPS }
+    requires { IsSearchable search.now }
     ensures written { IfOk result (λ ending. IsWritten
-        (λ text. IsShownAnswer image.now (list_of items.now) sweeps.now limit format text ending)
+        (λ text. IsShownAnswer search.now.image.now (list_of items.now) search.now.sweeps.now
+        (sight_of search.now.every_step NoStep) search.now.states search.now.format
+        text ending)
         (S.written sink.old) (S.written sink.new)) }
     ensures begun { IfErr result (IsUnwritten (λ text. (ending : Ending)
-        × IsShownAnswer image.now (list_of items.now) sweeps.now limit format text ending)
+        × IsShownAnswer search.now.image.now (list_of items.now) search.now.sweeps.now
+        (sight_of search.now.every_step NoStep) search.now.states search.now.format
+        text ending)
         (S.written sink.old) (S.written sink.new)) }
     ensures failures { S.failures sink.new ≡ S.failures sink.old + failures_of result }
     ensures identity { S.identity sink.new ≡ S.identity sink.old }
 {
-    let core = opened(alloc, image)?;
-    let searched = search_outcomes(alloc, image, &core, sweeps, limit, progress)?;
-    let shown = shown_answer(alloc, format, items, &searched)?;
+    let core = opened(alloc, search.image)?;
+    let searched = search_outcomes(alloc, search, &core, progress)?;
+    let shown = shown_answer(alloc, search.format, items, &searched)?;
     put_answer(sink, &shown)
 }

@@ -6,7 +6,7 @@ use grammar::fault::ListingFaultKind;
 use inputs::{FileFault, InputFault, fault_of};
 use listings::ListingFault;
 use orders::{OrderFault, OrderFaultKind};
-use sim_program::{Fault, report_fault};
+use sim_program::{Fault, OwnFault, report_fault};
 use std::io::ErrorKind;
 use std::test::Fail;
 
@@ -118,12 +118,12 @@ fn long_lines_of_faults(rt: HostRuntime) {
         offset: usize::MAX,
         kind: OrderFaultKind::NoMemory,
     }));
-    let step = Fault::Step(usize::MAX, StepFault::HartStopped);
+    let step = Fault::Own(OwnFault::Step(usize::MAX, StepFault::HartStopped));
     for (fault, status, line) in [
         (listing, 1, "listing line 1048576: 7 Capability\n"),
         (order, 1, "order byte 18446744073709551615: 3 NoMemory\n"),
         (step, 1, "order step 18446744073709551615: 3 HartStopped\n"),
-        (Fault::ImageDiffers, 3, "image differs\n"),
+        (Fault::Own(OwnFault::ImageDiffers), 3, "image differs\n"),
     ] {
         let mut err = Vec::new(rt.alloc());
         assert_eq!(rt; report_fault(&mut err, fault), status);

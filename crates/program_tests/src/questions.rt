@@ -172,23 +172,37 @@ fn questions_are_answered(rt: HostRuntime) -> Result<(), Fail> {
         "0.pcc.tag = 0",
         "--sweep",
         "0x10000000,0x10000001",
+        "--steps",
         "--json",
     ];
-    let shown = ["outcomes", "listing", "--show", "0.c6,mem8[0x80000000]"];
-    let cut = ["find", "listing", "0.c5 = 2", "--states", "3"];
-    let found = ["find", "listing", "0.c5 = 1 and 1.c5 = 1", "--states", "9"];
+    let shown = [
+        "outcomes",
+        "listing",
+        "--show",
+        "0.c6,mem8[0x80000000]",
+        "--steps",
+    ];
+    let cut = ["find", "listing", "0.c5 = 2", "--states", "3", "--steps"];
+    let found = [
+        "find",
+        "listing",
+        "0.c5 = 1 and 1.c5 = 1",
+        "--states",
+        "9",
+        "--steps",
+    ];
     let rows: [(&[&str], &str, (u8, &str)); 7] = [
-        (&["outcomes", "listing"], COUNTING, (0, LISTED)),
+        (&["outcomes", "listing", "--steps"], COUNTING, (0, LISTED)),
         (&shown, ADDING, (0, ROWS)),
         (&found, COUNTING, (0, COUNTED)),
         (&swept, COUNTING, (0, SWEPT_JSON)),
         (
-            &["find", "listing", "0.c5 = 2"],
+            &["find", "listing", "0.c5 = 2", "--steps"],
             COUNTING,
             (5, "none in 9 states\n"),
         ),
         (&cut, COUNTING, (4, "unknown after 3 states\n")),
-        (&["authority", "listing"], COUNTING, (0, HELD)),
+        (&["authority", "listing", "--steps"], COUNTING, (0, HELD)),
     ];
     for (words, listing, (status, answer)) in rows {
         compare(&rt, words, listing, (status, answer, ""))?;

@@ -1,3 +1,4 @@
 pub mod Endings
+pub mod Searches
 pub mod Meant
 pub mod StateTexts

@@ -1,10 +1,15 @@
 //! Harts and a memory into which kept states are loaded.
+#![tactic(auto, unfolding(cheri_model::specs::runs::Machine::hart_at))]
 
-ghost use Rattle.std.specs.Prelude.{◌≡◌, ◌+◌, ◌*◌, ◌≤◌, length, Some, IsSome, IfOk};
-ghost use Rattle.cheri_model.specs.runs.Machine.{MachineState};
+ghost use Rattle.std.specs.Prelude.{◌≡◌, ◌+◌, ◌*◌, ◌<◌, ◌≤◌, length, slice_set, Some, IsSome, IfOk};
+ghost use Rattle.cheri_model.specs.runs.Machine.{MachineState, hart_at};
+ghost use Rattle.cheri_model.specs.steps.Hart.{register};
+ghost use Rattle.cheri_model.specs.steps.Memory.{granule_at};
 ghost use Rattle.state_store.specs.Stores.{state_of};
 
-use cheri_model::{GRANULE_BYTES, NoMemory, RAM_BASE};
+use cap_ops::Cap;
+use cheri_model::{GRANULE_BYTES, NoMemory, RAM_BASE, Reg, Status};
+use conditions::StateView;
 use hart::Hart;
 use state_store::State;
 use std::alloc::{AllocError, Global};
@@ -92,5 +97,41 @@ impl Loaded {
     {
         load_harts(state, self.harts.as_mut_slice());
         load_ram(state, &mut self.ram);
+    }
+
+    /// Puts a hart in the place of the one with this number.
+    pub fn put_hart(&mut self, number: usize, hart: &Hart)
+        requires { number < length self.old.harts }
+        ensures { self.new ≡ record self.old { harts = slice_set self.old.harts number hart.now } }
+    {
+        self.harts[number] = *hart;
+    }
+}
+
+impl StateView for Loaded {
+    ghost state = { λ l. l };
+
+    fn hart_count(&self) -> usize {
+        self.harts.len()
+    }
+
+    fn granule_count(&self) -> usize {
+        self.ram.granule_count()
+    }
+
+    fn register(&self, hart: usize, reg: Reg) -> Cap {
+        self.harts[hart].register(reg)
+    }
+
+    fn pcc(&self, hart: usize) -> Cap {
+        self.harts[hart].pcc()
+    }
+
+    fn status(&self, hart: usize) -> Status {
+        self.harts[hart].status()
+    }
+
+    fn granule(&self, number: usize) -> Cap {
+        self.ram.granule(number)
     }
 }

@@ -2,7 +2,9 @@
 use Rattle.std.proofs.Common.{◌≡◌, ℕ, ◌+◌, ◌<◌, List, length, arith, ap, sym, ◌∙◌, refl, subst}
 use Rattle.std.specs.Prelude.{Option, Some, None, ◌==◌, if◌then◌else◌}
 use Rattle.cheri_model.specs.runs.Image.{ImageParts}
-use Rattle.cheri_model.specs.runs.Machine.{MachineState, opening_state}
+use Rattle.cheri_model.specs.runs.Machine.{MachineState}
+use Rattle.explore_sights.specs.declared.sights.Sight.{Sight}
+use Rattle.explore_turns.specs.Turns.{start_by, turn_by}
 use Rattle.graph_search.specs.Searches.{IsExplored}
 use Rattle.graph_search.specs.Trees.{Found, state_at, edge_at}
 use Rattle.graph_search.proofs.TreeLemmas.{stands_same}
@@ -11,26 +13,25 @@ use Rattle.loop_search.specs.Verdicts.{AreDistinct, IsVerdict}
 use Rattle.loop_search.specs.declared.judging.Verdict.{Verdict}
 use Rattle.loop_search.proofs.VerdictLemmas.{on_same}
 use Rattle.schedules.specs.declared.ranges.SweepRange.{SweepRange}
-use Rattle.schedules.specs.Schedules.{next}
-use Rattle.states.specs.Graphs.{GraphParts, state_in}
+use Rattle.states.specs.Graphs.{GraphParts, state_in, turn_in}
 use Rattle.states.specs.Kept.{kept_of, at, IsKept}
 use Rattle.state_store.specs.Stores.{state_of}
 use Rattle.state_loops.specs.Endless.{IsSame}
 
 -- rows mean the same in a graph and in what is kept of it
-same_meaning : (g : GraphParts) (image : ImageParts) (sweeps : List SweepRange) →
+same_meaning : (g : GraphParts) (image : ImageParts) (sweeps : List SweepRange) (sight : Sight) →
     length g.image.harts ≡ length image.harts →
-    state_in g ≡ state_in (record { image = image; sweeps = sweeps; store = g.store })
+    state_in g ≡ state_in (record { image = image; sweeps = sweeps; sight = sight; store = g.store })
 unfolding state_in
-same_meaning g image sweeps same =
+same_meaning g image sweeps sight same =
     let meaning : ℕ → List ℕ → Option MachineState = λ n row. if length row == n + 1 then state_of g.store row else None in
     ap meaning same
 
-module _ (image : ImageParts) (sweeps : List SweepRange) (g : GraphParts) (found : Found) (limit : ℕ)
-    (kept : IsKept image sweeps g found limit) where
+module _ (image : ImageParts) (sweeps : List SweepRange) (sight : Sight) (g : GraphParts) (found : Found) (limit : ℕ)
+    (kept : IsKept image sweeps sight g found limit) where
   -- the states are those of the graph
-  states_in : at (kept_of image sweeps g.store found limit) ≡ state_at (state_in g) found.nodes
-  states_in = ap (λ (m : List ℕ → Option MachineState). state_at m found.nodes) (sym (same_meaning g image sweeps kept.harts))
+  states_in : at (kept_of image sweeps sight g.store found limit) ≡ state_at (state_in g) found.nodes
+  states_in = ap (λ (m : List ℕ → Option MachineState). state_at m found.nodes) (sym (same_meaning g image sweeps sight kept.harts))
 
   pub graph_meant : AreMeant (state_at (state_in g) found.nodes) (length found.nodes)
   unfolding AreMeant
@@ -43,32 +44,33 @@ module _ (image : ImageParts) (sweeps : List SweepRange) (g : GraphParts) (found
       a j ≡ Some s → i ≡ j) states_in kept.search.distinct
 
   -- the graph learned something
-  module _ (g' : GraphParts) (edges : next g'.image g'.sweeps ≡ next g.image g.sweeps)
+  module _ (g' : GraphParts) (edges : turn_in g' ≡ turn_in g)
       (width : length g'.image.harts + 1 ≡ length g.image.harts + 1)
       (states : state_at (state_in g') found.nodes ≡ state_at (state_in g) found.nodes) where
     harts_same : length g'.image.harts ≡ length image.harts
     harts_same = let same = kept.harts in omega arith
 
-    pub states_same : at (kept_of image sweeps g'.store found limit) ≡ at (kept_of image sweeps g.store found limit)
+    pub states_same : at (kept_of image sweeps sight g'.store found limit) ≡ at (kept_of image sweeps sight g.store found limit)
     states_same =
-        ap (λ (m : List ℕ → Option MachineState). state_at m found.nodes) (sym (same_meaning g' image sweeps harts_same))
+        ap (λ (m : List ℕ → Option MachineState). state_at m found.nodes) (sym (same_meaning g' image sweeps sight harts_same))
         ∙ (states ∙ sym states_in)
 
-    pub kept_again : IsKept image sweeps g' found limit
+    pub kept_again : IsKept image sweeps sight g' found limit
     kept_again = record {
       edges = edges ∙ kept.edges;
       harts = harts_same;
-      search = subst (λ (a : ℕ → Option MachineState). IsExplored (next image sweeps) (opening_state image) limit a
+      search = subst (λ (a : ℕ → Option MachineState). IsExplored (turn_by image sweeps sight) (start_by image sweeps sight) limit a
           (edge_at found.edges) (length found.nodes) found.complete) (sym states_same) kept.search;
       wide = kept.wide;
-      stands = stands_same (next g.image g.sweeps) (next g'.image g'.sweeps) (state_in g) (state_in g') limit
+      stands = stands_same (turn_in g) (turn_in g') (state_in g) (state_in g') limit
           found.nodes found.edges edges states found.cut kept.stands;
     }
 
-    pub kept_same : IsSame (kept_of image sweeps g.store found limit) (kept_of image sweeps g'.store found limit)
+    pub kept_same : IsSame (kept_of image sweeps sight g.store found limit) (kept_of image sweeps sight g'.store found limit)
     kept_same = record {
       image = refl;
       sweeps = refl;
+      sight = refl;
       edges = refl;
       limit = refl;
       complete = refl;
@@ -77,10 +79,10 @@ module _ (image : ImageParts) (sweeps : List SweepRange) (g : GraphParts) (found
     }
 
     pub verdict_of_kept : (actors : ℕ) (v : Verdict) →
-        IsVerdict (next g.image g.sweeps) actors (state_at (state_in g) found.nodes) found.complete v →
-        IsVerdict (next image sweeps) actors (at (kept_of image sweeps g'.store found limit)) found.complete v
+        IsVerdict (turn_in g) actors (state_at (state_in g) found.nodes) found.complete v →
+        IsVerdict (turn_by image sweeps sight) actors (at (kept_of image sweeps sight g'.store found limit)) found.complete v
     verdict_of_kept actors v verdict =
         on_same (λ (n : MachineState → ℕ → Option MachineState) (a : ℕ → Option MachineState).
-        IsVerdict n actors a found.complete v) (next image sweeps) (next g.image g.sweeps)
-        (at (kept_of image sweeps g'.store found limit)) (state_at (state_in g) found.nodes)
+        IsVerdict n actors a found.complete v) (turn_by image sweeps sight) (turn_in g)
+        (at (kept_of image sweeps sight g'.store found limit)) (state_at (state_in g) found.nodes)
         kept.edges (sym (states_same ∙ states_in)) verdict

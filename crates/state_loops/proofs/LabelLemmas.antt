@@ -18,18 +18,6 @@ use Rattle.schedules.proofs.WalkLemmas.{walk_legal, legal_walk, legal_labels}
 use Rattle.state_loops.proofs.OperationLemmas.{both_true, next_some, some_next, step_hart, label_of_step, allowed_labels}
 use Rattle.state_loops.specs.Endless.{Steps, IsLoop, IsFair, step_count}
 
--- labels have one order
-same_order : (image : ImageParts) (sweeps : List SweepRange) (ls : List ℕ) (order other : List Op) →
-    AreLabelsOf image sweeps ls order → AreLabelsOf image sweeps ls other → order ≡ other
-same_order image sweeps [] [] [] are also = refl
-same_order image sweeps [] [] (y ∷ other) are also = absurd also
-same_order image sweeps [] (x ∷ order) other are also = absurd are
-same_order image sweeps (l ∷ ls) [] other are also = absurd are
-same_order image sweeps (l ∷ ls) (x ∷ order) [] are also = absurd also
-same_order image sweeps (l ∷ ls) (x ∷ order) (y ∷ other) are also =
-    ap (λ (o : Op). o ∷ order) (same_Some x y (sym are.0 ∙ also.0))
-    ∙ ap (λ (os : List Op). y ∷ os) (same_order image sweeps ls order other are.1 also.1)
-
 step_is_no_sweep : (image : ImageParts) (sweeps : List SweepRange) (l lo hi : ℕ) → l < length image.harts →
     operation_of_label image sweeps l ≡ Some (operation.Sweep lo hi) → ⊥
 step_is_no_sweep image sweeps l lo hi low is =
@@ -101,7 +89,7 @@ labels_steps image sweeps (l ∷ ls) (op ∷ order) are =
     labels_steps_of image sweeps l op ls order are.0 (labels_steps image sweeps ls order are.1)
 
 -- the first labels are those of the first operations
-labels_take : (image : ImageParts) (sweeps : List SweepRange) (n : ℕ) (ls : List ℕ) (order : List Op) →
+pub labels_take : (image : ImageParts) (sweeps : List SweepRange) (n : ℕ) (ls : List ℕ) (order : List Op) →
     AreLabelsOf image sweeps ls order → AreLabelsOf image sweeps (take n ls) (take n order)
 labels_take image sweeps zero ls order are = tt
 labels_take image sweeps (suc n) [] [] are = tt
@@ -109,48 +97,7 @@ labels_take image sweeps (suc n) [] (op ∷ order) are = absurd are
 labels_take image sweeps (suc n) (l ∷ ls) [] are = absurd are
 labels_take image sweeps (suc n) (l ∷ ls) (op ∷ order) are = (are.0, labels_take image sweeps n ls order are.1)
 
-legal_take : (image : ImageParts) (n : ℕ) (s : MachineState) (order : List Op) → is_legal image s order ≡ true →
-    is_legal image s (take n order) ≡ true
-unfolding is_legal
-legal_take image zero s order legal = refl
-legal_take image (suc n) s [] legal = refl
-legal_take image (suc n) s (op ∷ order) legal =
-    let parts = both_true (may_take s op) (is_legal image (state_after_one image s op) order) legal in
-    rw (parts.0) (legal_take image n (state_after_one image s op) order parts.1)
-
--- the states on the way of a loop's labels are those on the way of its operations
-pub way_of_labels : (image : ImageParts) (sweeps : List SweepRange) (at : ℕ → Option MachineState) (s : MachineState)
-    (ls : List ℕ) (cycle : List Op) → AreLabelsOf image sweeps ls cycle → is_legal image s cycle ≡ true →
-    StaysFound (next image sweeps) at s ls → (n : ℕ) → IsFound at (state_after image s (take n cycle))
-way_of_labels image sweeps at s ls cycle are legal stays n =
-    stays n (state_after image s (take n cycle))
-    (legal_walk image sweeps s (take n ls) (take n cycle) (labels_take image sweeps n ls cycle are)
-    (legal_take image n s cycle legal))
-
 module _ (image : ImageParts) (sweeps : List SweepRange) (s : MachineState) (size : length s.harts ≡ length image.harts) where
-  -- the operations of a loop's labels
-  pub loop_of_labels : (ls : List ℕ) (cycle : List Op) → AreLabelsOf image sweeps ls cycle →
-      graphs.IsLoop (next image sweeps) (length image.harts) s ls → IsLoop image sweeps s cycle
-  loop_of_labels ls cycle are loop =
-      let walk = walk_legal image sweeps s s ls loop.0 in
-      let same = same_order image sweeps ls walk.0 cycle walk.1 are in
-      let actor = loop.1 in
-      record {
-        allowed = allowed_labels image sweeps ls cycle are;
-        legal = subst (λ (o : List Op). is_legal image s o ≡ true) same walk.2;
-        back = subst (λ (o : List Op). state_after image s o ≡ s) same walk.3;
-        steps = (actor.0, takes_steps image sweeps ls cycle actor.0 are actor.1 actor.2);
-      }
-
-  pub fair_of_labels : (ls : List ℕ) (cycle : List Op) → AreLabelsOf image sweeps ls cycle →
-      graphs.IsFair (next image sweeps) (length image.harts) s ls → IsFair s cycle
-  fair_of_labels ls cycle are fair hart may =
-      let own = step_hart s hart may in
-      let low : hart < length image.harts = omega arith in
-      takes_steps image sweeps ls cycle hart are low
-      (fair hart (state_after_one image s (operation.Step hart)) low
-      (some_next image sweeps s hart (operation.Step hart) (label_of_step image sweeps hart low) may))
-
   -- the labels of a loop's operations
   pub labels_of_loop : (cycle : List Op) → IsLoop image sweeps s cycle →
       (ls : List ℕ) × AreLabelsOf image sweeps ls cycle

@@ -1,4 +1,6 @@
 pub mod OperationLemmas
 pub mod LabelLemmas
+pub mod TurnLemmas
 pub mod EndlessLemmas
 pub mod KeptLemmas
+pub mod CycleLemmas

@@ -1,6 +1,6 @@
 -- Runs that go on for ever: an order leads from a state back to it, and can be taken again and
 -- again. All of it is said of the machine's own replay.
-use Rattle.std.specs.Prelude.{◌≡◌, ℕ, ◌+◌, ◌<◌, List, [], ◌∷◌, length, take, Some, true, ◌⊎◌}
+use Rattle.std.specs.Prelude.{◌≡◌, ℕ, ◌+◌, ◌*◌, ◌<◌, List, [], ◌∷◌, length, take, Some, true, ◌⊎◌}
 use Rattle.cheri_model.specs.declared.operation.Op.{Op}
 use Rattle.cheri_model.specs.declared.operation.Op.TheVariants as operation
 use Rattle.cheri_model.specs.runs.Image.{ImageParts}
@@ -10,7 +10,11 @@ use Rattle.graph_search.specs.Trees.{IsFound}
 use Rattle.graph_search.specs.Walks.{IsWalk}
 use Rattle.graph_loops.specs.Loops.{actor_count}
 use Rattle.schedules.specs.declared.ranges.SweepRange.{SweepRange}
-use Rattle.schedules.specs.Schedules.{next, AreAllowed, AreLabelsOf}
+use Rattle.schedules.specs.Schedules.{AreAllowed, AreLabelsOf}
+use Rattle.explore_sights.specs.declared.sights.Sight.{Sight}
+use Rattle.explore_turns.specs.declared.quiet.TheConstants.{MAX_QUIET_STEPS}
+use Rattle.explore_turns.specs.Orders.{turns_from}
+use Rattle.explore_turns.specs.Turns.{turn_by, start_by}
 use Rattle.states.specs.Kept.{KeptParts, at, count, IsWitnessOrder}
 use Rattle.loop_search.specs.declared.judging.FoundLoop.{FoundLoop}
 use Rattle.loop_search.specs.declared.judging.Verdict.{Verdict}
@@ -55,53 +59,63 @@ step_count [] = 0
 step_count (operation.Step hart ∷ order) = step_count order + 1
 step_count (operation.Sweep lo hi ∷ order) = step_count order
 
--- a walk from the opening state has fewer edges of harts than there are kept states
-abbrev pub HasShortWalks : KeptParts → Type 0
-HasShortWalks kept = (labels : List ℕ) (state : MachineState) →
-    IsWalk (next kept.image kept.sweeps) (opening_state kept.image) labels state →
+-- turns from where they begin have fewer steps of harts, one a turn, than there are kept states
+abbrev pub HasFewTurns : KeptParts → Type 0
+HasFewTurns kept = (labels : List ℕ) (state : MachineState) →
+    IsWalk (turn_by kept.image kept.sweeps kept.sight)
+    (start_by kept.image kept.sweeps kept.sight) labels state →
     actor_count (length kept.image.harts) labels < count kept
 
--- a legal order of steps and of these sweeps has fewer steps than there are kept states
+-- A legal order of steps and of these sweeps is short: a turn has at most so many quiet steps, and so
+-- may each hart take before them, one that a sweep would change one step more.
 abbrev pub HasFewSteps : KeptParts → Type 0
 HasFewSteps kept = (order : List Op) → AreAllowed kept.sweeps order →
-    is_legal kept.image (opening_state kept.image) order ≡ true → step_count order < count kept
+    is_legal kept.image (opening_state kept.image) order ≡ true →
+    step_count order
+    < (MAX_QUIET_STEPS + 2) * count kept + length kept.image.harts * (MAX_QUIET_STEPS + 1)
 
--- A round from a state: an order that is legal there, with at least one step, and with one of each
--- hart that runs in the state.
-pub record IsFairRound (image : ImageParts) (sweeps : List SweepRange) (state : MachineState)
-    (round : List Op) : Type 0 where
-  pub allowed : AreAllowed sweeps round
-  pub legal : is_legal image state round ≡ true
+-- A round of turns from one state to another: turns that begin with these operations, at least one
+-- of them a step, and one a step of each hart that runs in the state.
+pub record IsFairRound (image : ImageParts) (sweeps : List SweepRange) (sight : Sight)
+    (state : MachineState) (round : List Op) (to : MachineState) : Type 0 where
+  pub labels : List ℕ
+  pub operations : AreLabelsOf image sweeps labels round
+  pub leads : IsWalk (turn_by image sweeps sight) state labels to
   pub steps : (hart : ℕ) × Steps round hart
   pub fair : IsFair state round
 
 -- such rounds, one after the other
-abbrev pub AreFairRounds : ImageParts → List SweepRange → MachineState → List (List Op) → Type 0
-AreFairRounds image sweeps state [] = Unit {0}
-AreFairRounds image sweeps state (round ∷ rounds) =
-    IsFairRound image sweeps state round
-    × AreFairRounds image sweeps (state_after image state round) rounds
+abbrev pub AreFairRounds : ImageParts → List SweepRange → Sight → MachineState → List (List Op)
+    → Type 0
+AreFairRounds image sweeps sight state [] = Unit {0}
+AreFairRounds image sweeps sight state (round ∷ rounds) =
+    (to : MachineState) × IsFairRound image sweeps sight state round to
+    × AreFairRounds image sweeps sight to rounds
 
--- an order that is made of such rounds has fewer of them than there are kept states
+-- there are fewer such rounds, from where turns begin, than there are kept states
 abbrev pub HasFewRounds : KeptParts → Type 0
 HasFewRounds kept = (rounds : List (List Op)) →
-    AreFairRounds kept.image kept.sweeps (opening_state kept.image) rounds →
-    length rounds < count kept
+    AreFairRounds kept.image kept.sweeps kept.sight
+    (start_by kept.image kept.sweeps kept.sight) rounds → length rounds < count kept
 
--- the order is the witness of a kept state, and the cycle a loop of it through kept states
+-- The order is the witness of a kept state, and the cycle a loop of it: turns, after each of which the
+-- state is kept.
 pub record IsLasso (kept : KeptParts) (lasso : Lasso) (state : MachineState) : Type 0 where
   pub number : ℕ
   pub there : at kept number ≡ Some state
-  pub witness : IsWitnessOrder kept.image kept.sweeps state lasso.order.items
+  pub witness : IsWitnessOrder kept.image kept.sweeps kept.sight state lasso.order.items
   pub loops : IsLoop kept.image kept.sweeps state lasso.cycle.items
-  pub way : (n : ℕ) → IsFound (at kept) (state_after kept.image state (take n lasso.cycle.items))
+  pub ops : List Op
+  pub turns : lasso.cycle.items ≡ turns_from kept.image kept.sweeps kept.sight state ops
+  pub way : (n : ℕ) → IsFound (at kept) (state_after kept.image state
+      (turns_from kept.image kept.sweeps kept.sight state (take n ops)))
 
--- what is made of a loop that was found: its node's witness, and the operations of its labels
+-- what is made of a loop that was found: its node's witness, and the turns of its labels
 abbrev pub IsLassoOf : KeptParts → FoundLoop → Lasso → Type 0
-IsLassoOf kept found lasso =
-    ((state : MachineState) → at kept found.node ≡ Some state →
-    IsWitnessOrder kept.image kept.sweeps state lasso.order.items)
-    × AreLabelsOf kept.image kept.sweeps found.labels.items lasso.cycle.items
+IsLassoOf kept found lasso = (state : MachineState) → at kept found.node ≡ Some state →
+    IsWitnessOrder kept.image kept.sweeps kept.sight state lasso.order.items
+    × ((ops : List Op) × AreLabelsOf kept.image kept.sweeps found.labels.items ops
+    × (lasso.cycle.items ≡ turns_from kept.image kept.sweeps kept.sight state ops))
 
 -- what an answer says of the kept states
 abbrev pub IsEndless : KeptParts → Endless → Type 0
@@ -112,7 +126,7 @@ IsEndless kept (Unfair lasso) =
     (kept.complete ≡ true) × HasNoFairLoop kept.image kept.sweeps × HasFewRounds kept
     × ((state : MachineState) × IsLasso kept lasso state)
 IsEndless kept No =
-    (kept.complete ≡ true) × HasNoLoop kept.image kept.sweeps × HasShortWalks kept
+    (kept.complete ≡ true) × HasNoLoop kept.image kept.sweeps × HasFewTurns kept
     × HasFewSteps kept
 
 -- the answer of a verdict
@@ -127,6 +141,7 @@ IsAnswerOf given answer = ⊥
 pub record IsSame (old new : KeptParts) : Type 0 where
   pub image : new.image ≡ old.image
   pub sweeps : new.sweeps ≡ old.sweeps
+  pub sight : new.sight ≡ old.sight
   pub edges : new.edges ≡ old.edges
   pub limit : new.limit ≡ old.limit
   pub complete : new.complete ≡ old.complete

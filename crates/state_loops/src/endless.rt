@@ -1,8 +1,9 @@
 //! Whether runs can go on for ever.
 
-ghost use Rattle.std.specs.Prelude.{◌≡◌, length, IfOk};
+ghost use Rattle.std.specs.Prelude.{◌≡◌, ◌≤◌, ◌++◌, drop, length, IfOk};
 ghost use Rattle.loop_search.specs.Verdicts.{IsVerdict, IsFoundLoop};
-ghost use Rattle.schedules.specs.Schedules.{next};
+ghost use Rattle.explore_turns.specs.Orders.{AreOfHarts, order_of_turns};
+ghost use Rattle.explore_turns.specs.Turns.{turn_by};
 ghost use Rattle.states.specs.Kept.{at};
 ghost use Rattle.state_loops.specs.Endless.{IsEndless, IsAnswerOf, IsSame, IsLassoOf};
 
@@ -60,7 +61,7 @@ pub fn endless_of(alloc: Global, kept: Kept) -> Result<Judged, AllocError>
 
 /// A verdict on the kept states, in the machine's operations.
 fn endless_by(alloc: Global, kept: &Kept, verdict: &Verdict) -> Result<Endless, AllocError>
-    requires { IsVerdict (next kept.now.image kept.now.sweeps) (length kept.now.image.harts)
+    requires { IsVerdict (turn_by kept.now.image kept.now.sweeps kept.now.sight) (length kept.now.image.harts)
         (at kept.now) kept.now.complete verdict.now }
     ensures answer { IfOk result (IsAnswerOf verdict.now) }
     ensures endless { IfOk result (IsEndless kept.now) }
@@ -75,13 +76,41 @@ fn endless_by(alloc: Global, kept: &Kept, verdict: &Verdict) -> Result<Endless, 
     }
 }
 
+/// The order of one list of turns, and what others after them add to it.
+fn orders_of(
+    alloc: Global,
+    kept: &Kept,
+    first: Vec<Op>,
+    later: &[Op],
+) -> Result<(Vec<Op>, Vec<Op>), AllocError>
+    requires first { AreOfHarts kept.now.image first.items }
+    requires whole { AreOfHarts kept.now.image (first.items ++ later.now) }
+    requires longer { length (order_of_turns kept.now.image kept.now.sweeps kept.now.sight first.items)
+        ≤ length (order_of_turns kept.now.image kept.now.sweeps kept.now.sight
+        (first.items ++ later.now)) }
+    ensures first { IfOk result (λ orders. orders.0.items
+        ≡ order_of_turns kept.now.image kept.now.sweeps kept.now.sight first.items) }
+    ensures later { IfOk result (λ orders. orders.1.items
+        ≡ drop (length (order_of_turns kept.now.image kept.now.sweeps kept.now.sight first.items))
+        (order_of_turns kept.now.image kept.now.sweeps kept.now.sight
+        (first.items ++ later.now))) }
+{
+    let order = kept.order_of(alloc, first.as_slice())?;
+    let mut ops = first;
+    ops.extend_from_slice(later)?;
+    let whole = kept.order_of(alloc, ops.as_slice())?;
+    let cycle = Vec::from_slice(alloc, &whole[order.len()..])?;
+    Ok((order, cycle))
+}
+
 /// A loop of a kept state, in the machine's operations.
 fn lasso_of(alloc: Global, kept: &Kept, found: &FoundLoop) -> Result<Lasso, AllocError>
-    requires { IsFoundLoop (next kept.now.image kept.now.sweeps) (length kept.now.image.harts)
-        (at kept.now) found.now }
+    requires { IsFoundLoop (turn_by kept.now.image kept.now.sweeps kept.now.sight)
+        (length kept.now.image.harts) (at kept.now) found.now }
     ensures { IfOk result (IsLassoOf kept.now found.now) }
 {
-    let order = kept.witness(alloc, found.node)?;
-    let cycle = kept.operations(alloc, found.labels.as_slice())?;
+    let first = kept.witness_turns(alloc, found.node)?;
+    let later = kept.operations(alloc, found.labels.as_slice())?;
+    let (order, cycle) = orders_of(alloc, kept, first, later.as_slice())?;
     Ok(Lasso { order, cycle })
 }

@@ -1,5 +1,5 @@
 -- What is so of a node of the graph, and of the tables that the graph keeps.
-use Rattle.std.proofs.Common.{◌≡◌, ◌≢◌, ℕ, ◌+◌, ◌<◌, ◌≤◌, List, length, arith, ap, sym, ◌∙◌, refl, subst, inl, inr}
+use Rattle.std.proofs.Common.{◌≡◌, ◌≢◌, ℕ, ◌+◌, ◌<◌, ◌≤◌, List, [], ◌∷◌, map, length, arith, ap, sym, ◌∙◌, refl, subst, inl, inr}
 use Rattle.std.specs.Prelude.{Option, Some, None, IsSome, slice_get, slice_index_or, Bool, true, false, if◌then◌else◌}
 use Rattle.std.proofs.lemmas.Bool.{cases_eq, cases_Bool}
 use Rattle.std.proofs.lemmas.Bool.Decides.{nat_tests}
@@ -10,12 +10,17 @@ use Rattle.cheri_model.specs.runs.Image.{ImageParts}
 use Rattle.cheri_model.specs.runs.Machine.{MachineState, is_running}
 use Rattle.cheri_model.specs.runs.Machine as machine
 use Rattle.state_store.specs.Stores.{Stored, hart_of, hart_at, memory_at, state_of, IsOneRow}
-use Rattle.state_store.proofs.NumberedLemmas.{some_of, then_some}
-use Rattle.state_store.proofs.StoreLemmas.{state_of_kept, keeps_self, keeps_on}
+use Rattle.explore_sights.specs.declared.sights.Sight.{Sight}
+use Rattle.explore_turns.specs.Turns.{resting, rest_by, turn_by}
+use Rattle.schedules.specs.declared.ranges.SweepRange.{SweepRange}
+use Rattle.state_store.specs.Numbered.{each}
+use Rattle.state_store.proofs.NumberedLemmas.{some_of, then_some, each_parts}
+use Rattle.states.proofs.RowLemmas.{each_none}
+use Rattle.state_store.proofs.StoreLemmas.{state_of_kept, keeps_self, keeps_on, state_parts}
 use Rattle.state_store.proofs.SeenLemmas.{seen_memory, seen_hart, seen_count}
 use Rattle.states.specs.declared.locals.LocalStep.{LocalStep}
 use Rattle.states.specs.Locals.{touched, site_of, stopped, IsTabled}
-use Rattle.states.specs.Graphs.{GraphParts, state_in, Continues}
+use Rattle.states.specs.Graphs.{GraphParts, state_in, Continues, rests_in, rest_in, turn_in}
 use Rattle.states.proofs.TouchLemmas.{touched_within}
 
 -- What a node says of its state.
@@ -71,11 +76,11 @@ pub is_some : {A : Type 0} (o : Option A) (x : A) → o ≡ Some x → IsSome o
 is_some {A} o x is = subst (λ (p : Option A). IsSome p) (sym is) refl
 
 -- the site of a hart
-pub site_there : (program : List Instr) (store : Stored) (sites : List ℕ) (keys : List (List ℕ)) (steps : List LocalStep)
-    (id : ℕ) (h : HartState) → IsTabled program store sites keys steps → hart_at store id ≡ Some h →
+pub site_there : (program : List Instr) (rests : HartState → HartState) (store : Stored) (sites : List ℕ) (keys : List (List ℕ)) (steps : List LocalStep)
+    (id : ℕ) (h : HartState) → IsTabled program rests store sites keys steps → hart_at store id ≡ Some h →
     (id < length sites) × ((d : ℕ) → slice_index_or sites id d ≡ site_of program store.granules h)
 unfolding hart_at
-site_there program store sites keys steps id h tabled is =
+site_there program rests store sites keys steps id h tabled is =
     let row = then_some (hart_of store.values) (slice_get store.harts id) h is in
     let below : id < length store.harts = slice_get_within store.harts id row.0 row.1 in
     let even = tabled.even in
@@ -113,13 +118,67 @@ site_of_stopped program granules h site is some few stops = elim (cases_Bool (is
   | inr off ↦ off
 ]
 
+-- harts rest in a graph as they did
+pub rests_kept : (g h : GraphParts) → Continues g h → rests_in h ≡ rests_in g
+rests_kept g h continues =
+    ap (λ (i : ImageParts). resting i h.sweeps h.sight) continues.image
+    ∙ (ap (λ (ss : List SweepRange). resting g.image ss h.sight) continues.sweeps
+    ∙ ap (λ (x : Sight). resting g.image g.sweeps x) continues.sight)
+
+-- a graph of an image, sweeps and a sight has their turns, and their states at rest
+pub turns_same : (g : GraphParts) (image : ImageParts) (sweeps : List SweepRange) (sight : Sight) → g.image ≡ image →
+    g.sweeps ≡ sweeps → g.sight ≡ sight → turn_in g ≡ turn_by image sweeps sight
+turns_same g image sweeps sight first second third =
+    ap (λ (i : ImageParts). turn_by i g.sweeps g.sight) first
+    ∙ (ap (λ (ss : List SweepRange). turn_by image ss g.sight) second ∙ ap (λ (x : Sight). turn_by image sweeps x) third)
+
+pub states_same : (g : GraphParts) (image : ImageParts) (sweeps : List SweepRange) (sight : Sight) (s : MachineState) →
+    g.image ≡ image → g.sweeps ≡ sweeps → g.sight ≡ sight → rest_in g s ≡ rest_by image sweeps sight s
+states_same g image sweeps sight s first second third =
+    ap (λ (i : ImageParts). rest_by i g.sweeps g.sight s) first
+    ∙ (ap (λ (ss : List SweepRange). rest_by image ss g.sight s) second ∙ ap (λ (x : Sight). rest_by image sweeps x s) third)
+
+-- a hart with a number is at its rest
+pub hart_rests : (program : List Instr) (rests : HartState → HartState) (store : Stored) (sites : List ℕ) (keys : List (List ℕ))
+    (steps : List LocalStep) (id : ℕ) (h : HartState) → IsTabled program rests store sites keys steps →
+    hart_at store id ≡ Some h → rests h ≡ h
+unfolding hart_at
+hart_rests program rests store sites keys steps id h tabled is =
+    let row = then_some (hart_of store.values) (slice_get store.harts id) h is in
+    let below : id < length store.harts = slice_get_within store.harts id row.0 row.1 in
+    let even = tabled.even in
+    let within : id < length sites = omega arith in
+    let site = tabled.sites_are id (slice_index_or sites id 0) (slice_get-get_or sites id 0 within) in
+    subst (λ (x : HartState). rests x ≡ x) (same_Some site.0 h (sym site.1 ∙ is)) site.3
+
+each_rests : (f : ℕ → Option HartState) (rests : HartState → HartState) → ((id : ℕ) (h : HartState) → f id ≡ Some h → rests h ≡ h) →
+    (ids : List ℕ) (hs : List HartState) → each f ids ≡ Some hs → map rests hs ≡ hs
+each_rests f rests known [] hs is =
+    subst (λ (l : List HartState). map rests l ≡ l) (same_Some [] hs (sym (each_none f) ∙ is)) refl
+each_rests f rests known (id ∷ ids) hs is =
+    let p = each_parts f id ids hs is in
+    subst (λ (l : List HartState). map rests l ≡ l) p.4
+    (ap (λ (h : HartState). h ∷ map rests p.1) (known id p.0 p.2)
+    ∙ ap (λ (l : List HartState). p.0 ∷ l) (each_rests f rests known ids p.1 p.3))
+
+-- so each hart of a node is
+pub node_rests : (g : GraphParts) (sites : List ℕ) (keys : List (List ℕ)) (steps : List LocalStep) (node : List ℕ) (s : MachineState) →
+    IsTabled g.image.program (rests_in g) g.store sites keys steps → state_in g node ≡ Some s → map (rests_in g) s.harts ≡ s.harts
+unfolding state_of
+node_rests g sites keys steps [] s tabled is = absurd (none-some s (opened g [] s is).1)
+node_rests g sites keys steps (m ∷ ids) s tabled is =
+    each_rests (hart_at g.store) (rests_in g)
+    (λ id h at. hart_rests g.image.program (rests_in g) g.store sites keys steps id h tabled at) ids s.harts
+    (state_parts g.store m ids s (opened g (m ∷ ids) s is).1).1
+
 pub continues_self : (g : GraphParts) → Continues g g
-continues_self g = record { image = refl; sweeps = refl; keeps = keeps_self g.store }
+continues_self g = record { image = refl; sweeps = refl; sight = refl; keeps = keeps_self g.store }
 
 pub continues_on : (g h i : GraphParts) → Continues g h → Continues h i → Continues g i
 continues_on g h i first second = record {
   image = second.image ∙ first.image;
   sweeps = second.sweeps ∙ first.sweeps;
+  sight = second.sight ∙ first.sight;
   keeps = keeps_on g.store h.store i.store first.keeps second.keeps;
 }
 
@@ -138,12 +197,12 @@ pub record IsReady (g : GraphParts) (node : List ℕ) (s : MachineState) (j site
   pub within : site < g.store.granules
 
 pub ready : (g : GraphParts) (sites : List ℕ) (keys : List (List ℕ)) (steps : List LocalStep) (node : List ℕ) (s : MachineState)
-    (j site : ℕ) → IsTabled g.image.program g.store sites keys steps → 0 < g.store.granules → state_in g node ≡ Some s →
+    (j site : ℕ) → IsTabled g.image.program (rests_in g) g.store sites keys steps → 0 < g.store.granules → state_in g node ≡ Some s →
     j < length g.image.harts → site ≡ slice_index_or sites (slice_index_or node (j + 1) 0) site → site ≢ stopped →
     IsReady g node s j site
 ready g sites keys steps node s j site tabled some is there looked runs =
     let n = node_of g node s is in
-    let at = looked ∙ (site_there g.image.program g.store sites keys steps (slice_index_or node (j + 1) 0) (machine.hart_at s j)
+    let at = looked ∙ (site_there g.image.program (rests_in g) g.store sites keys steps (slice_index_or node (j + 1) 0) (machine.hart_at s j)
     tabled (n.hart j there)).1 site in
     let r = site_of_running g.image.program g.store.granules (machine.hart_at s j) site at runs in
     record {

@@ -121,7 +121,7 @@ partly_step {A} g h f kept row n id xs x is at left =
     each_set h row (partly f n xs) n id (f x) (each_kept g h kept row (partly f n xs) is) left
     ∙ ap (λ (l : List A). Some l) (partly_more f n xs x at)
 
-each_none : {A : Type 0} (f : ℕ → Option A) → each f [] ≡ Some []
+pub each_none : {A : Type 0} (f : ℕ → Option A) → each f [] ≡ Some []
 unfolding each
 each_none {A} f = refl
 

@@ -5,6 +5,7 @@ use Rattle.std.proofs.lemmas.Bool.{and_parts}
 use Rattle.std.proofs.lemmas.Bool.Decides.{nat_tests}
 use Rattle.std.proofs.lemmas.Option.{none-some}
 use Rattle.cheri_model.specs.declared.instr.Instr.{Instr}
+use Rattle.cheri_model.specs.steps.Hart.{HartState}
 use Rattle.cheri_model.specs.runs.Image.{ImageParts}
 use Rattle.cheri_model.specs.runs.ImageRules.{is_image, are_sizes, is_between}
 use Rattle.state_store.specs.Stores.{Stored}
@@ -32,8 +33,8 @@ sizes_of image is =
       ram_few = grind (arith, nat_tests, r.1);
     }
 
-pub tabled_none : (program : List Instr) (store : Stored) → store.harts ≡ [] → IsTabled program store [] [] []
-tabled_none program store none = record {
+pub tabled_none : (program : List Instr) (rests : HartState → HartState) (store : Stored) → store.harts ≡ [] → IsTabled program rests store [] [] []
+tabled_none program rests store none = record {
   even = sym (ap length none);
   sites_are = λ id site at. absurd (none-some site at);
   as_many = refl;

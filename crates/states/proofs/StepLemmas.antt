@@ -1,7 +1,7 @@
 -- The row that a hart's step leads to, by the step that was computed for its hart and granule.
-use Rattle.std.proofs.Common.{◌≡◌, ℕ, ◌+◌, ◌<◌, List, length, ap, sym, ◌∙◌, subst}
+use Rattle.std.proofs.Common.{◌≡◌, ℕ, ◌+◌, ◌<◌, List, length, map, ap, sym, ◌∙◌, subst}
 use Rattle.std.specs.Prelude.{Some, slice_get, slice_set}
-use Rattle.std.proofs.lemmas.List.{set-get_or}
+use Rattle.std.proofs.lemmas.List.{set-get_or, map-set}
 use Rattle.std.proofs.lemmas.Option.{same_Some}
 use Rattle.cap_model.specs.values.CapValue.{CapValue, raw}
 use Rattle.cheri_model.specs.steps.Hart.{HartState}
@@ -23,7 +23,8 @@ module _ (image : ImageParts) (a b : Stored) (keeps : Keeps a b) (some : 0 < a.g
     (hart_there : hart_at a h ≡ Some (machine.hart_at s j)) (memory_there : memory_at a m ≡ Some s.memory)
     (row_there : slice_get a.memories m ≡ Some row)
     (site : k ≡ touched image.program a.granules (machine.hart_at s j)) (value_there : slice_get row k ≡ Some v)
-    (after : LocalStep) (step : IsLocalStep image.program b h v after) where
+    (after : LocalStep) (rests : HartState → HartState) (step : IsLocalStep image.program rests b h v after)
+    (all_rest : map rests s.harts ≡ s.harts) where
   abbrev pub hart : HartState
   hart = machine.hart_at s j
 
@@ -54,9 +55,9 @@ module _ (image : ImageParts) (a b : Stored) (keeps : Keeps a b) (some : 0 < a.g
       step_is_local image.program hart s.memory value (subst (λ (n : ℕ). 0 < n) (sym size) some)
       (ap (granule_at s.memory) (sym at_size))
 
-  hart_after : hart_at b after.hart ≡ Some (hart_step image.program hart s.memory).hart
+  hart_after : hart_at b after.hart ≡ Some (rests (hart_step image.program hart s.memory).hart)
   hart_after =
-      step.hart_after ∙ ap (λ (x : HartState). Some x)
+      step.hart_after ∙ ap (λ (x : HartState). Some (rests x))
       (ap (λ (n : ℕ). (local_step image.program n step.before step.granule).hart) granules
       ∙ (ap (λ (x : HartState). (local_step image.program (length s.memory) x step.granule).hart) before_is
       ∙ (ap (λ (x : CapValue). (local_step image.program (length s.memory) hart x).hart) value_is ∙ sym local.hart)))
@@ -75,24 +76,37 @@ module _ (image : ImageParts) (a b : Stored) (keeps : Keeps a b) (some : 0 < a.g
   memory_after : (hart_step image.program hart s.memory).memory ≡ slice_set s.memory k left
   memory_after = local.memory ∙ ap (λ (i : ℕ). slice_set s.memory i left) (sym at_size)
 
+  -- the state after the step, with each hart at its rest
+  abbrev pub rested_after : MachineState
+  rested_after =
+      record { harts = map rests (state_after_step image s j).harts; memory = (state_after_step image s j).memory }
+
+  harts_after : slice_set s.harts j (rests (hart_step image.program hart s.memory).hart)
+      ≡ map rests (slice_set s.harts j (hart_step image.program hart s.memory).hart)
+  harts_after =
+      ap (λ (hs : List HartState). slice_set hs j (rests (hart_step image.program hart s.memory).hart)) (sym all_rest)
+      ∙ sym (map-set rests s.harts j (hart_step image.program hart s.memory).hart)
+
   -- the state with the hart after the step
   abbrev halfway : MachineState
   halfway =
-      record { harts = slice_set s.harts j (hart_step image.program hart s.memory).hart; memory = s.memory }
+      record { harts = map rests (slice_set s.harts j (hart_step image.program hart s.memory).hart); memory = s.memory }
 
   pub half_row : state_of b (slice_set node (j + 1) after.hart) ≡ Some halfway
-  half_row = row_with_hart a b keeps node s j after.hart (hart_step image.program hart s.memory).hart is hart_after
+  half_row =
+      row_with_hart a b keeps node s j after.hart (rests (hart_step image.program hart s.memory).hart) is hart_after
+      ∙ ap (λ (hs : List HartState). Some (record { harts = hs; memory = s.memory })) harts_after
 
   -- the row with the hart and a memory after the step
   pub stepped_row : (c : Stored) → Keeps b c → (n : ℕ) → memory_at c n ≡ Some (slice_set s.memory k left) →
-      state_of c (slice_set (slice_set node (j + 1) after.hart) 0 n) ≡ Some (state_after_step image s j)
+      state_of c (slice_set (slice_set node (j + 1) after.hart) 0 n) ≡ Some rested_after
   unfolding state_after_step
   stepped_row c further n there =
       row_with_memory b c further (slice_set node (j + 1) after.hart) halfway n (hart_step image.program hart s.memory).memory
       half_row (there ∙ ap (λ (l : List CapValue). Some l) (sym memory_after))
 
   -- the row with the hart after the step, where the granule's value stays
-  pub same_row : after.value ≡ v → state_of b (slice_set node (j + 1) after.hart) ≡ Some (state_after_step image s j)
+  pub same_row : after.value ≡ v → state_of b (slice_set node (j + 1) after.hart) ≡ Some rested_after
   unfolding state_after_step granule_at
   same_row same =
       let stays : value ≡ left =
@@ -100,5 +114,5 @@ module _ (image : ImageParts) (a b : Stored) (keeps : Keeps a b) (some : 0 < a.g
       (granule_in_memory a m row s.memory k v memory_there row_there value_there).1)
       ∙ (ap (slice_get b.values) (sym same) ∙ value_after)) in
       half_row ∙ ap (λ (l : List CapValue).
-      Some (record { harts = slice_set s.harts j (hart_step image.program hart s.memory).hart; memory = l }))
+      Some (record { harts = map rests (slice_set s.harts j (hart_step image.program hart s.memory).hart); memory = l }))
       (sym (set-get_or s.memory k (raw 0)) ∙ (ap (slice_set s.memory k) stays ∙ sym memory_after))

@@ -12,7 +12,7 @@ use Rattle.cheri_model.proofs.Granules.ImageGranules.{placed_fits}
 use Rattle.cheri_model.specs.runs.Machine.{is_running}
 use Rattle.state_store.specs.Stores.{Stored, hart_at, Keeps}
 use Rattle.state_store.proofs.StoreLemmas.{hart_at_kept, keeps_on}
-use Rattle.states.specs.Graphs.{GraphParts, Continues, Runs}
+use Rattle.states.specs.Graphs.{GraphParts, Continues, Runs, rests_in}
 use Rattle.states.specs.declared.locals.LocalStep.{LocalStep}
 use Rattle.states.specs.Locals.{touched, local_step, local_value, stopped, IsLocalStep, IsTabled}
 use Rattle.states.proofs.TouchLemmas.{IsLocal, step_is_local, touched_within}
@@ -85,24 +85,24 @@ step_taken program granules ram h v site addr some size at place after is =
     (at ∙ ap (λ (n : ℕ). touched program n h) (sym size)) place after is)
 
 -- the site of a hart that runs, as it was looked up
-pub site_known : (program : List Instr) (store : Stored) (sites : List ℕ) (keys : List (List ℕ)) (steps : List LocalStep)
-    (id : ℕ) (h : HartState) (site : ℕ) → IsTabled program store sites keys steps → 0 < store.granules →
+pub site_known : (program : List Instr) (rests : HartState → HartState) (store : Stored) (sites : List ℕ) (keys : List (List ℕ)) (steps : List LocalStep)
+    (id : ℕ) (h : HartState) (site : ℕ) → IsTabled program rests store sites keys steps → 0 < store.granules →
     hart_at store id ≡ Some h → is_running h.status ≡ true → site ≡ slice_index_or sites id site →
     (site ≡ touched program store.granules h) × (site < store.granules)
-site_known program store sites keys steps id h site tabled some there runs is =
-    let at = is ∙ ((site_there program store sites keys steps id h tabled there).1 site
+site_known program rests store sites keys steps id h site tabled some there runs is =
+    let at = is ∙ ((site_there program rests store sites keys steps id h tabled there).1 site
     ∙ ap (λ (b : Bool). if b then touched program store.granules h else stopped) runs) in
     (at, subst (λ (n : ℕ). n < store.granules) (sym at) (touched_within program store.granules h some))
 
 -- a step that was taken with what was looked up
-pub taken_by : (program code : List Instr) (store : Stored) (sites : List ℕ) (keys : List (List ℕ)) (steps : List LocalStep)
+pub taken_by : (program code : List Instr) (rests : HartState → HartState) (store : Stored) (sites : List ℕ) (keys : List (List ℕ)) (steps : List LocalStep)
     (ram filled : List CapValue) (id : ℕ) (h : HartState) (v : CapValue) (site addr : ℕ) (after : Stepped) →
-    IsTabled program store sites keys steps → 0 < store.granules → length ram ≡ store.granules →
+    IsTabled program rests store sites keys steps → 0 < store.granules → length ram ≡ store.granules →
     hart_at store id ≡ Some h → is_running h.status ≡ true → site ≡ slice_index_or sites id site →
     addr ≡ 2147483648 + 16 * site → code ≡ program → filled ≡ store_capability ram addr v →
     hart_step code h filled ≡ after → IsTaken program store.granules h v site after.hart after.memory
-taken_by program code store sites keys steps ram filled id h v site addr after tabled some size known runs is place same put result =
-    let site_is = site_known program store sites keys steps id h site tabled some known runs is in
+taken_by program code rests store sites keys steps ram filled id h v site addr after tabled some size known runs is place same put result =
+    let site_is = site_known program rests store sites keys steps id h site tabled some known runs is in
     step_taken program store.granules ram h v site addr some size site_is.0 place after
     (ap (λ (p : List Instr). hart_step p h (store_capability ram addr v)) (sym same)
     ∙ (ap (hart_step code h) (sym put) ∙ result))
@@ -114,9 +114,9 @@ pub step_numbered : (g a b c : GraphParts) → a ≡ g → Continues a b → Con
     stepped ≡ (local_step g.image.program g.store.granules h v).hart) →
     ((h : HartState) (v : CapValue) → hart_at g.store id ≡ Some h → slice_get g.store.values number ≡ Some v →
     result ≡ local_value g.image.program g.store.granules h v) →
-    (hart_after value_after : ℕ) → hart_at b.store hart_after ≡ Some stepped →
+    (hart_after value_after : ℕ) → hart_at b.store hart_after ≡ Some (rests_in a stepped) →
     slice_get c.store.values value_after ≡ Some result →
-    IsLocalStep g.image.program c.store id number (record { hart = hart_after; value = value_after })
+    IsLocalStep g.image.program (rests_in g) c.store id number (record { hart = hart_after; value = value_after })
 step_numbered g a b c same first second id number runs below stepped result steps leaves hart_after value_after numbered valued =
     let h = runs.0 in
     let v = slice_index_or g.store.values number (raw 0) in
@@ -129,9 +129,9 @@ step_numbered g a b c same first second id number runs below stepped result step
       granule = v;
       hart_is = hart_at_kept g.store c.store keeps id h runs.1;
       value_is = keeps.values number v there;
-      hart_after = hart_at_kept b.store c.store second.keeps hart_after stepped numbered
-          ∙ ap (λ (k : HartState). Some k) (steps h v runs.1 there
-          ∙ ap (λ (n : ℕ). (local_step g.image.program n h v).hart) granules);
+      hart_after = hart_at_kept b.store c.store second.keeps hart_after (rests_in a stepped) numbered
+          ∙ ap (λ (k : HartState). Some k) (ap (λ (p : GraphParts). rests_in p stepped) same ∙ ap (rests_in g) (steps h v runs.1 there
+          ∙ ap (λ (n : ℕ). (local_step g.image.program n h v).hart) granules));
       value_after = valued ∙ ap (λ (w : CapValue). Some w) (leaves h v runs.1 there
           ∙ ap (λ (n : ℕ). local_value g.image.program n h v) granules);
     }

@@ -35,26 +35,27 @@ abbrev pub site_of : List Instr → ℕ → HartState → ℕ
 site_of program granules hart =
     if is_running hart.status then touched program granules hart else stopped
 
--- the step of the hart with this number, where its granule has the value with this number
-pub record IsLocalStep (program : List Instr) (store : Stored) (hart value : ℕ) (after : LocalStep)
+-- the step of the hart with this number, where its granule has the value with this number, and then
+-- what brings the hart to its rest
+pub record IsLocalStep (program : List Instr) (rests : HartState → HartState) (store : Stored) (hart value : ℕ) (after : LocalStep)
     : Type 0 where
   pub before : HartState
   pub granule : CapValue
   pub hart_is : hart_at store hart ≡ Some before
   pub value_is : slice_get store.values value ≡ Some granule
   pub hart_after :
-      hart_at store after.hart ≡ Some (local_step program store.granules before granule).hart
+      hart_at store after.hart ≡ Some (rests (local_step program store.granules before granule).hart)
   pub value_after :
       slice_get store.values after.value ≡ Some (local_value program store.granules before granule)
 
--- the sites of all harts, and steps with their keys
-pub record IsTabled (program : List Instr) (store : Stored) (sites : List ℕ) (keys : List (List ℕ))
+-- the sites of all harts, each at its rest, and steps with their keys
+pub record IsTabled (program : List Instr) (rests : HartState → HartState) (store : Stored) (sites : List ℕ) (keys : List (List ℕ))
     (steps : List LocalStep) : Type 0 where
   pub even : length sites ≡ length store.harts
   pub sites_are : (id site : ℕ) → slice_get sites id ≡ Some site →
       (hart : HartState) × (hart_at store id ≡ Some hart)
-      × (site ≡ site_of program store.granules hart)
+      × (site ≡ site_of program store.granules hart) × (rests hart ≡ hart)
   pub as_many : length steps ≡ length keys
   pub steps_are : (k hart value : ℕ) (after : LocalStep) →
       slice_get keys k ≡ Some (hart ∷ value ∷ []) → slice_get steps k ≡ Some after →
-      IsLocalStep program store hart value after
+      IsLocalStep program rests store hart value after

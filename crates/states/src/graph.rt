@@ -11,6 +11,8 @@ ghost use Rattle.std.specs.Prelude.{
   length,
   slice_get,
   slice_set,
+  option_map,
+  map,
   take,
   ◌-◌,
   if◌then◌else◌,
@@ -23,15 +25,18 @@ ghost use Rattle.cheri_model.specs.runs.Machine.{MachineState};
 ghost use Rattle.cheri_model.specs.steps.Hart.{HartState};
 ghost use Rattle.cheri_model.specs.runs.Sweeps.{swept_memory, swept_hart};
 ghost use Rattle.graph_search.specs.Graphs.{LeadsTo};
-ghost use Rattle.schedules.specs.Schedules.{next, taken, sweep_of};
+ghost use Rattle.explore_turns.specs.Turns.{resting, rest_by, turn_by};
+ghost use Rattle.schedules.specs.Schedules.{taken, sweep_of};
 ghost use Rattle.state_store.specs.Stores.{hart_at, memory_at};
-ghost use Rattle.states.specs.Graphs.{state_in, Continues, Runs};
+ghost use Rattle.states.specs.Graphs.{state_in, rests_in, rest_in, turn_in, Continues, Runs};
 ghost use Rattle.states.specs.Locals.{local_step, local_value, IsLocalStep};
 
 use crate::locals::{LocalStep, STOPPED, granule_address, site_of};
 use crate::sweeping::sweep_row;
 use cap_ops::Cap;
 use cheri_model::{ADDRESS_SPACE, Image, Value};
+use explore_sights::Sight;
+use explore_turns::rest;
 use graph_search::Graph;
 use hart::Hart;
 use hart_step::step;
@@ -45,12 +50,13 @@ use tagged_mem::Ram;
 /// The most sweeps that a search takes.
 pub const MAX_SWEEPS: usize = 8;
 
-/// The states of an image's machine as a graph: an edge for each hart that runs, and one for each
-/// sweep.
+/// The states of an image's machine in which each hart is at its rest, as a graph: an edge for the
+/// turn of each hart that runs, and one for that of each sweep.
 #[derive(Drop)]
 pub struct MachineGraph {
     image: Image,
     sweeps: Vec<SweepRange>,
+    sight: Sight,
     store: Store,
     /// For each hart its site.
     sites: Vec<u32>,
@@ -68,9 +74,14 @@ impl Model for MachineGraph {
 
     ghost Value = { GraphParts };
 
-    ghost view = { λ a. record { image = a.image; sweeps = a.sweeps.items; store = a.store } };
+    ghost view = { λ a. record {
+      image = a.image;
+      sweeps = a.sweeps.items;
+      sight = a.sight;
+      store = a.store;
+    } };
 
-    ghost invariant = { λ a. IsGraph a.image a.sweeps.items a.store a.sites.items a.keys
+    ghost invariant = { λ a. IsGraph a.image a.sweeps.items a.sight a.store a.sites.items a.keys
         a.steps.items a.ram a.row.items };
 }
 
@@ -90,6 +101,7 @@ impl MachineGraph {
         alloc: Global,
         image: Image,
         sweeps: Vec<SweepRange>,
+        sight: Sight,
         ram: Ram,
     ) -> Result<MachineGraph, AllocError>
         requires few { length sweeps.items ≤ MAX_SWEEPS }
@@ -97,6 +109,7 @@ impl MachineGraph {
         ensures image { IfOk result (λ graph. graph.image ≡ image) }
         ensures granules { IfOk result (λ graph. graph.store.granules ≡ length ram) }
         ensures sweeps { IfOk result (λ graph. graph.sweeps ≡ sweeps.items) }
+        ensures sight { IfOk result (λ graph. graph.sight ≡ sight) }
     {
         // Its clause says that there are from 1 to 8 harts, and how large RAM is.
         let _granules = image.granules();
@@ -107,6 +120,7 @@ impl MachineGraph {
         Ok(MachineGraph {
             image,
             sweeps,
+            sight,
             store: Store::new(alloc, granules),
             sites: Vec::new(alloc),
             keys: Interner::new(alloc, 2),
@@ -117,13 +131,14 @@ impl MachineGraph {
         })
     }
 
-    /// The node of a state. Fails only when out of memory, or of numbers, as all calls here that
+    /// The node of a state with each hart at its rest. Fails only when out of memory, or of numbers, as all calls here that
     /// may add something.
     pub fn node(&mut self, alloc: Global, harts: &[Hart], ram: &Ram) -> Result<Vec<u32>, AllocError>
         requires harts { length harts.now ≡ length self.old.image.harts }
         requires size { length ram.now ≡ self.old.store.granules }
         ensures node { IfOk result (λ node.
-            state_in self.new node.items ≡ Some (record { harts = harts.now; memory = ram.now })) }
+            state_in self.new node.items
+            ≡ Some (rest_in self.old (record { harts = harts.now; memory = ram.now }))) }
         ensures continues { Continues self.old self.new }
     {
         let mut node = Vec::with_capacity(alloc, harts.len() + 1)?;
@@ -150,6 +165,13 @@ impl MachineGraph {
         &self.image
     }
 
+    /// What the question sees.
+    pub fn sight(&self) -> &Sight
+        ensures { result.now ≡ self.now.sight }
+    {
+        &self.sight
+    }
+
     /// The sweeps.
     pub fn sweeps(&self) -> &[SweepRange]
         ensures { result.now ≡ self.now.sweeps }
@@ -166,27 +188,36 @@ impl MachineGraph {
         self.store.number_memory(alloc, ram)
     }
 
-    /// The number of a hart.
+    /// The number of a hart at its rest.
     fn number_hart(&mut self, hart: &Hart) -> Result<u32, AllocError>
         ensures continues { Continues self.old self.new }
-        ensures numbered { IfOk result (λ id. hart_at self.new.store id ≡ Some hart.now) }
+        ensures numbered { IfOk result (λ id.
+            hart_at self.new.store id ≡ Some (rests_in self.old hart.now)) }
     {
-        let site = site_of(self.image.program(), self.store.granules(), hart);
+        let hart = rest(
+            self.image.program(),
+            self.sweeps.as_slice(),
+            &self.sight,
+            hart,
+            &mut self.ram,
+        );
+        let site = site_of(self.image.program(), self.store.granules(), &hart);
         self.sites.push(site)?;
         let before = self.store.hart_count();
-        let number = self.store.number_hart(hart);
+        let number = self.store.number_hart(&hart);
         let grown = self.store.hart_count() > before;
         keep_last_if(&mut self.sites, grown);
         number
     }
 
-    /// The step of a hart with this number, where its granule has the value with this number.
+    /// The step of a hart with this number to its rest, where its granule has the value with this
+    /// number.
     fn local_step(&mut self, hart: u32, value: u32) -> Result<LocalStep, AllocError>
         requires hart { Runs self.old.store hart }
         requires value { value < length self.old.store.values }
         ensures continues { Continues self.old self.new }
         ensures step { IfOk result (λ after.
-            IsLocalStep self.old.image.program self.new.store hart value after) }
+            IsLocalStep self.old.image.program (rests_in self.old) self.new.store hart value after) }
     {
         match self.keys.find(&[hart, value]) {
             Some(number) => Ok(self.steps[number as usize]),
@@ -200,7 +231,7 @@ impl MachineGraph {
         requires value { value < length self.old.store.values }
         ensures continues { Continues self.old self.new }
         ensures step { IfOk result (λ after.
-            IsLocalStep self.old.image.program self.new.store hart value after) }
+            IsLocalStep self.old.image.program (rests_in self.old) self.new.store hart value after) }
     {
         let (stepped, left) = self.take_step(hart, value);
         let hart_after = self.number_hart(&stepped)?;
@@ -246,7 +277,8 @@ impl MachineGraph {
 
     /// Keeps a step that was computed.
     fn keep_step(&mut self, hart: u32, value: u32, after: LocalStep) -> Result<(), AllocError>
-        requires { IsLocalStep self.old.image.program self.old.store hart value after }
+        requires { IsLocalStep self.old.image.program (rests_in self.old) self.old.store hart value
+            after }
         ensures { self.new ≡ self.old }
     {
         self.steps.push(after)?;
@@ -266,7 +298,7 @@ impl MachineGraph {
         ensures continues { Continues self.old self.new }
         ensures value { IfOk result (λ leads. (s : MachineState) →
             state_in self.old node.now ≡ Some s → LeadsTo (state_in self.new) leads to.new
-            (next self.old.image self.old.sweeps s label)) }
+            (turn_in self.old s label)) }
     {
         let harts = self.image.harts().len() as u32;
         if label < harts {
@@ -276,7 +308,7 @@ impl MachineGraph {
         self.sweep(node, range, to)
     }
 
-    /// Takes a hart's step.
+    /// Takes a hart's turn.
     fn step_hart(&mut self, node: &[u32], hart: u32, to: &mut [u32]) -> Result<bool, AllocError>
         requires meant { IsSome (state_in self.old node.now) }
         requires there { hart < length self.old.image.harts }
@@ -284,7 +316,7 @@ impl MachineGraph {
         ensures continues { Continues self.old self.new }
         ensures value { IfOk result (λ leads. (s : MachineState) →
             state_in self.old node.now ≡ Some s → LeadsTo (state_in self.new) leads to.new
-            (next self.old.image self.old.sweeps s hart)) }
+            (turn_in self.old s hart)) }
     {
         let place = hart as usize + 1;
         let site = self.sites[node[place] as usize];
@@ -318,14 +350,14 @@ impl MachineGraph {
         self.store.number_written(memory, granule, value)
     }
 
-    /// Takes a sweep.
+    /// Takes a sweep's turn.
     fn sweep(&mut self, node: &[u32], range: SweepRange, to: &mut [u32]) -> Result<bool, AllocError>
         requires meant { IsSome (state_in self.old node.now) }
         requires room { length to.old ≡ length self.old.image.harts + 1 }
         ensures continues { Continues self.old self.new }
         ensures value { IfOk result (λ leads. (s : MachineState) →
             state_in self.old node.now ≡ Some s → LeadsTo (state_in self.new) leads to.new
-            (taken self.old.image s (Some (sweep_of range)))) }
+            (option_map (rest_in self.old) (taken self.old.image s (Some (sweep_of range))))) }
     {
         if u128::from(range.lo) > range.hi || range.hi > ADDRESS_SPACE {
             return Ok(false);
@@ -340,17 +372,20 @@ impl MachineGraph {
         Ok(true)
     }
 
-    /// The number of a hart after a sweep.
+    /// The number of a hart after a sweep, at its rest.
     fn swept_hart(&mut self, hart: u32, range: SweepRange) -> Result<u32, AllocError>
         requires { IsSome (hart_at self.old.store hart) }
         ensures continues { Continues self.old self.new }
         ensures numbered { IfOk result (λ id. (h : HartState) →
             hart_at self.old.store hart ≡ Some h →
-            hart_at self.new.store id ≡ Some (swept_hart range.lo range.hi h)) }
+            hart_at self.new.store id
+            ≡ Some (rests_in self.old (swept_hart range.lo range.hi h))) }
     {
         let mut swept = self.blank;
         self.store.load_hart(hart, &mut swept);
-        swept.sweep(range.lo, range.hi);
+        if swept.sweep(range.lo, range.hi) == 0 {
+            return Ok(hart);
+        }
         self.number_hart(&swept)
     }
 
@@ -371,15 +406,15 @@ impl MachineGraph {
 impl Graph for MachineGraph {
     ghost use Rattle.std.specs.Prelude.{◌+◌, length};
     ghost use Rattle.cheri_model.specs.runs.Machine.{MachineState};
-    ghost use Rattle.schedules.specs.Schedules.{next, label_count};
-    ghost use Rattle.states.specs.Graphs.{state_in};
-    ghost use Rattle.schedules.proofs.WalkLemmas.{next_beyond};
+    ghost use Rattle.schedules.specs.Schedules.{label_count};
+    ghost use Rattle.states.specs.Graphs.{state_in, turn_in};
+    ghost use Rattle.explore_turns.proofs.OrderLemmas.{turn_beyond};
 
     ghost State = { MachineState };
 
     ghost meaning = { λ g. state_in g };
 
-    ghost next = { λ g. next g.image g.sweeps };
+    ghost next = { λ g. turn_in g };
 
     ghost width = { λ g. length g.image.harts + 1 };
 
@@ -400,5 +435,5 @@ impl Graph for MachineGraph {
         leads
     }
 
-    ghost none_beyond = { λ g. next_beyond g.image g.sweeps };
+    ghost none_beyond = { λ g. turn_beyond g.image g.sweeps g.sight };
 }

@@ -17,15 +17,17 @@ ghost use Rattle.std.specs.Prelude.{
   true,
 };
 ghost use Rattle.cheri_model.specs.runs.Machine.{MachineState};
-ghost use Rattle.cheri_model.specs.runs.Machine.{opening_state};
 ghost use Rattle.schedules.specs.Schedules.{operation_of_label, AreLabelsOf};
 ghost use Rattle.state_store.specs.Stores.{state_of};
-ghost use Rattle.states.specs.Graphs.{state_in};
-ghost use Rattle.schedules.specs.Schedules.{next};
-ghost use Rattle.states.specs.Kept.{kept_of, at, count, IsKept, IsSearch, IsWitnessOrder, AreAllKept};
+ghost use Rattle.states.specs.Graphs.{state_in, turn_in};
+ghost use Rattle.explore_turns.specs.Orders.{AreOfHarts, order_of_turns};
+ghost use Rattle.explore_turns.specs.Turns.{turn_by, start_by};
+ghost use Rattle.states.specs.Kept.{kept_of, at, count, IsKept, IsSearch, IsWitnessOrder, AreAllKept, AreWitnessTurns};
 
 use crate::graph::MachineGraph;
 use cheri_model::{Image, Op};
+use explore_sights::Sight;
+use explore_turns::order_of_turns;
 use graph_search::{Progress, Reached, explore, explore_more};
 use schedules::SweepRange;
 use state_store::State;
@@ -33,11 +35,13 @@ use std::alloc::{AllocError, Global};
 use std::marker::Model;
 
 /// The states that a search kept, numbered from 0 in the order of their witnesses: the first ones,
-/// or all. The witness of a state is the least of the shortest orders that lead to it.
+/// or all. In each of them all harts are at their rest. The witness of a state is the order of the
+/// fewest turns that lead to it, and of those the least.
 #[derive(Drop)]
 pub struct Kept {
     image: Image,
     sweeps: Vec<SweepRange>,
+    sight: Sight,
     graph: MachineGraph,
     reached: Reached,
     limit: u32,
@@ -48,9 +52,9 @@ impl Model for Kept {
 
     ghost Value = { KeptParts };
 
-    ghost view = { λ a. kept_of a.image a.sweeps.items a.graph.store a.reached a.limit };
+    ghost view = { λ a. kept_of a.image a.sweeps.items a.sight a.graph.store a.reached a.limit };
 
-    ghost invariant = { λ a. IsKept a.image a.sweeps.items a.graph a.reached a.limit };
+    ghost invariant = { λ a. IsKept a.image a.sweeps.items a.sight a.graph a.reached a.limit };
 }
 
 /// The operation of a label.
@@ -80,23 +84,26 @@ impl Kept {
         alloc: Global,
         image: Image,
         sweeps: Vec<SweepRange>,
+        sight: Sight,
         mut graph: MachineGraph,
         start: &[u32],
         limit: u32,
         progress: &mut P,
     ) -> Result<Kept, AllocError>
         requires some { 0 < limit }
-        requires edges { next graph.image graph.sweeps ≡ next image sweeps.items }
+        requires edges { turn_in graph ≡ turn_by image sweeps.items sight }
         requires harts { length graph.image.harts ≡ length image.harts }
-        requires opening { state_in graph start.now ≡ Some (opening_state image) }
+        requires opening { state_in graph start.now ≡ Some (start_by image sweeps.items sight) }
         ensures image { IfOk result (λ kept. kept.image ≡ image) }
         ensures sweeps { IfOk result (λ kept. kept.sweeps ≡ sweeps.items) }
+        ensures sight { IfOk result (λ kept. kept.sight ≡ sight) }
         ensures limit { IfOk result (λ kept. kept.limit ≡ limit) }
     {
         let reached = explore(alloc, &mut graph, start, limit, progress)?;
         Ok(Kept {
             image,
             sweeps,
+            sight,
             graph,
             reached,
             limit,
@@ -114,6 +121,7 @@ impl Kept {
         requires { self.limit ≤ limit }
         ensures image { IfOk result (λ kept. kept.image ≡ self.image) }
         ensures sweeps { IfOk result (λ kept. kept.sweeps ≡ self.sweeps) }
+        ensures sight { IfOk result (λ kept. kept.sight ≡ self.sight) }
         ensures limit { IfOk result (λ kept. kept.limit ≡ limit) }
     {
         let mut graph = self.graph;
@@ -121,6 +129,7 @@ impl Kept {
         Ok(Kept {
             image: self.image,
             sweeps: self.sweeps,
+            sight: self.sight,
             graph,
             reached,
             limit,
@@ -157,6 +166,13 @@ impl Kept {
         &self.image
     }
 
+    /// What the question sees.
+    pub fn sight(&self) -> &Sight
+        ensures { result.now ≡ self.now.sight }
+    {
+        &self.sight
+    }
+
     /// The state of this number.
     pub fn state(&self, number: u32) -> State<'_>
         requires { number < count self.now }
@@ -181,10 +197,33 @@ impl Kept {
     pub fn witness(&self, alloc: Global, number: u32) -> Result<Vec<Op>, AllocError>
         requires { number < count self.now }
         ensures { IfOk result (λ order. (s : MachineState) → at self.now number ≡ Some s →
-            IsWitnessOrder self.now.image self.now.sweeps s order.items) }
+            IsWitnessOrder self.now.image self.now.sweeps self.now.sight s order.items) }
+    {
+        let labels = self.reached.witness(alloc, number)?;
+        let ops = self.operations(alloc, labels.as_slice())?;
+        let sweeps = self.sweeps.as_slice();
+        order_of_turns(alloc, &self.image, sweeps, &self.sight, ops.as_slice())
+    }
+
+    /// The operations with which the turns of a state's witness begin, without the quiet steps. Fails
+    /// only when out of memory.
+    pub fn witness_turns(&self, alloc: Global, number: u32) -> Result<Vec<Op>, AllocError>
+        requires { number < count self.now }
+        ensures { IfOk result (λ ops. (s : MachineState) → at self.now number ≡ Some s →
+            AreWitnessTurns self.now.image self.now.sweeps self.now.sight s ops.items) }
     {
         let labels = self.reached.witness(alloc, number)?;
         self.operations(alloc, labels.as_slice())
+    }
+
+    /// The order of turns that begin with these operations: each of them, and all quiet steps. Fails
+    /// only when out of memory.
+    pub fn order_of(&self, alloc: Global, ops: &[Op]) -> Result<Vec<Op>, AllocError>
+        requires { AreOfHarts self.now.image ops.now }
+        ensures { IfOk result (λ order. order.items
+            ≡ order_of_turns self.now.image self.now.sweeps self.now.sight ops.now) }
+    {
+        order_of_turns(alloc, &self.image, self.sweeps.as_slice(), &self.sight, ops)
     }
 
     /// The operations of labels, one by one. Fails only when out of memory.
@@ -209,6 +248,7 @@ impl Kept {
 pub struct Searched {
     pub image: Image,
     pub sweeps: Vec<SweepRange>,
+    pub sight: Sight,
     pub graph: MachineGraph,
     pub reached: Reached,
     pub limit: u32,
@@ -217,14 +257,15 @@ pub struct Searched {
 impl Kept {
     /// Takes it apart.
     pub fn into_parts(self) -> Searched
-        ensures parts { kept_of result.image result.sweeps.items result.graph.store result.reached
-            result.limit ≡ self }
-        ensures kept { IsKept result.image result.sweeps.items result.graph result.reached
+        ensures parts { kept_of result.image result.sweeps.items result.sight result.graph.store
+            result.reached result.limit ≡ self }
+        ensures kept { IsKept result.image result.sweeps.items result.sight result.graph result.reached
             result.limit }
     {
         Searched {
             image: self.image,
             sweeps: self.sweeps,
+            sight: self.sight,
             graph: self.graph,
             reached: self.reached,
             limit: self.limit,
@@ -233,13 +274,15 @@ impl Kept {
 
     /// Puts it together.
     pub fn from_parts(parts: Searched) -> Kept
-        requires { IsKept parts.image parts.sweeps.items parts.graph parts.reached parts.limit }
-        ensures { result ≡ kept_of parts.image parts.sweeps.items parts.graph.store parts.reached
+        requires { IsKept parts.image parts.sweeps.items parts.sight parts.graph parts.reached
             parts.limit }
+        ensures { result ≡ kept_of parts.image parts.sweeps.items parts.sight parts.graph.store
+            parts.reached parts.limit }
     {
         Kept {
             image: parts.image,
             sweeps: parts.sweeps,
+            sight: parts.sight,
             graph: parts.graph,
             reached: parts.reached,
             limit: parts.limit,

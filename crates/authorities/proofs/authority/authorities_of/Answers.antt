@@ -1,5 +1,5 @@
-use Rattle.std.proofs.Common.{◌≡◌, ℕ, ◌≤◌, List, length, ap, sym, ◌∙◌, subst, arith}
-use Rattle.std.specs.Prelude.{Option, Some, IfSome, slice_get}
+use Rattle.std.proofs.Common.{◌≡◌, ℕ, length, ap, arith}
+use Rattle.std.specs.Prelude.{Option, IfSome, slice_get}
 use Rattle.cheri_model.specs.runs.Machine.{MachineState}
 use Rattle.states.proofs.SizeLemmas.{sizes_of}
 use Rattle.authorities.specs.Authorities.{AreGreatest, hart_values, memory_values}
@@ -15,17 +15,17 @@ overflow_cast-count c =
 
 pub hart_authorities-requires-clause-meant : goal.hart_authorities-requires-clause-meant
 hart_authorities-requires-clause-meant c =
-    graph_meant c.into_parts-parts.result.image c.into_parts-parts.result.sweeps.items c.into_parts-parts.result.graph
+    graph_meant c.into_parts-parts.result.image c.into_parts-parts.result.sweeps.items c.into_parts-parts.result.sight c.into_parts-parts.result.graph
     c.into_parts-parts.result.reached c.into_parts-parts.result.limit c.into_parts-parts.ensures.kept
 
 pub greatest_of-requires-clause-meant : goal.greatest_of-requires-clause-meant
 greatest_of-requires-clause-meant c =
-    graph_meant c.into_parts-parts.result.image c.into_parts-parts.result.sweeps.items c.into_parts-parts.result.graph
+    graph_meant c.into_parts-parts.result.image c.into_parts-parts.result.sweeps.items c.into_parts-parts.result.sight c.into_parts-parts.result.graph
     c.into_parts-parts.result.reached c.into_parts-parts.result.limit c.into_parts-parts.ensures.kept
 
 pub returns-clause-hart : goal.returns-clause-hart
 returns-clause-hart c = λ number.
-    on_kept c.into_parts-parts.result.image c.into_parts-parts.result.sweeps.items c.into_parts-parts.result.graph
+    on_kept c.into_parts-parts.result.image c.into_parts-parts.result.sweeps.items c.into_parts-parts.result.sight c.into_parts-parts.result.graph
     c.into_parts-parts.result.reached c.into_parts-parts.result.limit c.into_parts-parts.ensures.kept
     (λ (at : ℕ → Option MachineState). IfSome (slice_get c.in_ok-harts.harts.items number)
     (λ list. AreGreatest at (hart_values number) list.items)) c.args.kept c.into_parts-parts.ensures.parts
@@ -33,7 +33,7 @@ returns-clause-hart c = λ number.
 
 pub returns-clause-memory : goal.returns-clause-memory
 returns-clause-memory c =
-    on_kept c.into_parts-parts.result.image c.into_parts-parts.result.sweeps.items c.into_parts-parts.result.graph
+    on_kept c.into_parts-parts.result.image c.into_parts-parts.result.sweeps.items c.into_parts-parts.result.sight c.into_parts-parts.result.graph
     c.into_parts-parts.result.reached c.into_parts-parts.result.limit c.into_parts-parts.ensures.kept
     (λ (at : ℕ → Option MachineState). AreGreatest at memory_values c.in_ok-memory.memory.items)
     c.args.kept c.into_parts-parts.ensures.parts c.in_ok-memory.ensures

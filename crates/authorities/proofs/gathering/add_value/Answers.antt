@@ -1,9 +1,9 @@
 use Rattle.std.proofs.Common.{◌≡◌, ◌∷◌, [], List, ap, sym, ◌∙◌, subst}
 use Rattle.std.specs.Prelude.{true, false}
 use Rattle.cap_model.specs.values.CapValue.{tag_of}
-use Rattle.authorities.specs.declared.rights.Rights.{Rights}
+use Rattle.explore_rights.specs.declared.rights.Rights.{Rights}
 use Rattle.authorities.specs.declared.rights.Authority.{Authority}
-use Rattle.authorities.specs.Authorities.{rights_of}
+use Rattle.explore_rights.specs.Rights.{rights_of}
 use Rattle.authorities.specs.Gathering.{Gathers, with_rights}
 use Rattle.authorities.proofs.GatherLemmas.{gathers_untagged, gathers_tagged}
 use Rattle.authorities.proofs.gathering.add_value.Goals as goal

@@ -1,6 +1,5 @@
-use Rattle.std.proofs.Common.{◌≡◌, ◌<◌, ℕ, List, sym, ◌∙◌, ap}
-use Rattle.std.specs.Prelude.{Some, Bool, slice_index_or, true, false, length}
-use Rattle.authorities.specs.Holders.{part_in, part_numbers}
+use Rattle.std.proofs.Common.{List, sym, ◌∙◌, ap}
+use Rattle.std.specs.Prelude.{Bool, slice_index_or, false}
 use Rattle.authorities.proofs.GatherLemmas.{row_part, numbers_are, gathering_again, gathering_more}
 use Rattle.authorities.proofs.gathering.gather_state.Goals as goal
 

@@ -1,4 +1,4 @@
-use Rattle.std.proofs.Common.{◌≡◌, sym, ◌∙◌}
+use Rattle.std.proofs.Common.{sym, ◌∙◌}
 use Rattle.authorities.proofs.GatherLemmas.{gathers_same, covered_mark, marked_more}
 use Rattle.authorities.proofs.gathering.gather_value.Goals as goal
 

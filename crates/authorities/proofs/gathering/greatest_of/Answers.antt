@@ -1,4 +1,4 @@
-use Rattle.std.proofs.Common.{◌<◌, ℕ, [], arith}
+use Rattle.std.proofs.Common.{[], arith}
 use Rattle.std.proofs.lemmas.Option.{slice_get_within}
 use Rattle.graph_search.specs.Trees.{state_at}
 use Rattle.graph_search.proofs.TreeLemmas.{row_of}

@@ -1,5 +1,5 @@
-use Rattle.std.proofs.Common.{◌≡◌, ℕ, drop, rules, ◌∙◌, ap, sym}
-use Rattle.std.specs.Prelude.{Some, slice_get, slice_index_or, ◌+◌}
+use Rattle.std.proofs.Common.{◌≡◌, drop, rules}
+use Rattle.std.specs.Prelude.{slice_index_or, ◌+◌}
 use Rattle.authorities.proofs.HolderLemmas.{hart_known, hart_part}
 use Rattle.authorities.proofs.holders.hart_numbers.Goals as goal
 

@@ -1,4 +1,3 @@
-use Rattle.std.proofs.Common.{◌≡◌}
 use Rattle.std.specs.Prelude.{slice_index_or}
 use Rattle.authorities.proofs.HolderLemmas.{memory_known, memory_part}
 use Rattle.authorities.proofs.holders.memory_numbers.Goals as goal

@@ -1,4 +1,6 @@
 use Rattle.std.proofs.lemmas.Result.{err_from_is_err_and}
+use Rattle.explore_sights.specs.Sights.{sight_of}
+use Rattle.explore_sights.specs.declared.sights.Sight.TheVariants.{Rights}
 use Rattle.authority_texts.specs.Answers.{IsAuthorityAnswer}
 use Rattle.authority_texts.proofs.AnswerLemmas.{asked}
 use Rattle.shown_states.proofs.AnswerLemmas.{memory_begun, memory_fails, so_written, so_begun}
@@ -26,14 +28,14 @@ returns-in_err-answer-clause-failures g c =
 
 pub returns-clause-written : goal.returns-clause-written
 returns-clause-written g c =
-    so_written (IsAuthorityAnswer c.args.image.now c.args.sweeps.now c.args.limit c.args.format) _ _ c.put_answer.result _ _
-    (asked c.in_ok-found.found.kept c.args.image.now c.args.sweeps.now c.args.limit c.args.format _ _
-    c.in_ok-found.ensures.image c.in_ok-found.ensures.sweeps c.in_ok-found.ensures.limit c.in_ok-answer.ensures)
+    so_written (IsAuthorityAnswer c.args.search.now.image.now c.args.search.now.sweeps.now (sight_of c.args.search.now.every_step Rights) c.args.search.now.states c.args.search.now.format) _ _ c.put_answer.result _ _
+    (asked c.in_ok-found.found.kept c.args.search.now.image.now c.args.search.now.sweeps.now (sight_of c.args.search.now.every_step Rights) c.args.search.now.states c.args.search.now.format _ _
+    c.in_ok-found.ensures.image c.in_ok-found.ensures.sweeps c.in_ok-found.ensures.sight c.in_ok-found.ensures.limit c.in_ok-answer.ensures)
     c.put_answer.ensures.written
 
 pub returns-clause-begun : goal.returns-clause-begun
 returns-clause-begun g c =
-    so_begun (IsAuthorityAnswer c.args.image.now c.args.sweeps.now c.args.limit c.args.format) _ _ c.put_answer.result _ _
-    (asked c.in_ok-found.found.kept c.args.image.now c.args.sweeps.now c.args.limit c.args.format _ _
-    c.in_ok-found.ensures.image c.in_ok-found.ensures.sweeps c.in_ok-found.ensures.limit c.in_ok-answer.ensures)
+    so_begun (IsAuthorityAnswer c.args.search.now.image.now c.args.search.now.sweeps.now (sight_of c.args.search.now.every_step Rights) c.args.search.now.states c.args.search.now.format) _ _ c.put_answer.result _ _
+    (asked c.in_ok-found.found.kept c.args.search.now.image.now c.args.search.now.sweeps.now (sight_of c.args.search.now.every_step Rights) c.args.search.now.states c.args.search.now.format _ _
+    c.in_ok-found.ensures.image c.in_ok-found.ensures.sweeps c.in_ok-found.ensures.sight c.in_ok-found.ensures.limit c.in_ok-answer.ensures)
     c.put_answer.ensures.begun

@@ -1,4 +1,4 @@
-use Rattle.std.proofs.Common.{◌≡◌, ◌∙◌, map, sym}
+use Rattle.std.proofs.Common.{◌∙◌, map, sym}
 use Rattle.conditions.proofs.ReadingLemmas.{word_at, no_word_at, items_turn, items_stop, items_end}
 use Rattle.conditions.proofs.lists.shown_in.Goals as goal
 

@@ -1,4 +1,4 @@
-use Rattle.std.proofs.Common.{◌≡◌, ◌+◌, ◌<◌, arith}
+use Rattle.std.proofs.Common.{arith}
 use Rattle.conditions.proofs.StartLemmas.{start_here, start_next, start_end}
 use Rattle.conditions.proofs.words.word_start.Goals as goal
 

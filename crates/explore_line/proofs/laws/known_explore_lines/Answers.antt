@@ -105,3 +105,15 @@ returns-clause-help c = refl
 pub returns-clause-alone : goal.returns-clause-alone
 unfolding clap_on_literals explore_asked explore_asked_of question_of sweep_of sweeps_of decimal_within number_in number_of
 returns-clause-alone c = refl
+
+pub returns-clause-steps : goal.returns-clause-steps
+unfolding clap_on_literals explore_asked explore_asked_of question_of sweep_of sweeps_of decimal_within number_in number_of
+returns-clause-steps c = refl
+
+pub returns-clause-steps_twice : goal.returns-clause-steps_twice
+unfolding clap_on_literals explore_asked explore_asked_of question_of sweep_of sweeps_of decimal_within number_in number_of
+returns-clause-steps_twice c = refl
+
+pub returns-clause-steps_of_a_number : goal.returns-clause-steps_of_a_number
+unfolding clap_on_literals explore_asked explore_asked_of question_of sweep_of sweeps_of decimal_within number_in number_of
+returns-clause-steps_of_a_number c = refl

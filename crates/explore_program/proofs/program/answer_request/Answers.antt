@@ -17,7 +17,7 @@ pub returns-in-Find-clause-printed : goal.returns-in-Find-clause-printed
 returns-in-Find-clause-printed g c =
     question_printed (g.F.Files.bytes_of c.args.files.now) (explore_asked_by c.args.request.now) c.in_ok-image.image
     (IsFindSaid c.in_ok-image.image c.in-Find.condition.now c.as_slice-2.result.now
-    c.args.request.now.states c.format_of.result) c.answer_find.result _ _ c.in_ok-image.ensures.meaning
+    c.args.request.now.every_step c.args.request.now.states c.format_of.result) c.answer_find.result _ _ c.in_ok-image.ensures.meaning
     (λ answer said. find_asked c.in_ok-image.image (explore_asked_by c.args.request.now) c.in-Find.condition.now c.as_slice-2.result.now
     c.args.request.now.states c.format_of.result answer (ap question_asked_by c.in-Find.is)
     (c.as_slice-2.ensures.value ∙ (c.in_ok-sweeps.ensures ∙ ap (map range_of) c.as_slice.ensures.value)) refl c.format_of.ensures said)
@@ -27,7 +27,7 @@ pub returns-in-Find-clause-failed : goal.returns-in-Find-clause-failed
 returns-in-Find-clause-failed g c =
     question_fails (g.F.Files.bytes_of c.args.files.now) (explore_asked_by c.args.request.now) c.in_ok-image.image
     (IsFindSaid c.in_ok-image.image c.in-Find.condition.now c.as_slice-2.result.now
-    c.args.request.now.states c.format_of.result) c.answer_find.result _ _ c.in_ok-image.ensures.meaning
+    c.args.request.now.every_step c.args.request.now.states c.format_of.result) c.answer_find.result _ _ c.in_ok-image.ensures.meaning
     (λ answer said. find_asked c.in_ok-image.image (explore_asked_by c.args.request.now) c.in-Find.condition.now c.as_slice-2.result.now
     c.args.request.now.states c.format_of.result answer (ap question_asked_by c.in-Find.is)
     (c.as_slice-2.ensures.value ∙ (c.in_ok-sweeps.ensures ∙ ap (map range_of) c.as_slice.ensures.value)) refl c.format_of.ensures said)
@@ -36,7 +36,7 @@ returns-in-Find-clause-failed g c =
 pub returns-in-Authority-clause-printed : goal.returns-in-Authority-clause-printed
 returns-in-Authority-clause-printed g c =
     question_printed (g.F.Files.bytes_of c.args.files.now) (explore_asked_by c.args.request.now) c.in_ok-image.image
-    (IsAuthoritySaid c.in_ok-image.image c.as_slice-2.result.now c.args.request.now.states c.format_of.result)
+    (IsAuthoritySaid c.in_ok-image.image c.as_slice-2.result.now c.args.request.now.every_step c.args.request.now.states c.format_of.result)
     c.answer_authority.result _ _ c.in_ok-image.ensures.meaning
     (λ answer said. authority_asked c.in_ok-image.image (explore_asked_by c.args.request.now) c.as_slice-2.result.now
     c.args.request.now.states c.format_of.result answer (ap question_asked_by c.in-Authority.is)
@@ -46,7 +46,7 @@ returns-in-Authority-clause-printed g c =
 pub returns-in-Authority-clause-failed : goal.returns-in-Authority-clause-failed
 returns-in-Authority-clause-failed g c =
     question_fails (g.F.Files.bytes_of c.args.files.now) (explore_asked_by c.args.request.now) c.in_ok-image.image
-    (IsAuthoritySaid c.in_ok-image.image c.as_slice-2.result.now c.args.request.now.states c.format_of.result)
+    (IsAuthoritySaid c.in_ok-image.image c.as_slice-2.result.now c.args.request.now.every_step c.args.request.now.states c.format_of.result)
     c.answer_authority.result _ _ c.in_ok-image.ensures.meaning
     (λ answer said. authority_asked c.in_ok-image.image (explore_asked_by c.args.request.now) c.as_slice-2.result.now
     c.args.request.now.states c.format_of.result answer (ap question_asked_by c.in-Authority.is)
@@ -57,7 +57,7 @@ pub returns-clause-printed : goal.returns-clause-printed
 returns-clause-printed g c =
     question_printed (g.F.Files.bytes_of c.args.files.now) (explore_asked_by c.args.request.now) c.in_ok-image.image
     (IsOutcomesSaid c.in_ok-image.image (option_map (λ items. items.now) c.in-Outcomes.show) c.as_slice-2.result.now
-    c.args.request.now.states c.format_of.result) c.answer_outcomes.result _ _ c.in_ok-image.ensures.meaning
+    c.args.request.now.every_step c.args.request.now.states c.format_of.result) c.answer_outcomes.result _ _ c.in_ok-image.ensures.meaning
     (λ answer said. outcomes_asked c.in_ok-image.image (explore_asked_by c.args.request.now)
     (option_map (λ items. items.now) c.in-Outcomes.show) c.as_slice-2.result.now c.args.request.now.states c.format_of.result answer
     (ap question_asked_by c.in-Outcomes.is)
@@ -68,7 +68,7 @@ pub returns-clause-failed : goal.returns-clause-failed
 returns-clause-failed g c =
     question_fails (g.F.Files.bytes_of c.args.files.now) (explore_asked_by c.args.request.now) c.in_ok-image.image
     (IsOutcomesSaid c.in_ok-image.image (option_map (λ items. items.now) c.in-Outcomes.show) c.as_slice-2.result.now
-    c.args.request.now.states c.format_of.result) c.answer_outcomes.result _ _ c.in_ok-image.ensures.meaning
+    c.args.request.now.every_step c.args.request.now.states c.format_of.result) c.answer_outcomes.result _ _ c.in_ok-image.ensures.meaning
     (λ answer said. outcomes_asked c.in_ok-image.image (explore_asked_by c.args.request.now)
     (option_map (λ items. items.now) c.in-Outcomes.show) c.as_slice-2.result.now c.args.request.now.states c.format_of.result answer
     (ap question_asked_by c.in-Outcomes.is)

@@ -1,20 +1,30 @@
-use Rattle.found_texts.proofs.FindLemmas.{some_said, none_answers, none_nowhere}
+use Rattle.std.proofs.Common.{◌∙◌, sym}
+use Rattle.std.proofs.lemmas.Result.{IfOk-weaker}
+use Rattle.conditions.specs.Values.{holds}
+use Rattle.found_texts.specs.Find.{IsShown}
+use Rattle.found_texts.proofs.FindLemmas.{some_said, none_answers, none_nowhere, passing_first, shown_is}
 use Rattle.found_texts.proofs.finding.answer_of.Goals as goal
 
-pub state_text-requires-clause-there : goal.state_text-requires-clause-there
-state_text-requires-clause-there c = c.requires.there c.in-Some.number c.in-Some.is
-
-pub returns-in_ok-text-in-Some-clause-says : goal.returns-in_ok-text-in-Some-clause-says
-returns-in_ok-text-in-Some-clause-says c =
-    some_said c.args.format c.args.found.now.kept c.args.found.now.state c.in-Some.number _ c.in-Some.is c.in_ok-text-in-Some.ensures
+pub led_to-requires : goal.led_to-requires
+led_to-requires c =
+    let first = passing_first c.args.found.now.kept (λ s. holds s c.args.condition.now) c.args.found.now.state c.in-Some.number
+    c.requires.first c.in-Some.is in
+    record {
+      there = first.0;
+      opening = c.requires.opening;
+      image = c.requires.image;
+      sweeps = c.requires.sweeps;
+      passing = first.1;
+    }
 
 pub returns-in_ok-text-in-Some-clause-nowhere : goal.returns-in_ok-text-in-Some-clause-nowhere
 returns-in_ok-text-in-Some-clause-nowhere c is = cc
 
 pub returns-in-None-clause-says : goal.returns-in-None-clause-says
 returns-in-None-clause-says c =
-    none_answers c.args.format c.args.found.now.kept c.args.found.now.state c.none_found.result c.in-None.is c.none_found.ensures.says
+    none_answers c.args.search.now.every_step c.args.condition.now c.args.search.now.format c.args.found.now.kept c.args.found.now.state
+    c.none_found.result c.in-None.is c.none_found.ensures.says
 
 pub returns-in-None-clause-nowhere : goal.returns-in-None-clause-nowhere
 returns-in-None-clause-nowhere c =
-    none_nowhere c.args.found.now.kept c.args.found.now.state c.none_found.result c.in-None.is c.none_found.ensures.all
+    none_nowhere c.args.found.now.kept c.args.found.now.state c.none_found.result c.in-None.is c.none_found.ensures.complete

@@ -3,12 +3,14 @@ use Rattle.cheri_model.specs.runs.Image.{ImageParts}
 use Rattle.cheri_model.specs.runs.Machine.{opening_state}
 use Rattle.std.proofs.lemmas.Result.{err_from_is_err_and}
 use Rattle.shown_states.proofs.AnswerLemmas.{memory_begun, memory_fails, so_written, so_begun}
+use Rattle.explore_sights.specs.Sights.{sight_of}
+use Rattle.explore_sights.specs.declared.sights.Sight.TheVariants.{NoStep}
 use Rattle.outcome_texts.specs.Answers.{IsListedAnswer}
 use Rattle.outcome_texts.proofs.AnswerLemmas.{searched_kept, listed_asked}
 use Rattle.outcome_texts.proofs.answers.list_outcomes.Goals as goal
 
 pub listed_answer-requires-clause-found : goal.listed_answer-requires-clause-found
-listed_answer-requires-clause-found g c = searched_kept _ _ _ _ _ _ c.in_ok-searched.ensures
+listed_answer-requires-clause-found g c = searched_kept _ _ _ _ _ _ _ c.in_ok-searched.ensures
 
 pub listed_answer-requires-clause-opening : goal.listed_answer-requires-clause-opening
 listed_answer-requires-clause-opening g c =
@@ -46,14 +48,14 @@ returns-in_err-listed-clause-failures g c =
 
 pub returns-clause-written : goal.returns-clause-written
 returns-clause-written g c =
-    so_written (IsListedAnswer c.args.image.now c.args.sweeps.now c.args.limit c.args.format) _ _ c.put_answer.result _ _
-    (listed_asked c.in_ok-searched.searched.kept c.args.image.now c.args.sweeps.now c.args.limit c.args.format _ _
-    c.in_ok-searched.ensures.image_is c.in_ok-searched.ensures.sweeps_are c.in_ok-searched.ensures.limit_is c.in_ok-listed.ensures)
+    so_written (IsListedAnswer c.args.search.now.image.now c.args.search.now.sweeps.now (sight_of c.args.search.now.every_step NoStep) c.args.search.now.states c.args.search.now.format) _ _ c.put_answer.result _ _
+    (listed_asked c.in_ok-searched.searched.kept c.args.search.now.image.now c.args.search.now.sweeps.now (sight_of c.args.search.now.every_step NoStep) c.args.search.now.states c.args.search.now.format _ _
+    c.in_ok-searched.ensures.image_is c.in_ok-searched.ensures.sweeps_are c.in_ok-searched.ensures.sight_is c.in_ok-searched.ensures.limit_is c.in_ok-listed.ensures)
     c.put_answer.ensures.written
 
 pub returns-clause-begun : goal.returns-clause-begun
 returns-clause-begun g c =
-    so_begun (IsListedAnswer c.args.image.now c.args.sweeps.now c.args.limit c.args.format) _ _ c.put_answer.result _ _
-    (listed_asked c.in_ok-searched.searched.kept c.args.image.now c.args.sweeps.now c.args.limit c.args.format _ _
-    c.in_ok-searched.ensures.image_is c.in_ok-searched.ensures.sweeps_are c.in_ok-searched.ensures.limit_is c.in_ok-listed.ensures)
+    so_begun (IsListedAnswer c.args.search.now.image.now c.args.search.now.sweeps.now (sight_of c.args.search.now.every_step NoStep) c.args.search.now.states c.args.search.now.format) _ _ c.put_answer.result _ _
+    (listed_asked c.in_ok-searched.searched.kept c.args.search.now.image.now c.args.search.now.sweeps.now (sight_of c.args.search.now.every_step NoStep) c.args.search.now.states c.args.search.now.format _ _
+    c.in_ok-searched.ensures.image_is c.in_ok-searched.ensures.sweeps_are c.in_ok-searched.ensures.sight_is c.in_ok-searched.ensures.limit_is c.in_ok-listed.ensures)
     c.put_answer.ensures.begun

@@ -39,7 +39,7 @@ pub returns : goal.returns
 returns c =
     let kept = c.args.searched.now.kept in
     let numbers = c.args.searched.now.outcomes.items in
-    said_as (IsListedAnswer kept.image kept.sweeps kept.limit c.args.format) _ _ _ (ending_of kept.complete)
+    said_as (IsListedAnswer kept.image kept.sweeps kept.sight kept.limit c.args.format) _ _ _ (ending_of kept.complete)
     (listed_said kept c.args.searched.now.endless _ numbers c.args.format c.as_slice-2.result.now _ _ _ c.requires.found
     (subst (λ (ts : List Outcome). AreOutcomesTold kept numbers ts) (sym c.as_slice-2.ensures.value)
     (subst (λ (ns : List ℕ). AreOutcomesTold kept ns c.in_ok-told.told.items) c.as_slice.ensures.value c.in_ok-told.ensures))

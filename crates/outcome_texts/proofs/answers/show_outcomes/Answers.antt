@@ -1,13 +1,15 @@
 use Rattle.conditions.specs.Items.{list_of}
 use Rattle.std.proofs.lemmas.Result.{err_from_is_err_and}
 use Rattle.shown_states.proofs.AnswerLemmas.{memory_begun, memory_fails, so_written, so_begun}
+use Rattle.explore_sights.specs.Sights.{sight_of}
+use Rattle.explore_sights.specs.declared.sights.Sight.TheVariants.{NoStep}
 use Rattle.outcome_texts.specs.Answers.{IsShownAnswer}
 use Rattle.outcome_texts.proofs.AnswerLemmas.{searched_kept, shown_asked}
 use Rattle.outcome_texts.proofs.answers.show_outcomes.Goals as goal
 
 pub shown_answer-requires : goal.shown_answer-requires
 shown_answer-requires g c = record {
-  found = searched_kept _ _ _ _ _ _ c.in_ok-searched.ensures;
+  found = searched_kept _ _ _ _ _ _ _ c.in_ok-searched.ensures;
 }
 
 pub returns-in_err-core-clause-begun : goal.returns-in_err-core-clause-begun
@@ -42,16 +44,16 @@ returns-in_err-shown-clause-failures g c =
 
 pub returns-clause-written : goal.returns-clause-written
 returns-clause-written g c =
-    so_written (IsShownAnswer c.args.image.now (list_of c.args.items.now) c.args.sweeps.now c.args.limit c.args.format) _ _
+    so_written (IsShownAnswer c.args.search.now.image.now (list_of c.args.items.now) c.args.search.now.sweeps.now (sight_of c.args.search.now.every_step NoStep) c.args.search.now.states c.args.search.now.format) _ _
     c.put_answer.result _ _
-    (shown_asked c.in_ok-searched.searched.kept (list_of c.args.items.now) c.args.image.now c.args.sweeps.now c.args.limit c.args.format _ _
-    c.in_ok-searched.ensures.image_is c.in_ok-searched.ensures.sweeps_are c.in_ok-searched.ensures.limit_is c.in_ok-shown.ensures)
+    (shown_asked c.in_ok-searched.searched.kept (list_of c.args.items.now) c.args.search.now.image.now c.args.search.now.sweeps.now (sight_of c.args.search.now.every_step NoStep) c.args.search.now.states c.args.search.now.format _ _
+    c.in_ok-searched.ensures.image_is c.in_ok-searched.ensures.sweeps_are c.in_ok-searched.ensures.sight_is c.in_ok-searched.ensures.limit_is c.in_ok-shown.ensures)
     c.put_answer.ensures.written
 
 pub returns-clause-begun : goal.returns-clause-begun
 returns-clause-begun g c =
-    so_begun (IsShownAnswer c.args.image.now (list_of c.args.items.now) c.args.sweeps.now c.args.limit c.args.format) _ _
+    so_begun (IsShownAnswer c.args.search.now.image.now (list_of c.args.items.now) c.args.search.now.sweeps.now (sight_of c.args.search.now.every_step NoStep) c.args.search.now.states c.args.search.now.format) _ _
     c.put_answer.result _ _
-    (shown_asked c.in_ok-searched.searched.kept (list_of c.args.items.now) c.args.image.now c.args.sweeps.now c.args.limit c.args.format _ _
-    c.in_ok-searched.ensures.image_is c.in_ok-searched.ensures.sweeps_are c.in_ok-searched.ensures.limit_is c.in_ok-shown.ensures)
+    (shown_asked c.in_ok-searched.searched.kept (list_of c.args.items.now) c.args.search.now.image.now c.args.search.now.sweeps.now (sight_of c.args.search.now.every_step NoStep) c.args.search.now.states c.args.search.now.format _ _
+    c.in_ok-searched.ensures.image_is c.in_ok-searched.ensures.sweeps_are c.in_ok-searched.ensures.sight_is c.in_ok-searched.ensures.limit_is c.in_ok-shown.ensures)
     c.put_answer.ensures.begun

@@ -21,7 +21,7 @@ returns c =
     let found = c.args.searched.now in
     let kept = found.kept in
     let items = list_of c.args.items.now in
-    said_as (IsShownAnswer kept.image items kept.sweeps kept.limit c.args.format) _ _ _ (ending_of kept.complete)
+    said_as (IsShownAnswer kept.image items kept.sweeps kept.sight kept.limit c.args.format) _ _ _ (ending_of kept.complete)
     (shown_said kept items found.endless _ found.outcomes.items c.args.format c.in_ok-rows.rows.items c.as_slice-2.result.now _ _ _ _ _
     c.requires.found
     (rows_distinct kept _ _ _ _ _ c.as_slice-shown.ensures.value c.as_slice-outcomes.ensures.value c.in_ok-rows.ensures)

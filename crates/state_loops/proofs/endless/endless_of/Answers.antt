@@ -1,7 +1,7 @@
 use Rattle.std.proofs.Common.{◌≡◌, ℕ, length, ap, sym, subst, arith}
-use Rattle.schedules.specs.Schedules.{next}
+use Rattle.explore_turns.specs.Turns.{turn_by}
 use Rattle.graph_search.specs.Trees.{state_at}
-use Rattle.states.specs.Graphs.{state_in}
+use Rattle.states.specs.Graphs.{state_in, turn_in}
 use Rattle.states.specs.Kept.{KeptParts, kept_of, at}
 use Rattle.states.proofs.SizeLemmas.{sizes_of}
 use Rattle.loop_search.specs.Verdicts.{IsVerdict}
@@ -29,17 +29,17 @@ search_loops-requires-clause-labelled c =
 
 pub search_loops-requires-clause-meant : goal.search_loops-requires-clause-meant
 search_loops-requires-clause-meant c =
-    graph_meant c.into_parts-parts.result.image c.into_parts-parts.result.sweeps.items c.into_parts-parts.result.graph
+    graph_meant c.into_parts-parts.result.image c.into_parts-parts.result.sweeps.items c.into_parts-parts.result.sight c.into_parts-parts.result.graph
     c.into_parts-parts.result.reached c.into_parts-parts.result.limit c.into_parts-parts.ensures.kept
 
 pub search_loops-requires-clause-distinct : goal.search_loops-requires-clause-distinct
 search_loops-requires-clause-distinct c =
-    graph_distinct c.into_parts-parts.result.image c.into_parts-parts.result.sweeps.items c.into_parts-parts.result.graph
+    graph_distinct c.into_parts-parts.result.image c.into_parts-parts.result.sweeps.items c.into_parts-parts.result.sight c.into_parts-parts.result.graph
     c.into_parts-parts.result.reached c.into_parts-parts.result.limit c.into_parts-parts.ensures.kept
 
 pub from_parts-kept-requires : goal.from_parts-kept-requires
 from_parts-kept-requires c =
-    kept_again c.into_parts-parts.result.image c.into_parts-parts.result.sweeps.items c.into_parts-parts.result.graph
+    kept_again c.into_parts-parts.result.image c.into_parts-parts.result.sweeps.items c.into_parts-parts.result.sight c.into_parts-parts.result.graph
     c.into_parts-parts.result.reached c.into_parts-parts.result.limit c.into_parts-parts.ensures.kept
     c.search_loops.new.graph c.search_loops.ensures.same_graph c.search_loops.ensures.same_width
     c.in_ok-verdict.ensures.states
@@ -47,24 +47,24 @@ from_parts-kept-requires c =
 pub endless_by-requires : goal.endless_by-requires
 endless_by-requires c =
     let count : length c.harts.result.now ≡ length c.into_parts-parts.result.image.harts = ap length c.harts.ensures in
-    subst (λ (k : KeptParts). IsVerdict (next k.image k.sweeps) (length k.image.harts) (at k) k.complete
+    subst (λ (k : KeptParts). IsVerdict (turn_by k.image k.sweeps k.sight) (length k.image.harts) (at k) k.complete
     c.in_ok-verdict.verdict) (sym c.from_parts-kept.ensures)
-    (verdict_of_kept c.into_parts-parts.result.image c.into_parts-parts.result.sweeps.items c.into_parts-parts.result.graph
+    (verdict_of_kept c.into_parts-parts.result.image c.into_parts-parts.result.sweeps.items c.into_parts-parts.result.sight c.into_parts-parts.result.graph
     c.into_parts-parts.result.reached c.into_parts-parts.result.limit c.into_parts-parts.ensures.kept
     c.search_loops.new.graph c.search_loops.ensures.same_graph c.search_loops.ensures.same_width
     c.in_ok-verdict.ensures.states (length c.into_parts-parts.result.image.harts) c.in_ok-verdict.verdict
     (subst (λ (n : ℕ). IsVerdict
-    (next c.into_parts-parts.result.graph.image c.into_parts-parts.result.graph.sweeps) n
+    (turn_in c.into_parts-parts.result.graph) n
     (state_at (state_in c.into_parts-parts.result.graph) c.into_parts-parts.result.reached.nodes)
     c.into_parts-parts.result.reached.complete c.in_ok-verdict.verdict) count c.in_ok-verdict.ensures.verdict))
 
 pub returns-clause-same : goal.returns-clause-same
 returns-clause-same c =
     subst (λ (k : KeptParts). IsSame c.args.kept k) (sym c.from_parts-kept.ensures)
-    (subst (λ (k : KeptParts). IsSame k (kept_of c.into_parts-parts.result.image c.into_parts-parts.result.sweeps.items
+    (subst (λ (k : KeptParts). IsSame k (kept_of c.into_parts-parts.result.image c.into_parts-parts.result.sweeps.items c.into_parts-parts.result.sight
     c.search_loops.new.graph.store c.into_parts-parts.result.reached c.into_parts-parts.result.limit))
     c.into_parts-parts.ensures.parts
-    (kept_same c.into_parts-parts.result.image c.into_parts-parts.result.sweeps.items c.into_parts-parts.result.graph
+    (kept_same c.into_parts-parts.result.image c.into_parts-parts.result.sweeps.items c.into_parts-parts.result.sight c.into_parts-parts.result.graph
     c.into_parts-parts.result.reached c.into_parts-parts.result.limit c.into_parts-parts.ensures.kept
     c.search_loops.new.graph c.search_loops.ensures.same_graph c.search_loops.ensures.same_width
     c.in_ok-verdict.ensures.states))

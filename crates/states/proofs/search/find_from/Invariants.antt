@@ -7,6 +7,7 @@ abbrev pub invariant-loop-kept : goal.invariant-loop-kept
 invariant-loop-kept g l = record {
   image : l.kept.image ≡ l.image;
   sweeps : l.kept.sweeps ≡ l.sweeps;
+  sight : l.kept.sight ≡ l.sight;
   some : 0 < l.kept.limit;
   within : l.kept.limit ≤ l.limit;
   first : IsFirstPassing l.kept (g.T.StateTest.passing l.test) l.state;

@@ -1,13 +1,13 @@
 use Rattle.std.proofs.Common.{◌≡◌, ◌≤◌, ◌<◌, ◌-◌, ℕ, List, length, arith, ap, sym, ◌∙◌, subst}
-use Rattle.std.specs.Prelude.{Some, Option, Bool, slice_get}
+use Rattle.std.specs.Prelude.{Some, Option, option_map, Bool, slice_get}
 use Rattle.std.proofs.lemmas.Option.{slice_get-get_or}
 use Rattle.std.proofs.lemmas.Result.{IfOk-weaker}
 use Rattle.cheri_model.specs.declared.image.HartImage.{HartImage}
 use Rattle.cheri_model.specs.runs.Machine.{MachineState}
 use Rattle.graph_search.specs.Graphs.{LeadsTo}
 use Rattle.schedules.specs.declared.ranges.SweepRange.{SweepRange}
-use Rattle.schedules.specs.Schedules.{next, taken, sweep_of}
-use Rattle.states.specs.Graphs.{GraphParts, state_in}
+use Rattle.schedules.specs.Schedules.{taken, sweep_of}
+use Rattle.states.specs.Graphs.{GraphParts, state_in, rest_in, turn_in}
 use Rattle.states.proofs.SizeLemmas.{sizes_of}
 use Rattle.states.proofs.GraphLemmas.{next_of_sweep}
 use Rattle.states.proofs.graph.MachineGraph.follow.Goals as goal
@@ -38,12 +38,13 @@ returns c =
       value = IfOk-weaker c.sweep.result
           (λ (leads : Bool). (s : MachineState) → state_in c.args.self.now c.args.node.now ≡ Some s →
           LeadsTo (state_in c.sweep.new.self) leads c.sweep.new.to
-          (taken c.args.self.now.image s (Some (sweep_of c.index-range.result.now))))
+          (option_map (rest_in c.args.self.now) (taken c.args.self.now.image s (Some (sweep_of c.index-range.result.now)))))
           (λ (leads : Bool). (s : MachineState) → state_in c.args.self.now c.args.node.now ≡ Some s →
           LeadsTo (state_in c.sweep.new.self) leads c.sweep.new.to
-          (next c.args.self.now.image c.args.self.now.sweeps s c.args.label))
+          (turn_in c.args.self.now s c.args.label))
           (λ leads was s is. subst (λ (o : Option MachineState). LeadsTo (state_in c.sweep.new.self) leads c.sweep.new.to o)
-          (sym (next_of_sweep c.args.self.now.image c.args.self.now.sweeps s c.args.label c.index-range.result.now beyond at))
+          (sym (ap (option_map (rest_in c.args.self.now))
+          (next_of_sweep c.args.self.now.image c.args.self.now.sweeps s c.args.label c.index-range.result.now beyond at)))
           (was s is))
           c.sweep.ensures.value;
     }

@@ -1,5 +1,5 @@
 use Rattle.std.proofs.Common.{◌≡◌, ◌+◌, ◌<◌, ℕ, List, length, arith, ap, sym, ◌∙◌, subst}
-use Rattle.std.specs.Prelude.{Some, true, slice_get, slice_index_or, slice_set}
+use Rattle.std.specs.Prelude.{Some, option_map, true, slice_get, slice_index_or, slice_set}
 use Rattle.std.proofs.lemmas.Option.{slice_get-get_or, slice_get_within}
 use Rattle.cheri_model.specs.runs.Machine.{MachineState}
 use Rattle.cheri_model.specs.runs.Machine as machine
@@ -7,12 +7,11 @@ use Rattle.state_store.specs.Stores.{memory_at}
 use Rattle.state_store.proofs.SeenLemmas.{seen_granule}
 use Rattle.state_store.proofs.StoreLemmas.{memory_at_kept}
 use Rattle.graph_search.specs.Graphs.{LeadsTo}
-use Rattle.schedules.specs.Schedules.{next}
-use Rattle.states.specs.Graphs.{GraphParts, IsGraph, state_in}
+use Rattle.states.specs.Graphs.{GraphParts, IsGraph, state_in, rests_in, rest_in, turn_in}
 use Rattle.states.specs.Locals.{local_value}
 use Rattle.states.proofs.KeepLemmas.{granules_some, granules_few}
 use Rattle.states.proofs.GraphLemmas.{next_of_stopped}
-use Rattle.states.proofs.NodeLemmas.{some_state, node_of, is_some, site_there, site_of_stopped, ready, continues_on}
+use Rattle.states.proofs.NodeLemmas.{some_state, node_of, is_some, site_there, site_of_stopped, ready, continues_on, node_rests}
 use Rattle.states.proofs.EdgeLemmas.{step_leads, step_writes}
 use Rattle.states.proofs.graph.MachineGraph.step_hart.Goals as goal
 
@@ -26,13 +25,13 @@ bounds-node-place c =
 pub index-site-requires : goal.index-site-requires
 index-site-requires c =
     let g : GraphParts = c.args.self.now in
-    let inv = subst (λ (p : GraphParts). IsGraph p.image p.sweeps p.store c.self.inside.sites.items c.self.inside.keys
+    let inv = subst (λ (p : GraphParts). IsGraph p.image p.sweeps p.sight p.store c.self.inside.sites.items c.self.inside.keys
     c.self.inside.steps.items c.self.inside.ram c.self.inside.row.items) c.self.view_is c.self.invariant in
-    let some = granules_some g.image g.sweeps g.store c.self.inside.sites.items c.self.inside.keys c.self.inside.steps.items
+    let some = granules_some g.image g.sweeps g.sight g.store c.self.inside.sites.items c.self.inside.keys c.self.inside.steps.items
     c.self.inside.ram c.self.inside.row.items inv in
     let s = some_state g c.args.node.now c.requires.meant in
     let node = node_of g c.args.node.now s.0 s.1 in
-    let within = (site_there g.image.program g.store c.self.inside.sites.items c.self.inside.keys.rows c.self.inside.steps.items
+    let within = (site_there g.image.program (rests_in g) g.store c.self.inside.sites.items c.self.inside.keys.rows c.self.inside.steps.items
     (slice_index_or c.args.node.now (c.args.hart + 1) 0) (machine.hart_at s.0 c.args.hart) inv.tabled
     (node.hart c.args.hart c.requires.there)).0 in
     omega (arith, within, c.self.inside.sites.ok.0)
@@ -40,19 +39,19 @@ index-site-requires c =
 pub returns-then-site-clause-value : goal.returns-then-site-clause-value
 returns-then-site-clause-value c s is =
     let g : GraphParts = c.args.self.now in
-    let inv = subst (λ (p : GraphParts). IsGraph p.image p.sweeps p.store c.self.inside.sites.items c.self.inside.keys
+    let inv = subst (λ (p : GraphParts). IsGraph p.image p.sweeps p.sight p.store c.self.inside.sites.items c.self.inside.keys
     c.self.inside.steps.items c.self.inside.ram c.self.inside.row.items) c.self.view_is c.self.invariant in
-    let some = granules_some g.image g.sweeps g.store c.self.inside.sites.items c.self.inside.keys c.self.inside.steps.items
+    let some = granules_some g.image g.sweeps g.sight g.store c.self.inside.sites.items c.self.inside.keys c.self.inside.steps.items
     c.self.inside.ram c.self.inside.row.items inv in
-    let few = granules_few g.image g.sweeps g.store c.self.inside.sites.items c.self.inside.keys c.self.inside.steps.items
+    let few = granules_few g.image g.sweeps g.sight g.store c.self.inside.sites.items c.self.inside.keys c.self.inside.steps.items
     c.self.inside.ram c.self.inside.row.items inv in
     let node = node_of g c.args.node.now s is in
-    let at = c.index-site.ensures ∙ (site_there g.image.program g.store c.self.inside.sites.items c.self.inside.keys.rows
+    let at = c.index-site.ensures ∙ (site_there g.image.program (rests_in g) g.store c.self.inside.sites.items c.self.inside.keys.rows
     c.self.inside.steps.items (slice_index_or c.args.node.now (c.args.hart + 1) 0) (machine.hart_at s c.args.hart) inv.tabled
     (node.hart c.args.hart c.requires.there)).1 c.index-site.result.now in
-    next_of_stopped g.image g.sweeps s c.args.hart c.requires.there
+    ap (option_map (rest_in g)) (next_of_stopped g.image g.sweeps s c.args.hart c.requires.there
     (site_of_stopped g.image.program g.store.granules (machine.hart_at s c.args.hart) c.index-site.result.now at some few
-    c.if-site.true)
+    c.if-site.true))
 
 pub bounds-node-0 : goal.bounds-node-0
 bounds-node-0 c =
@@ -72,9 +71,9 @@ memory-row-requires c =
 pub bounds-row-site : goal.bounds-row-site
 bounds-row-site c =
     let g : GraphParts = c.args.self.now in
-    let inv = subst (λ (p : GraphParts). IsGraph p.image p.sweeps p.store c.self.inside.sites.items c.self.inside.keys
+    let inv = subst (λ (p : GraphParts). IsGraph p.image p.sweeps p.sight p.store c.self.inside.sites.items c.self.inside.keys
     c.self.inside.steps.items c.self.inside.ram c.self.inside.row.items) c.self.view_is c.self.invariant in
-    let some = granules_some g.image g.sweeps g.store c.self.inside.sites.items c.self.inside.keys c.self.inside.steps.items
+    let some = granules_some g.image g.sweeps g.sight g.store c.self.inside.sites.items c.self.inside.keys c.self.inside.steps.items
     c.self.inside.ram c.self.inside.row.items inv in
     let s = some_state g c.args.node.now c.requires.meant in
     let r = ready g c.self.inside.sites.items c.self.inside.keys.rows c.self.inside.steps.items c.args.node.now s.0 c.args.hart
@@ -95,9 +94,9 @@ bounds-node-place-2 c =
 pub local_step-requires-clause-hart : goal.local_step-requires-clause-hart
 local_step-requires-clause-hart c =
     let g : GraphParts = c.args.self.now in
-    let inv = subst (λ (p : GraphParts). IsGraph p.image p.sweeps p.store c.self.inside.sites.items c.self.inside.keys
+    let inv = subst (λ (p : GraphParts). IsGraph p.image p.sweeps p.sight p.store c.self.inside.sites.items c.self.inside.keys
     c.self.inside.steps.items c.self.inside.ram c.self.inside.row.items) c.self.view_is c.self.invariant in
-    let some = granules_some g.image g.sweeps g.store c.self.inside.sites.items c.self.inside.keys c.self.inside.steps.items
+    let some = granules_some g.image g.sweeps g.sight g.store c.self.inside.sites.items c.self.inside.keys c.self.inside.steps.items
     c.self.inside.ram c.self.inside.row.items inv in
     let s = some_state g c.args.node.now c.requires.meant in
     let r = ready g c.self.inside.sites.items c.self.inside.keys.rows c.self.inside.steps.items c.args.node.now s.0 c.args.hart
@@ -107,9 +106,9 @@ local_step-requires-clause-hart c =
 pub local_step-requires-clause-value : goal.local_step-requires-clause-value
 local_step-requires-clause-value c =
     let g : GraphParts = c.args.self.now in
-    let inv = subst (λ (p : GraphParts). IsGraph p.image p.sweeps p.store c.self.inside.sites.items c.self.inside.keys
+    let inv = subst (λ (p : GraphParts). IsGraph p.image p.sweeps p.sight p.store c.self.inside.sites.items c.self.inside.keys
     c.self.inside.steps.items c.self.inside.ram c.self.inside.row.items) c.self.view_is c.self.invariant in
-    let some = granules_some g.image g.sweeps g.store c.self.inside.sites.items c.self.inside.keys c.self.inside.steps.items
+    let some = granules_some g.image g.sweeps g.sight g.store c.self.inside.sites.items c.self.inside.keys c.self.inside.steps.items
     c.self.inside.ram c.self.inside.row.items inv in
     let s = some_state g c.args.node.now c.requires.meant in
     let r = ready g c.self.inside.sites.items c.self.inside.keys.rows c.self.inside.steps.items c.args.node.now s.0 c.args.hart
@@ -132,9 +131,9 @@ copy_from_slice-requires c =
 pub returns-then-after-value-clause-value : goal.returns-then-after-value-clause-value
 returns-then-after-value-clause-value c s is =
     let g : GraphParts = c.args.self.now in
-    let inv = subst (λ (p : GraphParts). IsGraph p.image p.sweeps p.store c.self.inside.sites.items c.self.inside.keys
+    let inv = subst (λ (p : GraphParts). IsGraph p.image p.sweeps p.sight p.store c.self.inside.sites.items c.self.inside.keys
     c.self.inside.steps.items c.self.inside.ram c.self.inside.row.items) c.self.view_is c.self.invariant in
-    let some = granules_some g.image g.sweeps g.store c.self.inside.sites.items c.self.inside.keys c.self.inside.steps.items
+    let some = granules_some g.image g.sweeps g.sight g.store c.self.inside.sites.items c.self.inside.keys c.self.inside.steps.items
     c.self.inside.ram c.self.inside.row.items inv in
     let r = ready g c.self.inside.sites.items c.self.inside.keys.rows c.self.inside.steps.items c.args.node.now s c.args.hart
     c.index-site.result.now inv.tabled some is c.requires.there c.index-site.ensures c.if-site.false in
@@ -146,11 +145,13 @@ returns-then-after-value-clause-value c s is =
     ap (λ (p : GraphParts). slice_get p.store.memories (slice_index_or c.args.node.now 0 0)) (sym c.self.view_is)
     ∙ c.memory-row.ensures.row in
     subst (λ (row : List ℕ). LeadsTo (state_in c.local_step.new.self) true (slice_set row (c.args.hart + 1) c.in_ok-after.after.hart)
-    (next g.image g.sweeps s c.args.hart)) (sym c.copy_from_slice.ensures.after)
+    (turn_in g s c.args.hart)) (sym c.copy_from_slice.ensures.after)
     (step_leads g c.local_step.new.self c.local_step.ensures.continues some c.args.node.now c.memory-row.result.now s is c.args.hart
     c.index-site.result.now (slice_index_or c.memory-row.result.now c.index-site.result.now 0) c.requires.there r.runs row_there
     r.touches (slice_get-get_or c.memory-row.result.now c.index-site.result.now 0 below) c.in_ok-after.after
-    c.in_ok-after.ensures.step c.if-after-value.true)
+    c.in_ok-after.ensures.step
+    (node_rests g c.self.inside.sites.items c.self.inside.keys.rows c.self.inside.steps.items c.args.node.now s inv.tabled is)
+    c.if-after-value.true)
 
 pub memory_with-requires-clause-memory : goal.memory_with-requires-clause-memory
 memory_with-requires-clause-memory c =
@@ -163,9 +164,9 @@ memory_with-requires-clause-memory c =
 pub memory_with-requires-clause-granule : goal.memory_with-requires-clause-granule
 memory_with-requires-clause-granule c =
     let g : GraphParts = c.args.self.now in
-    let inv = subst (λ (p : GraphParts). IsGraph p.image p.sweeps p.store c.self.inside.sites.items c.self.inside.keys
+    let inv = subst (λ (p : GraphParts). IsGraph p.image p.sweeps p.sight p.store c.self.inside.sites.items c.self.inside.keys
     c.self.inside.steps.items c.self.inside.ram c.self.inside.row.items) c.self.view_is c.self.invariant in
-    let some = granules_some g.image g.sweeps g.store c.self.inside.sites.items c.self.inside.keys c.self.inside.steps.items
+    let some = granules_some g.image g.sweeps g.sight g.store c.self.inside.sites.items c.self.inside.keys c.self.inside.steps.items
     c.self.inside.ram c.self.inside.row.items inv in
     let s = some_state g c.args.node.now c.requires.meant in
     let r = ready g c.self.inside.sites.items c.self.inside.keys.rows c.self.inside.steps.items c.args.node.now s.0 c.args.hart
@@ -181,9 +182,9 @@ memory_with-requires-clause-value c =
 pub returns : goal.returns
 returns c =
     let g : GraphParts = c.args.self.now in
-    let inv = subst (λ (p : GraphParts). IsGraph p.image p.sweeps p.store c.self.inside.sites.items c.self.inside.keys
+    let inv = subst (λ (p : GraphParts). IsGraph p.image p.sweeps p.sight p.store c.self.inside.sites.items c.self.inside.keys
     c.self.inside.steps.items c.self.inside.ram c.self.inside.row.items) c.self.view_is c.self.invariant in
-    let some = granules_some g.image g.sweeps g.store c.self.inside.sites.items c.self.inside.keys c.self.inside.steps.items
+    let some = granules_some g.image g.sweeps g.sight g.store c.self.inside.sites.items c.self.inside.keys c.self.inside.steps.items
     c.self.inside.ram c.self.inside.row.items inv in
     record {
       continues = continues_on g c.local_step.new.self c.memory_with.new.self c.local_step.ensures.continues
@@ -200,10 +201,12 @@ returns c =
           ∙ c.memory-row.ensures.row in
           subst (λ (row : List ℕ). LeadsTo (state_in c.memory_with.new.self) true
           (slice_set (slice_set row (c.args.hart + 1) c.in_ok-after.after.hart) 0 c.in_ok-memory.memory)
-          (next g.image g.sweeps s c.args.hart)) (sym c.copy_from_slice.ensures.after)
+          (turn_in g s c.args.hart)) (sym c.copy_from_slice.ensures.after)
           (step_writes g c.local_step.new.self c.local_step.ensures.continues some c.args.node.now c.memory-row.result.now s is c.args.hart
           c.index-site.result.now (slice_index_or c.memory-row.result.now c.index-site.result.now 0) c.requires.there r.runs row_there
           r.touches (slice_get-get_or c.memory-row.result.now c.index-site.result.now 0 below) c.in_ok-after.after
-          c.in_ok-after.ensures.step c.memory_with.new.self
+          c.in_ok-after.ensures.step
+          (node_rests g c.self.inside.sites.items c.self.inside.keys.rows c.self.inside.steps.items c.args.node.now s inv.tabled is)
+          c.memory_with.new.self
           c.memory_with.ensures.continues c.in_ok-memory.memory (λ m v known there. c.in_ok-memory.ensures.numbered m v known there));
     }

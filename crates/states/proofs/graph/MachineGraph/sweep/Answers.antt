@@ -1,20 +1,20 @@
 use Rattle.std.proofs.Common.{◌-◌, ◌<◌, ◌≤◌, length, arith, ap, sym, ◌∙◌, inl, inr}
-use Rattle.std.specs.Prelude.{slice_index_or}
+use Rattle.std.specs.Prelude.{slice_index_or, option_map}
 use Rattle.cheri_model.specs.runs.Machine.{MachineState}
 use Rattle.cheri_model.specs.runs.Machine as machine
 use Rattle.state_store.specs.Stores.{hart_at, memory_at}
 use Rattle.state_store.proofs.StoreLemmas.{memory_at_kept}
-use Rattle.states.specs.Graphs.{state_in}
+use Rattle.states.specs.Graphs.{state_in, rest_in}
 use Rattle.states.proofs.NodeLemmas.{some_state, node_of, is_some, continues_self, continues_on}
 use Rattle.states.proofs.EdgeLemmas.{sweep_begun, sweep_on, sweep_leads, hart_there, taken_of_none, range_good, range_bad}
 use Rattle.states.proofs.graph.MachineGraph.sweep.Goals as goal
 
 pub returns-then-from-range-clause-value : goal.returns-then-from-range-clause-value
 returns-then-from-range-clause-value c s is =
-    taken_of_none c.args.self.now.image s c.args.range (elim c.then-from-range.either [
+    ap (option_map (rest_in c.args.self.now)) (taken_of_none c.args.self.now.image s c.args.range (elim c.then-from-range.either [
       | inl empty ↦ range_bad c.args.range (let from = c.from.ensures in inl (omega arith))
       | inr past ↦ range_bad c.args.range (let high = past.1 in inr (omega arith))
-    ])
+    ]))
 
 pub copy_from_slice-requires : goal.copy_from_slice-requires
 copy_from_slice-requires c =
@@ -69,7 +69,7 @@ returns c = record {
       let from = c.from.ensures in
       let low = c.if-from-range.false in
       let ordered : c.args.range.lo ≤ c.args.range.hi = omega arith in
-      sweep_leads c.loop-place.self c.swept_memory.new.self c.swept_memory.ensures.continues c.loop-place.to s c.args.self.now.image
+      sweep_leads c.args.self.now c.loop-place.self c.swept_memory.new.self c.swept_memory.ensures.continues c.loop-place.to s
       c.args.range (c.loop-place.place - 1) c.in_ok-memory.memory (c.loop-place.invariant.swept s is) all
       (range_good c.args.range ordered c.if-range-gt-ADDRESS_SPACE.false)
       (c.in_ok-memory.ensures.numbered s.memory (memory_at_kept c.args.self.now.store c.loop-place.self.store

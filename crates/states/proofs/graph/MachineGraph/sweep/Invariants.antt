@@ -10,5 +10,5 @@ abbrev pub invariant-loop-place : goal.invariant-loop-place
 invariant-loop-place l = record {
   continues : Continues l.fn.self l.self;
   swept : (s : MachineState) → state_in l.fn.self l.node ≡ Some s →
-      state_in l.self l.to ≡ Some (swept_to l.range (l.place - 1) s);
+      state_in l.self l.to ≡ Some (swept_to l.fn.self l.range (l.place - 1) s);
 }

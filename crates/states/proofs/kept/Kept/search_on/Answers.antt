@@ -1,8 +1,8 @@
 use Rattle.std.proofs.Common.{◌≡◌, ◌≤◌, ◌+◌, ℕ, List, length, ◌∙◌, ap, sym, arith}
-use Rattle.cheri_model.specs.runs.Machine.{MachineState, opening_state}
+use Rattle.explore_turns.specs.Turns.{start_by}
+use Rattle.cheri_model.specs.runs.Machine.{MachineState}
 use Rattle.graph_search.specs.Trees.{state_at}
-use Rattle.schedules.specs.Schedules.{next}
-use Rattle.states.specs.Graphs.{state_in}
+use Rattle.states.specs.Graphs.{state_in, turn_in}
 use Rattle.states.specs.Kept.{KeptParts}
 use Rattle.states.proofs.KeptLemmas.{searched, first_state}
 use Rattle.states.proofs.kept.Kept.search_on.Goals as goal
@@ -25,13 +25,13 @@ pub invariant_of-result : goal.invariant_of-result
 invariant_of-result g c =
     let kept = c.self.invariant in
     let old = c.self.inside.graph in
-    let edges : next c.explore_more.new.graph.image c.explore_more.new.graph.sweeps ≡ next old.image old.sweeps =
+    let edges : turn_in c.explore_more.new.graph ≡ turn_in old =
     c.explore_more.ensures.same_graph in
     let width : length c.explore_more.new.graph.image.harts + 1 ≡ length old.image.harts + 1 = c.explore_more.ensures.same_width in
     let same = kept.harts in
     let harts : length c.explore_more.new.graph.image.harts ≡ length c.self.inside.image.harts = omega arith in
-    searched c.explore_more.new.graph c.self.inside.image c.self.inside.sweeps.items c.in_ok-reached.reached c.args.limit
+    searched c.explore_more.new.graph c.self.inside.image c.self.inside.sweeps.items c.self.inside.sight c.in_ok-reached.reached c.args.limit
     (edges ∙ kept.edges) harts
-    (c.in_ok-reached.ensures.explored (opening_state c.self.inside.image)
-    (first_state c.self.inside.image c.self.inside.sweeps.items old c.self.inside.reached c.self.inside.limit kept))
+    (c.in_ok-reached.ensures.explored (start_by c.self.inside.image c.self.inside.sweeps.items c.self.inside.sight)
+    (first_state c.self.inside.image c.self.inside.sweeps.items c.self.inside.sight old c.self.inside.reached c.self.inside.limit kept))
     c.in_ok-reached.ensures.wide c.in_ok-reached.ensures.stands

@@ -7,7 +7,7 @@ use Rattle.states.proofs.kept.Kept.state.Goals as goal
 
 pub returns-clause-state : goal.returns-clause-state
 returns-clause-state c =
-    let view : KeptParts = kept_of c.self.inside.image c.self.inside.sweeps.items c.self.inside.graph.store c.self.inside.reached c.self.inside.limit in
+    let view : KeptParts = kept_of c.self.inside.image c.self.inside.sweeps.items c.self.inside.sight c.self.inside.graph.store c.self.inside.reached c.self.inside.limit in
     let below : c.args.number < count view = subst (λ (k : KeptParts). c.args.number < count k) (sym c.self.view_is) c.requires in
     let seen = seen_state view c.args.number c.in-Some.row.now c.self.invariant.search below (sym c.in-Some.ensures) in
     ap (λ (k : KeptParts). at k c.args.number) (sym c.self.view_is)
@@ -15,7 +15,7 @@ returns-clause-state c =
 
 pub returns-clause-meant : goal.returns-clause-meant
 returns-clause-meant c =
-    let view : KeptParts = kept_of c.self.inside.image c.self.inside.sweeps.items c.self.inside.graph.store c.self.inside.reached c.self.inside.limit in
+    let view : KeptParts = kept_of c.self.inside.image c.self.inside.sweeps.items c.self.inside.sight c.self.inside.graph.store c.self.inside.reached c.self.inside.limit in
     let below : c.args.number < count view = subst (λ (k : KeptParts). c.args.number < count k) (sym c.self.view_is) c.requires in
     let seen = seen_state view c.args.number c.in-Some.row.now c.self.invariant.search below (sym c.in-Some.ensures) in
     is_some (state_of c.store.result.now c.in-Some.row.now) seen.state
@@ -23,13 +23,13 @@ returns-clause-meant c =
 
 pub returns-clause-harts : goal.returns-clause-harts
 returns-clause-harts c =
-    let view : KeptParts = kept_of c.self.inside.image c.self.inside.sweeps.items c.self.inside.graph.store c.self.inside.reached c.self.inside.limit in
+    let view : KeptParts = kept_of c.self.inside.image c.self.inside.sweeps.items c.self.inside.sight c.self.inside.graph.store c.self.inside.reached c.self.inside.limit in
     let below : c.args.number < count view = subst (λ (k : KeptParts). c.args.number < count k) (sym c.self.view_is) c.requires in
     let seen = seen_state view c.args.number c.in-Some.row.now c.self.invariant.search below (sym c.in-Some.ensures) in
     subst (λ (k : KeptParts). length c.in-Some.row.now ≡ length k.image.harts + 1) c.self.view_is seen.width
 
 pub returns-clause-granules : goal.returns-clause-granules
 returns-clause-granules c =
-    let view : KeptParts = kept_of c.self.inside.image c.self.inside.sweeps.items c.self.inside.graph.store c.self.inside.reached c.self.inside.limit in
+    let view : KeptParts = kept_of c.self.inside.image c.self.inside.sweeps.items c.self.inside.sight c.self.inside.graph.store c.self.inside.reached c.self.inside.limit in
     ap (λ (st : Stored). 16 * st.granules) c.store.ensures
     ∙ (kept_granules view c.self.invariant.search c.granules-granules.ensures.formed ∙ ap (λ (k : KeptParts). k.image.ram) c.self.view_is)

@@ -1,18 +1,18 @@
 -- How rights lie within others, and their order.
-use Rattle.std.proofs.Common.{◌≡◌, ◌≢◌, ℕ, ◌<◌, ◌≤◌, arith, ap, sym, ◌∙◌, refl, inl, inr, ◌⊎◌, subst, nat_lt}
+use Rattle.std.proofs.Common.{◌≡◌, ◌≢◌, ℕ, ◌<◌, ◌≤◌, arith, ap, sym, ◌∙◌, refl, inl, inr, ◌⊎◌, nat_lt}
 use Rattle.std.specs.Prelude.{Bool, true, false, ◌&&◌, ◌==◌, nat_le, bit_and, if◌then◌else◌}
 use Rattle.std.specs.Int.Bits.{and_self}
 use Rattle.std.proofs.lemmas.Bool.{cases_eq, cases_lt, cases_Bool}
 use Rattle.std.proofs.lemmas.Bool.Decides.{nat_tests}
 use Rattle.std.proofs.lemmas.Nat.{and_assoc}
-use Rattle.authorities.specs.declared.rights.Rights.{Rights}
-use Rattle.authorities.specs.Authorities.{is_within, is_before}
+use Rattle.explore_rights.specs.declared.rights.Rights.{Rights}
+use Rattle.explore_rights.specs.Rights.{is_within, is_before}
 
-both_true : (a b : Bool) → (a && b) ≡ true → (a ≡ true) × (b ≡ true)
+pub both_true : (a b : Bool) → (a && b) ≡ true → (a ≡ true) × (b ≡ true)
 both_true true b e = (refl, e)
 both_true false b e = absurd (cc)
 
-true_both : (a b : Bool) → a ≡ true → b ≡ true → (a && b) ≡ true
+pub true_both : (a b : Bool) → a ≡ true → b ≡ true → (a && b) ≡ true
 true_both true b one two = two
 true_both false b one two = absurd (cc)
 

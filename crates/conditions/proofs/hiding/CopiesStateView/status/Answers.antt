@@ -1,0 +1,9 @@
+use Rattle.std.proofs.Common.{◌∙◌, ap, sym}
+use Rattle.cheri_model.specs.steps.Hart.{HartState}
+use Rattle.conditions.proofs.HidingLemmas.{copy_at}
+use Rattle.conditions.proofs.hiding.CopiesStateView.status.Goals as goal
+
+pub returns : goal.returns
+returns c =
+    let same = copy_at c.args.self.now.count c.args.self.now.hart.now c.args._hart c.requires in
+    c.status.ensures ∙ sym (ap (λ (h : HartState). h.status) same)

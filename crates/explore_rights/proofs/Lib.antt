@@ -1,0 +1,3 @@
+pub mod Unfold
+pub mod RightsLemmas
+pub mod HeldLemmas

@@ -1,0 +1,7 @@
+//! What a question sees of a hart's steps: a step that a question doesn't see can be taken together
+//! with the one before it.
+#![tactic(auto)]
+
+mod sights;
+
+pub use sights::Sight;
