@@ -96,6 +96,42 @@ typedef struct cheri_made {
 } cheri_made;
 CHERI_CAPS_SIZE(cheri_made, 32);
 
+/* The first check that fails: the number of its cause, and the register that it speaks of, 32 for
+   PCC. Both are 0 where no check fails. */
+typedef struct cheri_trap {
+    uint8_t cause, reg;
+} cheri_trap;
+CHERI_CAPS_SIZE(cheri_trap, 2);
+
+/* A jump: what becomes of PCC, and what the jump leaves in a register; or null twice, and why it
+   traps. */
+typedef struct cheri_jumped {
+    cheri_cap pcc, left;
+    cheri_trap trap;
+} cheri_jumped;
+CHERI_CAPS_SIZE(cheri_jumped, 56);
+
+/* The causes of traps. The numbers are this project's own. */
+enum {
+    CHERI_CAPS_TRAP_NONE = 0,
+    CHERI_CAPS_TRAP_TAG = 1,         /* untagged */
+    CHERI_CAPS_TRAP_SEAL = 2,        /* sealed, or of no type that can be invoked */
+    CHERI_CAPS_TRAP_EXECUTE = 3,     /* without Execute, or with it where it may not be */
+    CHERI_CAPS_TRAP_LOAD = 4,        /* without Load */
+    CHERI_CAPS_TRAP_STORE = 5,       /* without Store */
+    CHERI_CAPS_TRAP_STORE_CAP = 6,   /* without Store_Capability */
+    CHERI_CAPS_TRAP_STORE_LOCAL = 7, /* without Store_Local_Capability */
+    CHERI_CAPS_TRAP_LENGTH = 8,      /* the bytes are not in the bounds */
+    CHERI_CAPS_TRAP_ALIGNMENT = 9,   /* the address is no multiple of the size */
+    CHERI_CAPS_TRAP_PLACE = 10,      /* the bytes are not wholly in memory */
+    CHERI_CAPS_TRAP_FETCH = 11,      /* the bytes are not wholly in the code */
+    CHERI_CAPS_TRAP_TYPE = 12,       /* the object types of a pair differ */
+    CHERI_CAPS_TRAP_CINVOKE = 13     /* without CInvoke */
+};
+
+/* The register number that means PCC. */
+#define CHERI_CAPS_TRAP_PCC 32
+
 /* The statuses of `cheri_caps_make`. */
 enum {
     CHERI_CAPS_MADE = 0,
@@ -242,6 +278,57 @@ bool cheri_caps_test_subset(cheri_cap cap, cheri_cap other);
 
 /* CSetEqualExact: whether the tags and the words are equal. */
 bool cheri_caps_equal_exact(cheri_cap cap, cheri_cap other);
+
+/*
+ * Checks (ISA, "capability exceptions", which leaves their order to the implementation): the first
+ * that fails of a list in this machine's order. `reg` is the number of the register that holds the
+ * capability, and comes back in the trap. Memory and code are the `len` addresses from `base` on;
+ * the whole address space is more than a range can say. Nothing is read or written.
+ */
+
+/* A load of 2^log2_bytes bytes at `addr` through `auth`, by the lowest two bits of `log2_bytes`, so
+   that a load's funct3 can be passed. In this order: TAG, SEAL, LOAD, LENGTH, ALIGNMENT, PLACE. */
+cheri_trap cheri_caps_check_load(cheri_cap auth, uint8_t reg, uint64_t addr, uint8_t log2_bytes,
+                                 cheri_range memory);
+
+/* A store of as many bytes: TAG, SEAL, STORE, LENGTH, ALIGNMENT, PLACE. */
+cheri_trap cheri_caps_check_store(cheri_cap auth, uint8_t reg, uint64_t addr, uint8_t log2_bytes,
+                                  cheri_range memory);
+
+/* A load of a capability, 16 bytes: TAG, SEAL, LOAD, LENGTH, ALIGNMENT, PLACE. Where it passes, and
+   `auth` lacks Load_Capability, what is loaded loses its tag. */
+cheri_trap cheri_caps_check_load_cap(cheri_cap auth, uint8_t reg, uint64_t addr,
+                                     cheri_range memory);
+
+/* A store of a capability: TAG, SEAL, STORE; STORE_CAP where `stored` is tagged; STORE_LOCAL where
+   it is tagged and lacks Global; LENGTH, ALIGNMENT, PLACE. */
+cheri_trap cheri_caps_check_store_cap(cheri_cap auth, uint8_t reg, uint64_t addr, cheri_cap stored,
+                                      cheri_range memory);
+
+/* A swap (AMOSWAP.C): TAG, SEAL, LOAD, then as a store of a capability from STORE on. */
+cheri_trap cheri_caps_check_swap(cheri_cap auth, uint8_t reg, uint64_t addr, cheri_cap stored,
+                                 cheri_range memory);
+
+/* A fetch of the four bytes at PCC's address: TAG, SEAL, EXECUTE, LENGTH, ALIGNMENT, FETCH. */
+cheri_trap cheri_caps_check_fetch(cheri_cap pcc, cheri_range code);
+
+/* A taken branch, and CJAL: LENGTH, of the four bytes at the target. */
+cheri_trap cheri_caps_check_branch(cheri_cap pcc, uint64_t target);
+
+/* CJALR to the address of `through` and `offset`, modulo 2^64 and with bit 0 cleared: TAG; SEAL,
+   which a sentry passes where `offset` is 0; EXECUTE, LENGTH, ALIGNMENT. */
+cheri_trap cheri_caps_check_jump(cheri_cap through, uint8_t reg, uint64_t offset);
+
+/* CInvoke of the sealed pair of `code`, in c1, and `data`, in c2: TAG of each, SEAL of each, TYPE,
+   CINVOKE of each; EXECUTE of the code, which must have it, and of the data, which must not;
+   LENGTH, ALIGNMENT. */
+cheri_trap cheri_caps_check_invoke(cheri_cap code, uint8_t c1, cheri_cap data, uint8_t c2);
+
+/* CJALR: `left` is what it leaves to come back by, the address after `pcc`'s sealed as a sentry. */
+cheri_jumped cheri_caps_jump(cheri_cap pcc, cheri_cap through, uint8_t reg, uint64_t offset);
+
+/* CInvoke: `left` is the unsealed data, which the machine leaves in c31. */
+cheri_jumped cheri_caps_invoke(cheri_cap code, uint8_t c1, cheri_cap data, uint8_t c2);
 
 /*
  * Arrays: they fill the first min(n, m) places of `out`, answer that count, and leave the rest.

@@ -23,9 +23,9 @@ from pathlib import Path
 from typing import Any, FrozenSet, List, NamedTuple, Optional, Sequence, Tuple, Union
 
 __all__ = [
-    "ALL", "LAST_SEALABLE", "PERMISSIONS", "SENTRY", "UNSEALED", "Capability", "Fields",
-    "MakeError", "Rounded", "alignment_mask", "bounds_of", "decode", "fields", "is_capability",
-    "is_representable", "representable_length", "round_bounds", "round_of",
+    "ALL", "CAUSES", "LAST_SEALABLE", "PERMISSIONS", "SENTRY", "UNSEALED", "Capability", "Fields",
+    "Jumped", "MakeError", "Rounded", "Trap", "alignment_mask", "bounds_of", "decode", "fields",
+    "is_capability", "is_representable", "representable_length", "round_bounds", "round_of",
 ]
 
 #: The permissions by name, as CGetPerm shows them.
@@ -82,6 +82,18 @@ class _Made(ctypes.Structure):
     _fields_ = [("cap", _Cap), ("status", ctypes.c_uint8)]
 
 
+class _Range(ctypes.Structure):
+    _fields_ = _layout("u64 base, u64 len")
+
+
+class _Trap(ctypes.Structure):
+    _fields_ = _layout("u8 cause, u8 reg")
+
+
+class _Jumped(ctypes.Structure):
+    _fields_ = [("pcc", _Cap), ("left", _Cap), ("trap", _Trap)]
+
+
 def _library() -> ctypes.CDLL:
     named = os.environ.get("CHERI_CAPS_LIBRARY")
     here = Path(__file__).resolve().parent
@@ -127,6 +139,18 @@ _seal_entry = _function("seal_entry", _Cap, _Cap)
 _build = _function("build", _Cap, _Cap, _Cap)
 _test_subset = _function("test_subset", _bool, _Cap, _Cap)
 _equal_exact = _function("equal_exact", _bool, _Cap, _Cap)
+_u8 = ctypes.c_uint8
+_check_load = _function("check_load", _Trap, _Cap, _u8, _u64, _u8, _Range)
+_check_store = _function("check_store", _Trap, _Cap, _u8, _u64, _u8, _Range)
+_check_load_cap = _function("check_load_cap", _Trap, _Cap, _u8, _u64, _Range)
+_check_store_cap = _function("check_store_cap", _Trap, _Cap, _u8, _u64, _Cap, _Range)
+_check_swap = _function("check_swap", _Trap, _Cap, _u8, _u64, _Cap, _Range)
+_check_fetch = _function("check_fetch", _Trap, _Cap, _Range)
+_check_branch = _function("check_branch", _Trap, _Cap, _u64)
+_check_jump = _function("check_jump", _Trap, _Cap, _u8, _u64)
+_check_invoke = _function("check_invoke", _Trap, _Cap, _u8, _Cap, _u8)
+_jump = _function("jump", _Jumped, _Cap, _Cap, _u8, _u64)
+_invoke = _function("invoke", _Jumped, _Cap, _u8, _Cap, _u8)
 _bounds_of = _function(
     "bounds_of", ctypes.c_size_t, ctypes.c_void_p, ctypes.c_size_t, ctypes.c_void_p, ctypes.c_size_t
 )
@@ -164,6 +188,49 @@ class Rounded(NamedTuple):
     ie: int
     e: int
     exact: bool
+
+
+#: The causes of traps by their numbers, which are this project's own.
+CAUSES = {
+    1: "tag", 2: "seal", 3: "execute", 4: "load", 5: "store", 6: "store_cap", 7: "store_local",
+    8: "length", 9: "alignment", 10: "place", 11: "fetch", 12: "type", 13: "cinvoke",
+}
+
+
+class Trap(NamedTuple):
+    """The first check that fails: the number of its cause, and the register that it speaks of, 32
+    for PCC."""
+
+    cause: int
+    register: int
+
+    def __repr__(self) -> str:
+        place = "pcc" if self.register == 32 else f"c{self.register}"
+        return f"<Trap {self.cause} {CAUSES[self.cause]} {place}>"
+
+
+class Jumped(NamedTuple):
+    """What becomes of PCC, and what the jump leaves in a register."""
+
+    pcc: Capability
+    left: Capability
+
+
+def _trap(trap: _Trap) -> Optional[Trap]:
+    return Trap(trap.cause, trap.reg) if trap.cause else None
+
+
+def _range(addresses: range, what: str) -> _Range:
+    if addresses.step != 1 or not 0 <= addresses.start <= addresses.stop:
+        raise ValueError(f"{what} {addresses} is no range of addresses")
+    length = addresses.stop - addresses.start
+    return _Range(_number(addresses.start, 64, what), _number(length, 64, what))
+
+
+def _log2_bytes(size: int) -> int:
+    if size not in (1, 2, 4, 8):
+        raise ValueError(f"size {size} is none of 1, 2, 4 and 8")
+    return size.bit_length() - 1
 
 
 def decode(word: int) -> Tuple[int, int]:
@@ -380,6 +447,104 @@ class Capability:
         """Whether the tags are equal, and the other's bounds and permissions lie in this one's
         (CTestSubset)."""
         return _test_subset(self._cap, other._cap)
+
+    # the checks of accesses, fetches and jumps: the first that fails, or None
+
+    def check_load(
+        self, size: int, memory: range, address: Optional[int] = None, register: int = 0
+    ) -> Optional[Trap]:
+        """The first check that fails of a load of 1, 2, 4 or 8 bytes through this, at its address
+        where none is given.
+
+        >>> memory = range(0x80000000, 0x80001000)
+        >>> sixteen = Capability.make(0x80000000, 16)
+        >>> sixteen.check_load(8, memory)
+        >>> sixteen.check_load(8, memory, 0x8000000c, register=3)
+        <Trap 8 length c3>
+        """
+        return _trap(_check_load(*self._access(register, address), _log2_bytes(size),
+                                 _range(memory, "memory")))
+
+    def check_store(
+        self, size: int, memory: range, address: Optional[int] = None, register: int = 0
+    ) -> Optional[Trap]:
+        """The same of a store."""
+        return _trap(_check_store(*self._access(register, address), _log2_bytes(size),
+                                  _range(memory, "memory")))
+
+    def check_load_cap(
+        self, memory: range, address: Optional[int] = None, register: int = 0
+    ) -> Optional[Trap]:
+        """The same of a load of a capability. What it loads loses its tag where this lacks
+        load_cap."""
+        return _trap(_check_load_cap(*self._access(register, address), _range(memory, "memory")))
+
+    def check_store_cap(
+        self, stored: Capability, memory: range, address: Optional[int] = None, register: int = 0
+    ) -> Optional[Trap]:
+        """The same of a store of a capability."""
+        return _trap(_check_store_cap(*self._access(register, address), stored._cap,
+                                      _range(memory, "memory")))
+
+    def check_swap(
+        self, stored: Capability, memory: range, address: Optional[int] = None, register: int = 0
+    ) -> Optional[Trap]:
+        """The same of a swap with a capability."""
+        return _trap(_check_swap(*self._access(register, address), stored._cap,
+                                 _range(memory, "memory")))
+
+    def check_fetch(self, code: range) -> Optional[Trap]:
+        """The first check that fails of a fetch, where this is PCC.
+
+        >>> Capability.null().check_fetch(range(0x10000000, 0x10000040))
+        <Trap 1 tag pcc>
+        """
+        return _trap(_check_fetch(self._cap, _range(code, "code")))
+
+    def check_branch(self, target: int) -> Optional[Trap]:
+        """Whether a taken branch or CJAL traps, where this is PCC."""
+        return _trap(_check_branch(self._cap, _number(target, 64, "target")))
+
+    def check_jump(self, offset: int = 0, register: int = 0) -> Optional[Trap]:
+        """The first check that fails of a jump through this, by an offset (CJALR)."""
+        return _trap(_check_jump(self._cap, _number(register, 8, "register"), offset & _HALF))
+
+    def check_invoke(
+        self, data: Capability, register: int = 0, data_register: int = 0
+    ) -> Optional[Trap]:
+        """The first check that fails of a jump through this and its sealed data (CInvoke)."""
+        return _trap(_check_invoke(self._cap, _number(register, 8, "register"), data._cap,
+                                   _number(data_register, 8, "register")))
+
+    def jump(
+        self, through: Capability, offset: int = 0, register: int = 0
+    ) -> Union[Jumped, Trap]:
+        """A jump through a capability, where this is PCC (CJALR): what becomes of PCC and what
+        is left to come back by, or the trap.
+
+        >>> pcc = Capability.make(0x10000000, 64)
+        >>> pcc.jump(pcc.inc_offset(8).seal_entry()).pcc.address == 0x10000008
+        True
+        """
+        return self._jumped(_jump(self._cap, through._cap, _number(register, 8, "register"),
+                                  offset & _HALF))
+
+    def invoke(
+        self, data: Capability, register: int = 0, data_register: int = 0
+    ) -> Union[Jumped, Trap]:
+        """A jump through this and its sealed data (CInvoke): what becomes of PCC and the unsealed
+        data, or the trap."""
+        return self._jumped(_invoke(self._cap, _number(register, 8, "register"), data._cap,
+                                    _number(data_register, 8, "register")))
+
+    def _access(self, register: int, address: Optional[int]) -> Tuple[_Cap, int, int]:
+        return (self._cap, _number(register, 8, "register"),
+                _number(self.address if address is None else address, 64, "address"))
+
+    def _jumped(self, jumped: _Jumped) -> Union[Jumped, Trap]:
+        if jumped.trap.cause:
+            return Trap(jumped.trap.cause, jumped.trap.reg)
+        return Jumped(self._of(jumped.pcc), self._of(jumped.left))
 
     # what instructions read
 
