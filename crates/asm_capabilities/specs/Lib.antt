@@ -1,0 +1,2 @@
+-- The capabilities that an assembled program begins with.
+pub mod Capabilities

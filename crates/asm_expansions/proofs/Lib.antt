@@ -1,0 +1,3 @@
+pub mod Unfold
+pub mod Levels
+pub mod Lengths

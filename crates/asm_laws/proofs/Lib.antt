@@ -1,0 +1,12 @@
+pub mod Steps
+pub mod Writes
+pub mod Words
+pub mod Uppers
+pub mod Constants
+pub mod Numbers
+pub mod Pseudo
+pub mod Windows
+pub mod PairLemmas
+pub mod Calls
+pub mod Machines
+pub mod Loads

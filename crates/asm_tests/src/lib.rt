@@ -1,0 +1,9 @@
+//! Tests of the crates that read assembly, by their public calls alone, as their users make them.
+#![tactic(auto)]
+
+#[cfg(test)]
+mod names;
+#[cfg(test)]
+mod tokens;
+#[cfg(test)]
+mod values;

@@ -1,0 +1,10 @@
+pub mod CommentLemmas
+pub mod CutLemmas
+pub mod EscapeLemmas
+pub mod NumberLemmas
+pub mod PlaceLemmas
+pub mod Rows
+pub mod Rulesets
+pub mod StringLemmas
+pub mod TokenLemmas
+pub mod Unfold
