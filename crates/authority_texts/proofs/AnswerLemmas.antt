@@ -12,7 +12,6 @@ use Rattle.authority_texts.specs.AuthorityTexts.{said}
 use Rattle.authority_texts.specs.Told.{AreKnown, AreAllKnown, AreTold, AreAllTold}
 use Rattle.authority_texts.specs.declared.told.Told.{Told}
 use Rattle.cap_model.specs.values.CapValue.{CapValue}
-use Rattle.cheri_model.specs.runs.Image.{ImageParts}
 use Rattle.cheri_model.specs.runs.Machine.{MachineState}
 use Rattle.cheri_model.specs.runs.Replay.{replayed_state}
 use Rattle.explore_rights.specs.Held.{Holds}
@@ -20,13 +19,14 @@ use Rattle.explore_rights.specs.Rights.{is_within}
 use Rattle.explore_rights.specs.declared.rights.Rights.{Rights}
 use Rattle.explore_rights.proofs.RightsLemmas.{within_self, within_trans}
 use Rattle.explore_sights.specs.declared.sights.Sight.{Sight}
+use Rattle.explore_sights.specs.declared.sights.Sight.TheVariants as sight
 use Rattle.explore_turns.specs.Turns.{rest_of, rest_by}
-use Rattle.schedules.specs.declared.ranges.SweepRange.{SweepRange}
 use Rattle.shown_states.specs.Endings.{ending_of}
 use Rattle.shown_states.specs.declared.form.Ending.{Ending}
 use Rattle.shown_states.specs.declared.form.Format.{Format}
 use Rattle.states.specs.Graphs.{state_in}
-use Rattle.states.specs.Kept.{KeptParts, count, at, graph_of, IsSearch, AreAllKept}
+use Rattle.states.specs.Kept.{KeptParts, count, at, graph_of, IsKeptOf, IsSearch, AreAllKept}
+use Rattle.states.specs.Searches.{SearchParts}
 
 -- ---- the states are kept
 
@@ -117,58 +117,31 @@ found_is kept (Ok found) complete same size of_hart of_memory complete_is all re
     are_found kept found.kept found.harts.items found.memory.items complete same size of_hart of_memory complete_is all rests
 found_is kept (Err fault) complete same size of_hart of_memory complete_is all rests = tt
 
+pub kept_as : {E : Type 0} (search : SearchParts) (sees : Sight) (kept : KeptParts) (result : Result Authorities E)
+    → IfOk result (λ found. found.kept ≡ kept) → IsKeptOf search sees kept → IfOk result (λ found. IsKeptOf search sees found.kept)
+kept_as search sees kept (Ok found) same kept_of = rw same kept_of
+kept_as search sees kept (Err fault) same kept_of = tt
+
 -- ---- the answer
 
-pub answer_is : (kept : KeptParts) (format : Format) (harts : List (Vec Authority Global)) (memory : List Authority)
-    (told_harts : List (Vec Told Global)) (told_memory : List Told) → IsSearch kept → AreFound kept harts memory
-    → AreAllTold kept harts told_harts → AreTold kept memory told_memory
-    → IsAuthorityAnswer kept.image kept.sweeps kept.sight kept.limit format
-    (said format kept.complete kept.image (count kept) told_harts told_memory) (ending_of kept.complete)
-answer_is kept format harts memory told_harts told_memory search found harts_told memory_told = record {
-  kept = kept;
-  image_is = refl;
-  sweeps_are = refl;
-  sight_is = refl;
-  limit_is = refl;
-  search = search;
-  harts = harts;
-  memory = memory;
-  found = found;
-  told_harts = told_harts;
-  told_memory = told_memory;
-  harts_told = harts_told;
-  memory_told = memory_told;
-  text_is = refl;
-  ending_is = refl;
-}
-
-pub said_is : (kept : KeptParts) (format : Format) (text : List ℕ) (ending : Ending) (told_harts : List (Vec Told Global))
-    (told_memory : List Told) → IsAuthorityAnswer kept.image kept.sweeps kept.sight kept.limit format
-    (said format kept.complete kept.image (count kept) told_harts told_memory) (ending_of kept.complete)
-    → text ≡ said format kept.complete kept.image (count kept) told_harts told_memory → ending ≡ ending_of kept.complete
-    → IsAuthorityAnswer kept.image kept.sweeps kept.sight kept.limit format text ending
-said_is kept format text ending told_harts told_memory answer text_is ending_is =
-    rw (text_is, ending_is) answer
-
--- of the image, the sweeps and the limit that were asked for
-pub asked : (kept : KeptParts) (image : ImageParts) (sweeps : List SweepRange) (sight : Sight) (limit : ℕ) (format : Format) (text : List ℕ)
-    (ending : Ending) → kept.image ≡ image → kept.sweeps ≡ sweeps → kept.sight ≡ sight → kept.limit ≡ limit
-    → IsAuthorityAnswer kept.image kept.sweeps kept.sight kept.limit format text ending
-    → IsAuthorityAnswer image sweeps sight limit format text ending
-asked kept image sweeps sight limit format text ending image_is sweeps_are sight_is limit_is answer = record {
-  kept = answer.kept;
-  image_is = answer.image_is ∙ image_is;
-  sweeps_are = answer.sweeps_are ∙ sweeps_are;
-  sight_is = answer.sight_is ∙ sight_is;
-  limit_is = answer.limit_is ∙ limit_is;
-  search = answer.search;
-  harts = answer.harts;
-  memory = answer.memory;
-  found = answer.found;
-  told_harts = answer.told_harts;
-  told_memory = answer.told_memory;
-  harts_told = answer.harts_told;
-  memory_told = answer.memory_told;
-  text_is = answer.text_is;
-  ending_is = answer.ending_is;
-}
+pub answer_is : (search : SearchParts) (kept : KeptParts) (format : Format) (harts : List (Vec Authority Global)) (memory : List Authority)
+    (told_harts : List (Vec Told Global)) (told_memory : List Told) (text : List ℕ) (ending : Ending) → IsKeptOf search sight.Rights kept
+    → kept.limit ≡ search.limit → IsSearch kept → AreFound kept harts memory → AreAllTold kept harts told_harts
+    → AreTold kept memory told_memory → text ≡ said format kept.complete kept.image (count kept) told_harts told_memory
+    → ending ≡ ending_of kept.complete → IsAuthorityAnswer search format text ending
+answer_is search kept format harts memory told_harts told_memory text ending kept_of limit searched found harts_told memory_told text_is ending_is =
+    record {
+      kept = kept;
+      kept_of = kept_of;
+      limit_is = limit;
+      searched = searched;
+      harts = harts;
+      memory = memory;
+      found = found;
+      told_harts = told_harts;
+      told_memory = told_memory;
+      harts_told = harts_told;
+      memory_told = memory_told;
+      text_is = text_is;
+      ending_is = ending_is;
+    }

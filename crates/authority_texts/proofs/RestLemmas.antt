@@ -1,16 +1,15 @@
 -- What a hart holds lies within what it holds at its rest, where steps by which rights are lost are
 -- seen, or all are.
-use Rattle.std.proofs.Common.{◌≡◌, ◌≢◌, ℕ, zero, suc, ◌<◌, List, [], ◌∷◌, length, get_or, slice_get, slice_set, arith, ap, sym, ◌∙◌, refl, inl, inr, subst}
-use Rattle.std.specs.Prelude.{Bool, true, false, ◌&&◌, ◌||◌, Some, if◌then◌else◌}
+use Rattle.std.proofs.Common.{◌≡◌, ℕ, zero, suc, ◌<◌, List, [], ◌∷◌, length, get_or, slice_get, slice_set, arith, ap, sym, ◌∙◌, inl, inr, subst}
+use Rattle.std.specs.Prelude.{Bool, true, false, Some}
 use Rattle.std.specs.List.{list_any}
-use Rattle.std.proofs.lemmas.Bool.{cases_Bool, cases_eq}
+use Rattle.std.proofs.lemmas.Bool.{cases_eq}
 use Rattle.std.proofs.lemmas.List.{get_or-set_same, get_or-set_other}
 use Rattle.std.proofs.lemmas.Option.{none-some, same_Some}
 use Rattle.cheri_model.specs.runs.Machine.{MachineState, hart_at, no_hart}
 use Rattle.cheri_model.specs.steps.Hart.{HartState}
 use Rattle.authorities.specs.Authorities.{hart_values}
-use Rattle.explore_rights.specs.Held.{Holds, held_by, bounds, keeps_rights}
-use Rattle.explore_rights.specs.Rights.{is_within}
+use Rattle.explore_rights.specs.Held.{held_by, bounds}
 use Rattle.explore_rights.specs.declared.rights.Rights.{Rights}
 use Rattle.explore_rights.proofs.HeldLemmas.{bounding_any, any_bounding, kept_bounding}
 use Rattle.explore_sights.specs.Sights.{hides, sight_of}

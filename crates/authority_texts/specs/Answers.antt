@@ -11,13 +11,14 @@ use Rattle.cheri_model.specs.declared.operation.Op.{Op}
 use Rattle.cheri_model.specs.runs.Image.{ImageParts}
 use Rattle.cheri_model.specs.runs.Machine.{MachineState, opening_state}
 use Rattle.cheri_model.specs.runs.Replay.{is_legal, replayed_state}
-use Rattle.explore_sights.specs.declared.sights.Sight.{Sight}
+use Rattle.explore_sights.specs.declared.sights.Sight.TheVariants as sights
 use Rattle.schedules.specs.declared.ranges.SweepRange.{SweepRange}
 use Rattle.schedules.specs.Schedules.{AreAllowed}
 use Rattle.shown_states.specs.Endings.{ending_of}
 use Rattle.shown_states.specs.declared.form.Ending.{Ending}
 use Rattle.shown_states.specs.declared.form.Format.{Format}
-use Rattle.states.specs.Kept.{KeptParts, count, at, IsSearch}
+use Rattle.states.specs.Kept.{KeptParts, count, at, IsKeptOf, IsSearch}
+use Rattle.states.specs.Searches.{SearchParts}
 use Rattle.authority_texts.specs.AuthorityTexts.{said}
 use Rattle.authority_texts.specs.Told.{AreTold, AreAllTold}
 use Rattle.authority_texts.specs.declared.told.Told.{Told}
@@ -47,14 +48,12 @@ pub record AreFound (kept : KeptParts) (harts : List (Vec Authority Global))
 
 -- The answer: the greatest rights over the kept states, each with the witness of the first state in
 -- which just these are held.
-pub record IsAuthorityAnswer (image : ImageParts) (sweeps : List SweepRange) (sight : Sight)
-    (limit : ℕ) (format : Format) (text : List ℕ) (ending : Ending) : Type 0 where
+pub record IsAuthorityAnswer (search : SearchParts) (format : Format) (text : List ℕ)
+    (ending : Ending) : Type 0 where
   pub kept : KeptParts
-  pub image_is : kept.image ≡ image
-  pub sweeps_are : kept.sweeps ≡ sweeps
-  pub sight_is : kept.sight ≡ sight
-  pub limit_is : kept.limit ≡ limit
-  pub search : IsSearch kept
+  pub kept_of : IsKeptOf search sights.Rights kept
+  pub limit_is : kept.limit ≡ search.limit
+  pub searched : IsSearch kept
   pub harts : List (Vec Authority Global)
   pub memory : List Authority
   pub found : AreFound kept harts memory

@@ -12,12 +12,14 @@ ghost use Rattle.authority_texts.specs.AuthorityTexts.{
 };
 ghost use Rattle.order_texts.specs.OrderTexts.{order_text};
 ghost use Rattle.report_lines.specs.Texts.{line};
+ghost use Rattle.states.specs.Kept.{count};
 
 use crate::told::Told;
-use cheri_model::{Image, NoMemory};
+use cheri_model::NoMemory;
 use order_texts::write_order;
 use report_lines::{Hex, Hex64, image_json, write_json_value};
 use serde_json::{Map, Value, json, put};
+use states::Kept;
 use std::alloc::Global;
 
 /// The order that leads to rights.
@@ -91,22 +93,21 @@ fn object_of(
 pub fn write_json(
     alloc: Global,
     out: &mut String,
-    complete: bool,
-    image: &Image,
-    states: u32,
+    kept: &Kept,
     harts: &[Vec<Told>],
     memory: &[Told],
 ) -> Result<(), NoMemory>
     ensures { OnOk result (string_bytes out.new ≡ string_bytes out.old
-        ++ line (compact_text (authority_data complete image.now states harts.now memory.now))) }
+        ++ line (compact_text (authority_data kept.now.complete kept.now.image (count kept.now)
+        harts.now memory.now))) }
 {
     let harts = harts_json(alloc, harts)?;
     let memory = list_json(alloc, memory)?;
-    let image = image_json(alloc, image)?;
+    let image = image_json(alloc, kept.image())?;
     write_json_value(
         alloc,
         out,
-        object_of(alloc, complete, harts, image, memory, states)?,
+        object_of(alloc, kept.is_complete(), harts, image, memory, kept.len())?,
     )?;
     out.push_str("\n")
 }

@@ -9,12 +9,14 @@ ghost use Rattle.authority_texts.specs.AuthorityTexts.{
   rights_lines,
 };
 ghost use Rattle.report_lines.specs.Texts.{numbered};
+ghost use Rattle.states.specs.Kept.{count};
 
 use crate::told::Told;
 use cheri_model::{Image, NoMemory};
 use order_texts::write_order;
 use report_lines::{Hex, Hex64, write_image_line};
 use shown_states::write_states_line;
+use states::Kept;
 
 /// Appends the line of rights.
 #[tactic(auto, unfolding(crate::specs::AuthorityTexts::rights_line))]
@@ -75,16 +77,15 @@ fn write_head(out: &mut String, complete: bool, image: &Image, states: u32) -> R
 #[tactic(auto, unfolding(crate::specs::AuthorityTexts::authority_text))]
 pub fn write_text(
     out: &mut String,
-    complete: bool,
-    image: &Image,
-    states: u32,
+    kept: &Kept,
     harts: &[Vec<Told>],
     memory: &[Told],
 ) -> Result<(), NoMemory>
     ensures { OnOk result (string_bytes out.new ≡ string_bytes out.old
-        ++ authority_text complete image.now states harts.now memory.now) }
+        ++ authority_text kept.now.complete kept.now.image (count kept.now)
+        harts.now memory.now) }
 {
-    write_head(out, complete, image, states)?;
+    write_head(out, kept.is_complete(), kept.image(), kept.len())?;
     write_harts(out, harts)?;
     out.push_str("memory\n")?;
     write_list(out, memory)?;

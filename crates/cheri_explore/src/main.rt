@@ -3,7 +3,7 @@
 #![tactic(auto)]
 
 use explore_program::{Fault, perform, report_fault};
-use inputs::{SystemFiles, args_given};
+use inputs::{InputFault, SystemFiles, args_given};
 use std::io::{self, IsTerminal};
 use std::process::ExitCode;
 
@@ -19,9 +19,10 @@ fn main(rt: HostRuntime) -> ExitCode {
             &mut rt.stdout(),
             &mut err,
         ),
-        Err(error) if error.kind() == io::ErrorKind::OutOfMemory => {
-            report_fault(&mut err, Fault::NoMemory)
-        }
+        Err(error) if error.kind() == io::ErrorKind::OutOfMemory => report_fault(
+            &mut err,
+            Fault::Input(InputFault::NoMemory),
+        ),
         Err(_) => report_fault(&mut err, Fault::Usage),
     };
     ExitCode::from(status)

@@ -1,10 +1,10 @@
 -- What is answered is what is to be said of a search.
-use Rattle.std.proofs.Common.{◌≡◌, ℕ, ◌<◌, ◌≤◌, List, Bool, true, false, Option, Some, None, Result, Ok, Err, IfOk, refl, sym, ap, ◌∙◌, subst, string_bytes}
+use Rattle.std.proofs.Common.{◌≡◌, ℕ, ◌<◌, ◌≤◌, List, Bool, true, false, Option, Some, None, Result, Ok, Err, IfOk, refl, sym, ◌∙◌, subst, string_bytes}
 use Rattle.cheri_model.specs.declared.operation.Op.{Op}
 use Rattle.cheri_model.specs.runs.Image.{ImageParts}
 use Rattle.cheri_model.specs.runs.Machine.{MachineState}
-use Rattle.conditions.specs.declared.parts.Atom.{Atom}
-use Rattle.conditions.specs.Values.{holds}
+use Rattle.conditions.specs.declared.parts.Node.{Node}
+use Rattle.conditions.specs.Holding.{holds}
 use Rattle.schedules.specs.declared.ranges.SweepRange.{SweepRange}
 use Rattle.conditions.proofs.HidingLemmas.{hidden_keeps}
 use Rattle.explore_sights.specs.Sights.{hides, sight_of}
@@ -14,11 +14,12 @@ use Rattle.shown_states.specs.declared.answer.Answer.{Answer}
 use Rattle.shown_states.specs.declared.form.Ending.{Ending}
 use Rattle.shown_states.specs.declared.form.Ending.TheVariants.{Done, Unfinished, Nowhere}
 use Rattle.shown_states.specs.declared.form.Format.{Format}
-use Rattle.states.specs.Kept.{KeptParts, count, at, IsSearch, IsWitnessOrder, IsFirstPassing, IsWhole}
+use Rattle.states.specs.Kept.{KeptParts, count, at, IsKeptOf, IsSearch, IsWitnessOrder, IsFirstPassing, IsWhole}
+use Rattle.states.specs.Searches.{SearchParts}
 use Rattle.found_texts.specs.FoundTexts.{found, absent, absent_ending}
 use Rattle.found_texts.specs.Find.{IsLed, IsShortened, IsShown, Says, IsFindAnswer}
 
-pub led_witness : (every : Bool) (condition : List Atom) (kept : KeptParts) (number : ℕ) (order : List Op) (state : MachineState)
+pub led_witness : (every : Bool) (condition : List Node) (kept : KeptParts) (number : ℕ) (order : List Op) (state : MachineState)
     → at kept number ≡ Some state → IsWitnessOrder kept.image kept.sweeps kept.sight state order
     → ((s : MachineState) → at kept number ≡ Some s → holds s condition ≡ true)
     → IsLed every condition kept number order state
@@ -31,7 +32,7 @@ led_witness every condition kept number order state there witness passes = recor
   least = λ asked. (there, witness);
 }
 
-pub led_shortened : (every : Bool) (condition : List Atom) (kept : KeptParts) (number : ℕ) (order : List Op) (state : MachineState)
+pub led_shortened : (every : Bool) (condition : List Node) (kept : KeptParts) (number : ℕ) (order : List Op) (state : MachineState)
     (image : ImageParts) (sweeps : List SweepRange) → every ≡ false → kept.image ≡ image → kept.sweeps ≡ sweeps
     → IsShortened image condition sweeps order state → IsLed every condition kept number order state
 led_shortened every condition kept number order state image sweeps fails image_is sweeps_are short = record {
@@ -40,7 +41,7 @@ led_shortened every condition kept number order state image sweeps fails image_i
   least = λ asked. let clash : false ≡ true = sym fails ∙ asked in absurd (cc);
 }
 
-pub shown_is : (every : Bool) (condition : List Atom) (format : Format) (kept : KeptParts) (number : ℕ) (state : MachineState)
+pub shown_is : (every : Bool) (condition : List Node) (format : Format) (kept : KeptParts) (number : ℕ) (state : MachineState)
     (image : ImageParts) (order items : List Op) (text : List ℕ) → IsLed every condition kept number items state → image ≡ kept.image
     → order ≡ items → text ≡ found format image order state → IsShown every condition format kept number text
 shown_is every condition format kept number state image order items text led image_is order_is text_is = record {
@@ -55,25 +56,20 @@ pub passing_first : (kept : KeptParts) (passing : MachineState → Bool) (found 
 passing_first kept passing found k first is =
     let so : IsFirstPassing kept passing (Some k) = subst (λ (o : Option ℕ). IsFirstPassing kept passing o) is first in (so.0, so.1)
 
-pub answer_is : (kept : KeptParts) (image : ImageParts) (condition : List Atom) (sweeps : List SweepRange) (every : Bool) (limit : ℕ)
-    (format : Format) (number : Option ℕ) (text : List ℕ) (ending : Ending) → kept.image ≡ image → kept.sweeps ≡ sweeps
-    → kept.sight ≡ sight_of every (sights.Condition condition) → IsSearch kept → kept.limit ≤ limit
-    → IsFirstPassing kept (λ s. holds s condition) number → (number ≡ None → IsWhole kept limit)
-    → Says every condition format kept number text ending
-    → IsFindAnswer image condition sweeps every limit format text ending
-answer_is kept image condition sweeps every limit format number text ending image_is sweeps_are sight_is search within first whole says =
-    record {
-      kept = kept;
-      image_is = image_is;
-      sweeps_are = sweeps_are;
-      sight_is = sight_is;
-      search = search;
-      within = within;
-      number = number;
-      first = first;
-      whole = whole;
-      says = says;
-    }
+pub answer_is : (search : SearchParts) (kept : KeptParts) (condition : List Node) (format : Format) (number : Option ℕ) (text : List ℕ)
+    (ending : Ending) → IsKeptOf search (sights.Condition condition) kept → IsSearch kept → kept.limit ≤ search.limit
+    → IsFirstPassing kept (λ s. holds s condition) number → (number ≡ None → IsWhole kept search.limit)
+    → Says search.every_step condition format kept number text ending → IsFindAnswer search condition format text ending
+answer_is search kept condition format number text ending kept_of searched within first whole says = record {
+  kept = kept;
+  kept_of = kept_of;
+  searched = searched;
+  within = within;
+  number = number;
+  first = first;
+  whole = whole;
+  says = says;
+}
 
 none_says : (format : Format) (kept : KeptParts) (complete : Bool) (image : ImageParts) (states : ℕ) → complete ≡ kept.complete
     → image ≡ kept.image → states ≡ count kept
@@ -92,13 +88,13 @@ nowhere_complete true ending is none = refl
 nowhere_complete false ending is none = let clash : Unfinished ≡ Nowhere = sym is ∙ none in cc
 
 -- a state that was found, or none
-pub some_said : (every : Bool) (condition : List Atom) (format : Format) (kept : KeptParts) (found : Option ℕ) (number : ℕ)
+pub some_said : (every : Bool) (condition : List Node) (format : Format) (kept : KeptParts) (found : Option ℕ) (number : ℕ)
     (text : List ℕ) → found ≡ Some number → IsShown every condition format kept number text
     → Says every condition format kept found text Done
 some_said every condition format kept found number text is shown =
     subst (λ (o : Option ℕ). Says every condition format kept o text Done) (sym is) (shown, refl)
 
-pub none_answers : {E : Type 0} (every : Bool) (condition : List Atom) (format : Format) (kept : KeptParts) (found : Option ℕ)
+pub none_answers : {E : Type 0} (every : Bool) (condition : List Node) (format : Format) (kept : KeptParts) (found : Option ℕ)
     (result : Result Answer E) → found ≡ None
     → IfOk result (λ answer. Says every condition format kept None (string_bytes answer.text) answer.ending)
     → IfOk result (λ answer. Says every condition format kept found (string_bytes answer.text) answer.ending)
@@ -113,15 +109,15 @@ none_nowhere kept found (Ok answer) is all = λ ended. (is, all ended)
 none_nowhere kept found (Err fault) is all = tt
 
 -- a condition still holds after a step that the search doesn't see
-seen : (condition : List Atom) → KeepsPassing (hides sights.EveryStep) (λ s. holds s condition)
+seen : (condition : List Node) → KeepsPassing (hides sights.EveryStep) (λ s. holds s condition)
 unfolding hides
 seen condition s l before after here hidden passes = absurd (cc)
 
-unseen : (condition : List Atom) → KeepsPassing (hides (sights.Condition condition)) (λ s. holds s condition)
+unseen : (condition : List Node) → KeepsPassing (hides (sights.Condition condition)) (λ s. holds s condition)
 unfolding hides
 unseen condition s l before after here hidden passes = hidden_keeps condition before after s l hidden here passes
 
-pub unseen_by : (every : Bool) (condition : List Atom) → KeepsPassing (hides (sight_of every (sights.Condition condition)))
+pub unseen_by : (every : Bool) (condition : List Node) → KeepsPassing (hides (sight_of every (sights.Condition condition)))
     (λ s. holds s condition)
 unseen_by true condition = seen condition
 unseen_by false condition = unseen condition

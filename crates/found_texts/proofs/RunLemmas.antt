@@ -1,12 +1,10 @@
 -- What a machine takes of an order, and what sweeps are allowed.
-use Rattle.std.proofs.Common.{◌≡◌, ℕ, zero, suc, ◌+◌, ◌<◌, List, [], ◌∷◌, ◌++◌, take, length, get_or, Option, Some, None, sym, ap, ◌∙◌, subst, refl, arith}
-use Rattle.std.specs.Prelude.{true, IsTrue}
+use Rattle.std.proofs.Common.{◌≡◌, ℕ, ◌+◌, List, [], ◌∷◌, ◌++◌, None, sym, subst}
 use Rattle.cheri_model.specs.declared.operation.Op.{Op}
 use Rattle.cheri_model.specs.runs.Image.{ImageParts}
-use Rattle.cheri_model.specs.runs.Machine.{MachineState, opening_state}
-use Rattle.cheri_model.specs.runs.Replay.{is_legal, replayed_state, operations_of}
+use Rattle.cheri_model.specs.runs.Replay.{operations_of}
 use Rattle.cores.specs.Cores.{CoreParts, IsCore}
-use Rattle.cores.specs.Runs.{Run, Stop, run_of, before_stop, TakesAll}
+use Rattle.cores.specs.Runs.{Run, run_of, TakesAll}
 use Rattle.cores.proofs.RunLemmas.{take_all}
 use Rattle.schedules.specs.Schedules.{AreAllowed, IsAllowed}
 use Rattle.schedules.specs.declared.ranges.SweepRange.{SweepRange}

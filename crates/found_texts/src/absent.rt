@@ -3,7 +3,13 @@
 ghost use Rattle.std.specs.Prelude.{◌≡◌, ◌++◌, IfOk, OnOk, string_bytes};
 ghost use Rattle.serde_json.specs.View.{view as data_of};
 ghost use Rattle.serde_json.specs.Written.{compact_text};
-ghost use Rattle.found_texts.specs.FoundTexts.{absent, absent_answer, absent_data, absent_joint, absent_line};
+ghost use Rattle.found_texts.specs.FoundTexts.{
+  absent,
+  absent_answer,
+  absent_data,
+  absent_joint,
+  absent_line,
+};
 ghost use Rattle.report_lines.specs.Texts.{line};
 
 use cheri_model::{Image, NoMemory};

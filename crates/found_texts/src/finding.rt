@@ -15,8 +15,7 @@ ghost use Rattle.std.specs.Prelude.{
   IfSome,
 };
 ghost use Rattle.cheri_model.specs.runs.Machine.{MachineState, opening_state};
-ghost use Rattle.conditions.specs.Values.{holds};
-ghost use Rattle.explore_sights.specs.Sights.{sight_of};
+ghost use Rattle.conditions.specs.Holding.{holds};
 ghost use Rattle.found_texts.specs.Find.{
   IsFindAnswer,
   IsLed,
@@ -26,9 +25,9 @@ ghost use Rattle.found_texts.specs.Find.{
 };
 ghost use Rattle.found_texts.specs.FoundTexts.{absent, absent_ending};
 ghost use Rattle.shown_states.specs.Endings.{failures_of, IsUnwritten, IsWritten};
-ghost use Rattle.shown_states.specs.Searches.{IsSearchable};
 ghost use Rattle.shown_states.specs.declared.form.Ending.{Ending};
-ghost use Rattle.states.specs.Kept.{at, count, IsFirstPassing, IsWitnessOrder};
+ghost use Rattle.states.specs.Kept.{at, count, IsFirstPassing, IsKeptOf, IsWitnessOrder};
+ghost use Rattle.states.specs.Searches.{IsSearchable, search_of};
 
 use crate::absent::absent_text;
 use crate::running::{are_allowed, ran};
@@ -39,9 +38,9 @@ use conditions::Condition;
 use cores::Core;
 use explore_sights::Sight;
 use graph_search::Progress;
-use shown_states::{Answer, ConditionTest, Ending, Format, Loaded, Search, put_answer};
+use shown_states::{Answer, ConditionTest, Ending, Format, Loaded, put_answer};
 use sinks::{Sink, WriteFault};
-use states::{Found, Kept, find_from};
+use states::{Found, Kept, Search, find_from};
 use std::alloc::{AllocError, Global};
 
 /// An order, and the state that it leaves.
@@ -154,17 +153,17 @@ fn answer_of(
     alloc: Global,
     search: &Search<'_>,
     condition: &Condition,
+    format: Format,
     core: &Core,
     found: &Found,
 ) -> Result<Answer, NoMemory>
     requires opening { core.now.state ≡ opening_state found.now.kept.image }
-    requires image { found.now.kept.image ≡ search.now.image.now }
-    requires sweeps { found.now.kept.sweeps ≡ search.now.sweeps.now }
+    requires kept_of { IsKeptOf (search_of search.now) (Sight.Condition condition.now)
+        found.now.kept }
     requires first { IsFirstPassing found.now.kept (λ s. holds s condition.now)
         found.now.state }
     ensures says { IfOk result (λ answer. Says search.now.every_step condition.now
-        search.now.format found.now.kept found.now.state (string_bytes answer.text)
-        answer.ending) }
+        format found.now.kept found.now.state (string_bytes answer.text) answer.ending) }
     ensures nowhere { IfOk result (λ answer. answer.ending ≡ Ending.Nowhere
         → (found.now.state ≡ None) × (found.now.kept.complete ≡ true)) }
 {
@@ -172,32 +171,14 @@ fn answer_of(
         Some(number) => {
             let led = led_to(alloc, search, condition, core, &found.kept, number)?;
             let image = found.kept.image();
-            let text = found_text(
-                alloc,
-                search.format,
-                image,
-                led.order.as_slice(),
-                &led.state,
-            )?;
+            let text = found_text(alloc, format, image, led.order.as_slice(), &led.state)?;
             Ok(Answer {
                 text,
                 ending: Ending::Done,
             })
         }
-        None => none_found(alloc, search.format, &found.kept),
+        None => none_found(alloc, format, &found.kept),
     }
-}
-
-/// What a search sees: every step, where that is asked for, else those that the condition sees.
-/// Fails only when out of memory.
-fn sight_of(alloc: Global, every_step: bool, condition: &Condition) -> Result<Sight, AllocError>
-    ensures { IfOk result (λ sight. sight
-        ≡ sight_of every_step (Sight.Condition condition.now)) }
-{
-    if every_step {
-        return Ok(Sight::EveryStep);
-    }
-    Ok(Sight::Condition(condition.copy(alloc)?))
 }
 
 /// The machine of an image before its first step.
@@ -210,48 +191,53 @@ pub fn opened(alloc: Global, image: &Image) -> Result<Core, NoMemory>
     }
 }
 
-/// Searches the states that an image reaches, by steps of its harts and sweeps, for one in which a
-/// condition holds, and writes such a state with an order that leads to it; or that none was found,
-/// of so many states. Where memory runs out, nothing is written; where the sink fails, it took a
-/// prefix of the answer.
+/// The answer to a search for a state in which a condition holds.
+fn answer_found<P: Progress>(
+    alloc: Global,
+    search: &Search<'_>,
+    condition: &Condition,
+    format: Format,
+    progress: &mut P,
+) -> Result<Answer, NoMemory>
+    requires { IsSearchable (search_of search.now) }
+    ensures says { IfOk result (λ answer. IsFindAnswer (search_of search.now) condition.now format
+        (string_bytes answer.text) answer.ending) }
+    ensures nowhere { IfOk result (λ answer. answer.ending ≡ Ending.Nowhere
+        → IsNowhere (search_of search.now) condition.now) }
+{
+    let core = opened(alloc, search.image)?;
+    let seen = condition.copy(alloc)?;
+    let sees = Sight::Condition(seen);
+    let test = ConditionTest { condition };
+    let found = find_from(alloc, search, &sees, &core, &test, progress)?;
+    // Its clause says that this is a search.
+    let _count = found.kept.len();
+    answer_of(alloc, search, condition, format, &core, &found)
+}
+
+/// Searches the states that an image reaches for one in which a condition holds, and writes such a
+/// state with an order that leads to it; or that none was found, of so many states. Where memory
+/// runs out, nothing is written; where the sink fails, it took a prefix of the answer.
 pub fn find<P: Progress, S: Sink>(
     alloc: Global,
     search: &Search<'_>,
     condition: &Condition,
+    format: Format,
     progress: &mut P,
     sink: &mut S,
 ) -> Result<Ending, WriteFault>
-    requires { IsSearchable search.now }
+    requires { IsSearchable (search_of search.now) }
     ensures written { IfOk result (λ ending. IsWritten
-        (λ text. IsFindAnswer search.now.image.now condition.now search.now.sweeps.now
-        search.now.every_step search.now.states search.now.format text ending)
+        (λ text. IsFindAnswer (search_of search.now) condition.now format text ending)
         (S.written sink.old) (S.written sink.new)) }
     ensures begun { IfErr result (IsUnwritten (λ text. (ending : Ending)
-        × IsFindAnswer search.now.image.now condition.now search.now.sweeps.now
-        search.now.every_step search.now.states search.now.format text ending)
+        × IsFindAnswer (search_of search.now) condition.now format text ending)
         (S.written sink.old) (S.written sink.new)) }
     ensures nowhere { result ≡ Ok Ending.Nowhere
-        → IsNowhere search.now.image.now condition.now search.now.sweeps.now }
+        → IsNowhere (search_of search.now) condition.now }
     ensures failures { S.failures sink.new ≡ S.failures sink.old + failures_of result }
     ensures identity { S.identity sink.new ≡ S.identity sink.old }
 {
-    let core = opened(alloc, search.image)?;
-    let view = core.view();
-    let test = ConditionTest { condition };
-    let sight = sight_of(alloc, search.every_step, condition)?;
-    let found = find_from(
-        alloc,
-        search.image,
-        view.harts,
-        view.ram,
-        search.sweeps,
-        &sight,
-        search.states,
-        &test,
-        progress,
-    )?;
-    // Its clause says that this is a search.
-    let _count = found.kept.len();
-    let answer = answer_of(alloc, search, condition, &core, &found)?;
+    let answer = answer_found(alloc, search, condition, format, progress)?;
     put_answer(sink, &answer)
 }

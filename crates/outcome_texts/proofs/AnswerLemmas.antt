@@ -1,6 +1,5 @@
 -- What was found is an answer.
-use Rattle.std.proofs.Common.{◌≡◌, ℕ, ◌<◌, ◌≤◌, List, length, Bool, true, refl, sym, ap, ◌∙◌, subst}
-use Rattle.std.specs.Prelude.{Some, slice_get}
+use Rattle.std.proofs.Common.{◌≡◌, ℕ, List, length, Bool, true, refl, sym, ◌∙◌, subst}
 use Rattle.cheri_model.specs.runs.Image.{ImageParts}
 use Rattle.cheri_model.specs.runs.Machine.{MachineState}
 use Rattle.cheri_model.specs.runs.Replay.{replayed_state}
@@ -18,52 +17,37 @@ use Rattle.outcome_texts.proofs.ToldLemmas.{all_below, all_rows_below}
 use Rattle.outcome_texts.specs.Told.{AreBelow, AreRowsBelow, AreOutcomesTold, AreRowsTold}
 use Rattle.outcome_texts.specs.declared.told.Outcome.{Outcome}
 use Rattle.outcome_texts.specs.declared.told.ShownRow.{ShownRow}
-use Rattle.explore_sights.specs.declared.sights.Sight.{Sight}
+use Rattle.explore_sights.specs.declared.sights.Sight.TheVariants.{NoStep}
 use Rattle.graph_search.specs.Trees.{IsFound}
 use Rattle.outcome_texts.proofs.RestLemmas.{final_rests}
-use Rattle.schedules.specs.declared.ranges.SweepRange.{SweepRange}
 use Rattle.shown_states.specs.Endings.{ending_of}
 use Rattle.shown_states.specs.declared.form.Ending.{Ending}
 use Rattle.shown_states.specs.declared.form.Format.{Format}
 use Rattle.state_loops.specs.Endless.{IsEndless, IsSame}
 use Rattle.state_loops.specs.declared.endless.Endless.{Endless}
-use Rattle.states.specs.Kept.{KeptParts, count, at, IsSearch, AreAllKept}
+use Rattle.states.specs.Kept.{KeptParts, count, at, IsKeptOf, IsSearch, AreAllKept}
+use Rattle.states.specs.Searches.{SearchParts}
 
-pub searched_is : (image : ImageParts) (sweeps : List SweepRange) (sight : Sight) (limit : ℕ) (old kept : KeptParts) (endless : Endless)
-    (numbers : List ℕ) (complete : Bool) → old.image ≡ image → old.sweeps ≡ sweeps → old.sight ≡ sight → old.limit ≡ limit → IsSame old kept
-    → IsSearch kept → IsEndless kept endless → AreOutcomes kept numbers → complete ≡ kept.complete
-    → (complete ≡ true → AreAllKept kept) → IsSearched image sweeps sight limit kept endless numbers
-searched_is image sweeps sight limit old kept endless numbers complete image_is sweeps_are sight_is limit_is same search forever outcomes complete_is all =
-    record {
-      image_is = same.image ∙ image_is;
-      sweeps_are = same.sweeps ∙ sweeps_are;
-      sight_is = same.sight ∙ sight_is;
-      limit_is = same.limit ∙ limit_is;
-      search = search;
-      forever = forever;
-      outcomes = outcomes;
-      all = λ whole order allowed legal final.
-          let state = replayed_state kept.image order in
-          let rested = all (complete_is ∙ whole) order allowed legal in
-          let rests = final_rests kept.image kept.sweeps kept.sight state final in
-          let there = subst (λ (s : MachineState). IsFound (at kept) s) rests rested in
-          let within = at_within kept there.0 (replayed_state kept.image order) there.1 in
-          let one = outcomes.all there.0 (replayed_state kept.image order) within there.1 final in
-          (one.0, there.0, one.1, there.1);
-    }
-
--- the same, of what was found alone
-pub searched_kept : (image : ImageParts) (sweeps : List SweepRange) (sight : Sight) (limit : ℕ) (kept : KeptParts) (endless : Endless) (numbers : List ℕ)
-    → IsSearched image sweeps sight limit kept endless numbers → IsSearched kept.image kept.sweeps kept.sight kept.limit kept endless numbers
-searched_kept image sweeps sight limit kept endless numbers searched = record {
-  image_is = refl;
-  sweeps_are = refl;
-  sight_is = refl;
-  limit_is = refl;
-  search = searched.search;
-  forever = searched.forever;
-  outcomes = searched.outcomes;
-  all = searched.all;
+pub searched_is : (search : SearchParts) (old kept : KeptParts) (endless : Endless) (numbers : List ℕ) (complete : Bool)
+    → IsKeptOf search NoStep old → old.limit ≡ search.limit → IsSame old kept → IsSearch kept → IsEndless kept endless
+    → AreOutcomes kept numbers → complete ≡ kept.complete → (complete ≡ true → AreAllKept kept) → IsSearched search kept endless numbers
+searched_is search old kept endless numbers complete kept_of limit_is same searched forever outcomes complete_is all = record {
+  kept_of = record {
+    image_is = same.image ∙ kept_of.image_is;
+    sweeps_are = same.sweeps ∙ kept_of.sweeps_are;
+    sight_is = same.sight ∙ kept_of.sight_is;
+  };
+  limit_is = same.limit ∙ limit_is;
+  searched = searched;
+  forever = forever;
+  outcomes = outcomes;
+  all = λ whole order allowed legal final.
+      let state = replayed_state kept.image order in
+      let rested = all (complete_is ∙ whole) order allowed legal in
+      let rests = final_rests kept.image kept.sweeps kept.sight state final in
+      let there = subst (λ (s : MachineState). IsFound (at kept) s) rests rested in
+      let within = at_within kept there.0 (replayed_state kept.image order) there.1 in
+      let one = outcomes.all there.0 (replayed_state kept.image order) within there.1 final in (one.0, there.0, one.1, there.1);
 }
 
 -- an answer in other words
@@ -83,12 +67,11 @@ rows_below kept value numbers rows are distinct =
 
 -- ---- outcomes as states
 
-pub listed_said : (kept : KeptParts) (endless told : Endless) (numbers : List ℕ) (format : Format) (outcomes : List Outcome)
-    (complete : Bool) (image : ImageParts) (states : ℕ) → IsSearched kept.image kept.sweeps kept.sight kept.limit kept endless numbers
+pub listed_said : (search : SearchParts) (kept : KeptParts) (endless told : Endless) (numbers : List ℕ) (format : Format)
+    (outcomes : List Outcome) (complete : Bool) (image : ImageParts) (states : ℕ) → IsSearched search kept endless numbers
     → AreOutcomesTold kept numbers outcomes → complete ≡ kept.complete → image ≡ kept.image → states ≡ count kept → told ≡ endless
-    → IsListedAnswer kept.image kept.sweeps kept.sight kept.limit format (listed_whole format complete image states told kept outcomes)
-    (ending_of kept.complete)
-listed_said kept endless told numbers format outcomes complete image states searched outcomes_told complete_is image_is states_are told_is =
+    → IsListedAnswer search format (listed_whole format complete image states told kept outcomes) (ending_of kept.complete)
+listed_said search kept endless told numbers format outcomes complete image states searched outcomes_told complete_is image_is states_are told_is =
     record {
       kept = kept;
       endless = endless;
@@ -99,15 +82,6 @@ listed_said kept endless told numbers format outcomes complete image states sear
       text_is = rw (complete_is, image_is, states_are, told_is) (sym (listed_is format kept endless outcomes));
       ending_is = refl;
     }
-
-pub listed_asked : (kept : KeptParts) (image : ImageParts) (sweeps : List SweepRange) (sight : Sight) (limit : ℕ) (format : Format) (text : List ℕ)
-    (ending : Ending) → kept.image ≡ image → kept.sweeps ≡ sweeps → kept.sight ≡ sight → kept.limit ≡ limit
-    → IsListedAnswer kept.image kept.sweeps kept.sight kept.limit format text ending → IsListedAnswer image sweeps sight limit format text ending
-listed_asked kept image sweeps sight limit format text ending image_is sweeps_are sight_is limit_is answer =
-    subst (λ (i : ImageParts). IsListedAnswer i sweeps sight limit format text ending) image_is
-    (subst (λ (s : List SweepRange). IsListedAnswer kept.image s sight limit format text ending) sweeps_are
-    (subst (λ (v : Sight). IsListedAnswer kept.image kept.sweeps v limit format text ending) sight_is
-    (subst (λ (n : ℕ). IsListedAnswer kept.image kept.sweeps kept.sight n format text ending) limit_is answer)))
 
 -- ---- outcomes as rows
 
@@ -125,14 +99,14 @@ rows_known kept items shown rows given told shown_rows shown_is given_are rows_a
     (subst (λ (rs : List Row). AreRowsTold kept items rs told) given_are
     (subst (λ (i : List Shown). AreRowsTold kept i given told) shown_is known))
 
-pub shown_said : (kept : KeptParts) (items : ItemList) (endless told : Endless) (numbers : List ℕ) (format : Format) (rows : List Row)
+pub shown_said : (search : SearchParts) (kept : KeptParts) (items : ItemList) (endless told : Endless) (numbers : List ℕ) (format : Format) (rows : List Row)
     (shown_rows : List ShownRow) (complete : Bool) (image : ImageParts) (states outcomes : ℕ) (names : List (List ℕ))
-    → IsSearched kept.image kept.sweeps kept.sight kept.limit kept endless numbers → AreRows (values_at kept items.shown) numbers rows
+    → IsSearched search kept endless numbers → AreRows (values_at kept items.shown) numbers rows
     → AreRowsTold kept items.shown rows shown_rows → complete ≡ kept.complete → image ≡ kept.image → states ≡ count kept → told ≡ endless
     → outcomes ≡ length numbers → names ≡ items.names
-    → IsShownAnswer kept.image items kept.sweeps kept.sight kept.limit format
+    → IsShownAnswer search items format
     (shown_whole format complete image states told outcomes names shown_rows) (ending_of kept.complete)
-shown_said kept items endless told numbers format rows shown_rows complete image states outcomes names searched distinct rows_told
+shown_said search kept items endless told numbers format rows shown_rows complete image states outcomes names searched distinct rows_told
     complete_is image_is states_are told_is outcomes_are names_are =
     record {
       kept = kept;
@@ -148,13 +122,3 @@ shown_said kept items endless told numbers format rows shown_rows complete image
           (sym (shown_is format items.names kept endless (length numbers) shown_rows));
       ending_is = refl;
     }
-
-pub shown_asked : (kept : KeptParts) (items : ItemList) (image : ImageParts) (sweeps : List SweepRange) (sight : Sight) (limit : ℕ) (format : Format)
-    (text : List ℕ) (ending : Ending) → kept.image ≡ image → kept.sweeps ≡ sweeps → kept.sight ≡ sight → kept.limit ≡ limit
-    → IsShownAnswer kept.image items kept.sweeps kept.sight kept.limit format text ending
-    → IsShownAnswer image items sweeps sight limit format text ending
-shown_asked kept items image sweeps sight limit format text ending image_is sweeps_are sight_is limit_is answer =
-    subst (λ (i : ImageParts). IsShownAnswer i items sweeps sight limit format text ending) image_is
-    (subst (λ (s : List SweepRange). IsShownAnswer kept.image items s sight limit format text ending) sweeps_are
-    (subst (λ (v : Sight). IsShownAnswer kept.image items kept.sweeps v limit format text ending) sight_is
-    (subst (λ (n : ℕ). IsShownAnswer kept.image items kept.sweeps kept.sight n format text ending) limit_is answer)))

@@ -7,7 +7,7 @@ use Rattle.serde_json.specs.View.{items_of}
 use Rattle.serde_json.specs.Written.{comma_if, compact_text}
 use Rattle.cheri_model.specs.runs.Machine.{MachineState}
 use Rattle.outcome_texts.specs.EndlessTexts.{endless_data}
-use Rattle.outcome_texts.specs.OutcomeTexts.{head_lines, listed, listed_text, listed_data, kept_lines, kept_data, outcome_line, outcome_lines, outcome_data, shown, shown_text, shown_data, row_line, row_data}
+use Rattle.outcome_texts.specs.OutcomeTexts.{head_lines, listed, listed_text, listed_data, kept_lines, kept_data, outcome_line, outcome_lines, outcome_data, shown, shown_text, shown_data, row_data}
 use Rattle.outcome_texts.specs.OutcomeParts.{complete_text, json_head, kept_part, listed_parts, listed_whole, outcome_part, outcome_before, outcome_after, shown_whole, shown_lines, shown_json}
 use Rattle.outcome_texts.specs.declared.told.Outcome.{Outcome}
 use Rattle.outcome_texts.specs.declared.told.ShownRow.{ShownRow}
@@ -17,7 +17,7 @@ use Rattle.report_lines.specs.Texts.{numbered, line}
 use Rattle.report_lines.specs.ValueData.{count}
 use Rattle.report_lines.proofs.JsonLists.{list_text}
 use Rattle.reports.specs.Json.{harts_data, memory_data}
-use Rattle.shown_states.specs.StateTexts.{shown_state, state_lines, state_members}
+use Rattle.shown_states.specs.StateTexts.{shown_state, state_members}
 use Rattle.shown_states.specs.declared.form.Format.{Format}
 use Rattle.shown_states.specs.declared.form.Format.TheVariants.{Text, Json}
 use Rattle.state_loops.specs.declared.endless.Endless.{Endless}

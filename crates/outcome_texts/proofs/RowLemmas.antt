@@ -1,9 +1,9 @@
 -- What items hold, one more at a time.
-use Rattle.std.proofs.Common.{◌≡◌, ℕ, zero, suc, ◌+◌, ◌<◌, ◌≤◌, Bool, false, List, [], ◌∷◌, ◌++◌, length, drop, map, codes, arith, refl, sym, ◌∙◌, append_assoc, append-nil, add-one, drop-cons, inl, inr, ◌⊎◌}
+use Rattle.std.proofs.Common.{◌≡◌, ℕ, ◌+◌, ◌<◌, ◌≤◌, false, List, [], ◌∷◌, ◌++◌, length, drop, map, arith, refl, sym, ◌∙◌, append_assoc, append-nil, add-one, drop-cons, inl, inr, ◌⊎◌}
 use Rattle.std.proofs.Math.ListN.{drop_of_length-le}
 use Rattle.std.proofs.lemmas.Bool.{cases_lt}
 use Rattle.std.specs.Prelude.{min, slice_index_or}
-use Rattle.serde_json.specs.Data.{Data, Members, string, object, no_members, member, put}
+use Rattle.serde_json.specs.Data.{Members, string, no_members, put}
 use Rattle.serde_json.specs.Written.{has_float, members_have_float}
 use Rattle.outcome_texts.specs.OutcomeTexts.{items_text, item_value_text, put_items, row_data}
 use Rattle.outcome_texts.specs.OutcomeParts.{item_part}

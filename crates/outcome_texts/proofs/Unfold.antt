@@ -1,9 +1,8 @@
 -- Names for `unfolding(..)` that open what their own line names.
 use Rattle.std.specs.Prelude.{ℕ, List}
-use Rattle.outcome_texts.specs.OutcomeTexts.{outcome_line, outcome_lines, outcome_data, row_line, row_data}
+use Rattle.outcome_texts.specs.OutcomeTexts.{outcome_line, row_line, row_data}
 use Rattle.outcome_texts.specs.OutcomeParts.{listed_parts, listed_whole, shown_lines, shown_json}
 use Rattle.report_lines.specs.JsonText.{item_text}
-use Rattle.shown_states.specs.StateTexts.{state_members}
 
 unfoldable pub listed : ℕ → List ℕ → List ℕ
 unfolding outcome_line listed_parts listed_whole

@@ -1,5 +1,5 @@
 -- What is said of outcomes: of each its state, or of each row of values how many have it.
-use Rattle.std.specs.Prelude.{ℕ, Bool, if◌then◌else◌, List, [], ◌∷◌, ◌++◌, length, map, codes}
+use Rattle.std.specs.Prelude.{ℕ, Bool, List, [], ◌∷◌, ◌++◌, length, map, codes}
 use Rattle.std.specs.Prelude.{decimal, string_bytes}
 use Rattle.serde_json.specs.Data.{Data, Members, string, boolean, array, object, no_members}
 use Rattle.serde_json.specs.Data.{member, put}

@@ -3,13 +3,11 @@
 ghost use Rattle.std.specs.Prelude.{◌≡◌, ◌+◌, IfOk, IfErr, string_bytes};
 ghost use Rattle.cheri_model.specs.runs.Machine.{opening_state};
 ghost use Rattle.conditions.specs.Items.{list_of};
-ghost use Rattle.explore_sights.specs.declared.sights.Sight.TheVariants.{NoStep};
-ghost use Rattle.explore_sights.specs.Sights.{sight_of};
-ghost use Rattle.shown_states.specs.Searches.{IsSearchable};
 ghost use Rattle.outcome_texts.specs.Answers.{IsFound, IsListedAnswer, IsShownAnswer};
 ghost use Rattle.shown_states.specs.Endings.{ending_of, failures_of, IsUnwritten, IsWritten};
 ghost use Rattle.shown_states.specs.declared.form.Ending.{Ending};
 ghost use Rattle.states.specs.Kept.{count};
+ghost use Rattle.states.specs.Searches.{IsSearchable, search_of};
 
 use crate::heads::Head;
 use crate::listed::listed_text;
@@ -18,14 +16,14 @@ use crate::shown::shown_text;
 use crate::told::{outcomes_told, rows_told};
 use cheri_model::NoMemory;
 use conditions::Items;
+use cores::Core;
 use found_texts::opened;
 use graph_search::Progress;
-use hart::Hart;
 use outcomes::rows_of;
-use shown_states::{Answer, Ending, Format, Loaded, Search, put_answer};
+use shown_states::{Answer, Ending, Format, Loaded, put_answer};
 use sinks::{Sink, WriteFault};
+use states::Search;
 use std::alloc::Global;
-use tagged_mem::Ram;
 
 impl Searched {
     /// Whether an answer speaks of all states.
@@ -54,22 +52,21 @@ fn head_of(searched: &Searched) -> Head<'_>
 /// The answer of the outcomes that were found.
 fn listed_answer(
     alloc: Global,
+    search: &Search<'_>,
     format: Format,
-    harts: &[Hart],
-    ram: &Ram,
+    core: &Core,
     searched: &Searched,
 ) -> Result<Answer, NoMemory>
-    requires found { IsFound searched.now }
-    requires opening { opening_state searched.now.kept.image
-        ≡ record { harts = harts.now; memory = ram.now } }
-    ensures { IfOk result (λ answer. IsListedAnswer searched.now.kept.image
-        searched.now.kept.sweeps searched.now.kept.sight searched.now.kept.limit format
+    requires found { IsFound (search_of search.now) searched.now }
+    requires opening { core.now.state ≡ opening_state search.now.image.now }
+    ensures { IfOk result (λ answer. IsListedAnswer (search_of search.now) format
         (string_bytes answer.text) answer.ending) }
 {
     // Its clause says that the image is one.
     let _granules = searched.kept.image().granules();
     let told = outcomes_told(alloc, &searched.kept, searched.outcomes.as_slice())?;
-    let mut state = Loaded::new(alloc, harts, ram)?;
+    let view = core.view();
+    let mut state = Loaded::new(alloc, view.harts, view.ram)?;
     let head = head_of(searched);
     let text = listed_text(
         alloc,
@@ -86,14 +83,14 @@ fn listed_answer(
 /// The answer of the rows of the outcomes that were found.
 fn shown_answer(
     alloc: Global,
-    format: Format,
+    search: &Search<'_>,
     items: &Items<'_>,
+    format: Format,
     searched: &Searched,
 ) -> Result<Answer, NoMemory>
-    requires found { IsFound searched.now }
-    ensures { IfOk result (λ answer. IsShownAnswer searched.now.kept.image (list_of items.now)
-        searched.now.kept.sweeps searched.now.kept.sight searched.now.kept.limit format
-        (string_bytes answer.text) answer.ending) }
+    requires found { IsFound (search_of search.now) searched.now }
+    ensures { IfOk result (λ answer. IsShownAnswer (search_of search.now) (list_of items.now)
+        format (string_bytes answer.text) answer.ending) }
 {
     let shown = items.shown.as_slice();
     let outcomes = searched.outcomes.as_slice();
@@ -106,34 +103,61 @@ fn shown_answer(
     Ok(Answer { text, ending })
 }
 
-/// Searches the states that an image reaches, by steps of its harts and sweeps, and writes those
-/// in which no hart runs, each with the order that leads to it. Where memory runs out, nothing is
-/// written; where the sink fails, it took a prefix of the answer.
+/// The answer to a search for outcomes.
+fn answer_listed<P: Progress>(
+    alloc: Global,
+    search: &Search<'_>,
+    format: Format,
+    progress: &mut P,
+) -> Result<Answer, NoMemory>
+    requires { IsSearchable (search_of search.now) }
+    ensures { IfOk result (λ answer. IsListedAnswer (search_of search.now) format
+        (string_bytes answer.text) answer.ending) }
+{
+    let core = opened(alloc, search.image)?;
+    let searched = search_outcomes(alloc, search, &core, progress)?;
+    listed_answer(alloc, search, format, &core, &searched)
+}
+
+/// The answer to a search for outcomes of which items are shown.
+fn answer_shown<P: Progress>(
+    alloc: Global,
+    search: &Search<'_>,
+    items: &Items<'_>,
+    format: Format,
+    progress: &mut P,
+) -> Result<Answer, NoMemory>
+    requires { IsSearchable (search_of search.now) }
+    ensures { IfOk result (λ answer. IsShownAnswer (search_of search.now) (list_of items.now)
+        format (string_bytes answer.text) answer.ending) }
+{
+    let core = opened(alloc, search.image)?;
+    let searched = search_outcomes(alloc, search, &core, progress)?;
+    shown_answer(alloc, search, items, format, &searched)
+}
+
+/// Searches the states that an image reaches, and writes those in which no hart runs, each with the
+/// order that leads to it. Where memory runs out, nothing is written; where the sink fails, it took
+/// a prefix of the answer.
 pub fn list_outcomes<P: Progress, S: Sink>(
     alloc: Global,
     search: &Search<'_>,
+    format: Format,
     progress: &mut P,
     sink: &mut S,
 ) -> Result<Ending, WriteFault>
-    requires { IsSearchable search.now }
+    requires { IsSearchable (search_of search.now) }
     ensures written { IfOk result (λ ending. IsWritten
-        (λ text. IsListedAnswer search.now.image.now search.now.sweeps.now
-        (sight_of search.now.every_step NoStep) search.now.states search.now.format
-        text ending)
+        (λ text. IsListedAnswer (search_of search.now) format text ending)
         (S.written sink.old) (S.written sink.new)) }
     ensures begun { IfErr result (IsUnwritten (λ text. (ending : Ending)
-        × IsListedAnswer search.now.image.now search.now.sweeps.now
-        (sight_of search.now.every_step NoStep) search.now.states search.now.format
-        text ending)
+        × IsListedAnswer (search_of search.now) format text ending)
         (S.written sink.old) (S.written sink.new)) }
     ensures failures { S.failures sink.new ≡ S.failures sink.old + failures_of result }
     ensures identity { S.identity sink.new ≡ S.identity sink.old }
 {
-    let core = opened(alloc, search.image)?;
-    let searched = search_outcomes(alloc, search, &core, progress)?;
-    let view = core.view();
-    let listed = listed_answer(alloc, search.format, view.harts, view.ram, &searched)?;
-    put_answer(sink, &listed)
+    let answer = answer_listed(alloc, search, format, progress)?;
+    put_answer(sink, &answer)
 }
 
 /// The same, told by what items hold in the states: each distinct row of values, with how many
@@ -142,25 +166,20 @@ pub fn show_outcomes<P: Progress, S: Sink>(
     alloc: Global,
     search: &Search<'_>,
     items: &Items<'_>,
+    format: Format,
     progress: &mut P,
     sink: &mut S,
 ) -> Result<Ending, WriteFault>
-    requires { IsSearchable search.now }
+    requires { IsSearchable (search_of search.now) }
     ensures written { IfOk result (λ ending. IsWritten
-        (λ text. IsShownAnswer search.now.image.now (list_of items.now) search.now.sweeps.now
-        (sight_of search.now.every_step NoStep) search.now.states search.now.format
-        text ending)
+        (λ text. IsShownAnswer (search_of search.now) (list_of items.now) format text ending)
         (S.written sink.old) (S.written sink.new)) }
     ensures begun { IfErr result (IsUnwritten (λ text. (ending : Ending)
-        × IsShownAnswer search.now.image.now (list_of items.now) search.now.sweeps.now
-        (sight_of search.now.every_step NoStep) search.now.states search.now.format
-        text ending)
+        × IsShownAnswer (search_of search.now) (list_of items.now) format text ending)
         (S.written sink.old) (S.written sink.new)) }
     ensures failures { S.failures sink.new ≡ S.failures sink.old + failures_of result }
     ensures identity { S.identity sink.new ≡ S.identity sink.old }
 {
-    let core = opened(alloc, search.image)?;
-    let searched = search_outcomes(alloc, search, &core, progress)?;
-    let shown = shown_answer(alloc, search.format, items, &searched)?;
-    put_answer(sink, &shown)
+    let answer = answer_shown(alloc, search, items, format, progress)?;
+    put_answer(sink, &answer)
 }

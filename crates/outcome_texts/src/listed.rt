@@ -161,8 +161,8 @@ fn write_tail(format: Format, out: &mut String, states: u32) -> Result<(), NoMem
     }
 }
 
-/// Outcomes as states, each with its order. Each is loaded into `state`, which has as many harts and
-/// granules. Fails only when out of memory.
+/// Outcomes as states, each with its order. Each is loaded into `state`, which has as many harts
+/// and granules. Fails only when out of memory.
 pub fn listed_text(
     alloc: Global,
     format: Format,

@@ -198,27 +198,6 @@ fn write_json(
     writeln!(out, "],\"states\":{}}}", head.states)
 }
 
-/// Appends outcomes as rows in a form.
-fn write_said(
-    alloc: Global,
-    format: Format,
-    out: &mut String,
-    head: Head<'_>,
-    outcomes: usize,
-    names: &[&str],
-    rows: &[ShownRow],
-) -> Result<(), NoMemory>
-    ensures { OnOk result (string_bytes out.new ≡ string_bytes out.old
-        ++ shown_whole format head.entry.complete head.entry.image.now
-        head.entry.states head.entry.endless.now outcomes
-        (map (λ name. name.now) names.now) rows.now) }
-{
-    match format {
-        Format::Text => write_text(out, head, outcomes, names, rows),
-        Format::Json => write_json(alloc, out, head, names, rows),
-    }
-}
-
 /// Outcomes as rows of values. Fails only when out of memory.
 pub fn shown_text(
     alloc: Global,
@@ -234,6 +213,9 @@ pub fn shown_text(
         (map (λ name. name.now) names.now) rows.now) }
 {
     let mut out = String::new(alloc);
-    write_said(alloc, format, &mut out, head, outcomes, names, rows)?;
+    match format {
+        Format::Text => write_text(&mut out, head, outcomes, names, rows)?,
+        Format::Json => write_json(alloc, &mut out, head, names, rows)?,
+    }
     Ok(out)
 }

@@ -1,4 +1,3 @@
 pub mod Endings
-pub mod Searches
 pub mod Meant
 pub mod StateTexts

@@ -5,13 +5,11 @@
 mod answer;
 mod form;
 mod loaded;
-mod searches;
 mod seen;
 mod texts;
 
 pub use answer::{Answer, put_answer};
 pub use form::{Ending, Format};
 pub use loaded::Loaded;
-pub use searches::Search;
 pub use seen::{ConditionTest, SeenState};
 pub use texts::{write_json_string, write_state, write_states_line};

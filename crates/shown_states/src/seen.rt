@@ -4,7 +4,7 @@ ghost use Rattle.std.specs.Prelude.{◌≡◌, ◌<◌, length, Some, IsSome};
 ghost use Rattle.cheri_model.specs.runs.Machine.{MachineState, hart_at};
 ghost use Rattle.cheri_model.specs.steps.Hart.{register};
 ghost use Rattle.cheri_model.specs.steps.Memory.{granule_at};
-ghost use Rattle.conditions.specs.Values.{holds};
+ghost use Rattle.conditions.specs.Holding.{holds};
 ghost use Rattle.state_store.specs.Stores.{state_of};
 
 use cap_ops::Cap;

@@ -1,5 +1,5 @@
 -- What a verdict says of the machine's runs.
-use Rattle.std.proofs.Common.{◌≡◌, ℕ, zero, suc, ◌+◌, ◌*◌, ◌<◌, ◌≤◌, List, [], ◌∷◌, ◌++◌, length, arith, sym, ◌∙◌, refl, subst}
+use Rattle.std.proofs.Common.{◌≡◌, ℕ, zero, suc, ◌+◌, ◌*◌, ◌<◌, List, [], ◌∷◌, ◌++◌, length, sym, ◌∙◌, refl, subst}
 use Rattle.std.specs.Prelude.{Option, Some, IsSome, true, slice_get}
 use Rattle.std.proofs.lemmas.Option.{slice_get_within, none-some, same_Some}
 use Rattle.cheri_model.specs.declared.operation.Op.{Op}
@@ -12,10 +12,10 @@ use Rattle.explore_turns.specs.Turns.{rest_by, start_by, turn_by, has_harts_of}
 use Rattle.explore_turns.proofs.OrderLemmas.{turns_labelled}
 use Rattle.explore_turns.proofs.TurnLemmas.{go_most, merging, opening_fits, is_fit, rest_reached}
 use Rattle.graph_search.proofs.TreeLemmas.{row_of}
-use Rattle.graph_search.specs.Walks.{IsWalk, IsReachable}
+use Rattle.graph_search.specs.Walks.{IsReachable}
 use Rattle.graph_merging.proofs.CountLemmas.{walks_bounded}
 use Rattle.graph_loops.proofs.ChainLemmas.{Chain, LeadsFairly, walk_append, walk_short, fair_chain_short}
-use Rattle.graph_loops.specs.Loops.{IsKnown, actor_count}
+use Rattle.graph_loops.specs.Loops.{IsKnown}
 use Rattle.graph_loops.specs.declared.scans.Loops.TheVariants as known
 use Rattle.loop_search.specs.declared.judging.FoundLoop.{FoundLoop}
 use Rattle.loop_search.specs.Verdicts.{IsFoundLoop, IsFoundFair}
@@ -27,7 +27,7 @@ use Rattle.states.specs.Graphs.{state_in}
 use Rattle.states.specs.Kept.{KeptParts, graph_of, at, count, IsSearch}
 use Rattle.states.proofs.NodeLemmas.{node_of}
 use Rattle.state_loops.specs.declared.endless.Lasso.{Lasso}
-use Rattle.state_loops.specs.Endless.{IsLasso, IsLassoOf, IsLoop, IsFair, HasNoLoop, HasNoFairLoop, HasFewTurns, HasFewSteps, AreFairRounds, HasFewRounds, step_count}
+use Rattle.state_loops.specs.Endless.{IsLasso, IsLassoOf, IsLoop, IsFair, HasNoLoop, HasNoFairLoop, HasFewTurns, HasFewSteps, AreFairRounds, HasFewRounds}
 use Rattle.state_loops.proofs.LabelLemmas.{labels_steps, steps_takes}
 use Rattle.state_loops.proofs.TurnLemmas.{going, loop_of_turns, fair_of_turns, way_of_turns, loop_rests, labels_of_fair_turns, rest_size}
 

@@ -1,6 +1,6 @@
 -- What was kept of a search stays so while its graph learns.
 use Rattle.std.proofs.Common.{◌≡◌, ℕ, ◌+◌, ◌<◌, List, length, arith, ap, sym, ◌∙◌, refl, subst}
-use Rattle.std.specs.Prelude.{Option, Some, None, ◌==◌, if◌then◌else◌}
+use Rattle.std.specs.Prelude.{Option, Some}
 use Rattle.cheri_model.specs.runs.Image.{ImageParts}
 use Rattle.cheri_model.specs.runs.Machine.{MachineState}
 use Rattle.explore_sights.specs.declared.sights.Sight.{Sight}
@@ -15,33 +15,20 @@ use Rattle.loop_search.proofs.VerdictLemmas.{on_same}
 use Rattle.schedules.specs.declared.ranges.SweepRange.{SweepRange}
 use Rattle.states.specs.Graphs.{GraphParts, state_in, turn_in}
 use Rattle.states.specs.Kept.{kept_of, at, IsKept}
-use Rattle.state_store.specs.Stores.{state_of}
 use Rattle.state_loops.specs.Endless.{IsSame}
-
--- rows mean the same in a graph and in what is kept of it
-same_meaning : (g : GraphParts) (image : ImageParts) (sweeps : List SweepRange) (sight : Sight) →
-    length g.image.harts ≡ length image.harts →
-    state_in g ≡ state_in (record { image = image; sweeps = sweeps; sight = sight; store = g.store })
-unfolding state_in
-same_meaning g image sweeps sight same =
-    let meaning : ℕ → List ℕ → Option MachineState = λ n row. if length row == n + 1 then state_of g.store row else None in
-    ap meaning same
+use Rattle.states.proofs.MeaningLemmas.{same_meaning, states_in}
 
 module _ (image : ImageParts) (sweeps : List SweepRange) (sight : Sight) (g : GraphParts) (found : Found) (limit : ℕ)
     (kept : IsKept image sweeps sight g found limit) where
-  -- the states are those of the graph
-  states_in : at (kept_of image sweeps sight g.store found limit) ≡ state_at (state_in g) found.nodes
-  states_in = ap (λ (m : List ℕ → Option MachineState). state_at m found.nodes) (sym (same_meaning g image sweeps sight kept.harts))
-
   pub graph_meant : AreMeant (state_at (state_in g) found.nodes) (length found.nodes)
   unfolding AreMeant
   graph_meant = subst (λ (a : ℕ → Option MachineState). (i : ℕ) → i < length found.nodes →
-      (s : MachineState) × (a i ≡ Some s)) states_in kept.search.meant
+      (s : MachineState) × (a i ≡ Some s)) (states_in image sweeps sight g found limit kept) kept.search.meant
 
   pub graph_distinct : AreDistinct (state_at (state_in g) found.nodes)
   unfolding AreDistinct
   graph_distinct = subst (λ (a : ℕ → Option MachineState). (i j : ℕ) (s : MachineState) → a i ≡ Some s →
-      a j ≡ Some s → i ≡ j) states_in kept.search.distinct
+      a j ≡ Some s → i ≡ j) (states_in image sweeps sight g found limit kept) kept.search.distinct
 
   -- the graph learned something
   module _ (g' : GraphParts) (edges : turn_in g' ≡ turn_in g)
@@ -53,7 +40,7 @@ module _ (image : ImageParts) (sweeps : List SweepRange) (sight : Sight) (g : Gr
     pub states_same : at (kept_of image sweeps sight g'.store found limit) ≡ at (kept_of image sweeps sight g.store found limit)
     states_same =
         ap (λ (m : List ℕ → Option MachineState). state_at m found.nodes) (sym (same_meaning g' image sweeps sight harts_same))
-        ∙ (states ∙ sym states_in)
+        ∙ (states ∙ sym (states_in image sweeps sight g found limit kept))
 
     pub kept_again : IsKept image sweeps sight g' found limit
     kept_again = record {
@@ -85,4 +72,4 @@ module _ (image : ImageParts) (sweeps : List SweepRange) (sight : Sight) (g : Gr
         on_same (λ (n : MachineState → ℕ → Option MachineState) (a : ℕ → Option MachineState).
         IsVerdict n actors a found.complete v) (turn_by image sweeps sight) (turn_in g)
         (at (kept_of image sweeps sight g'.store found limit)) (state_at (state_in g) found.nodes)
-        kept.edges (sym (states_same ∙ states_in)) verdict
+        kept.edges (sym (states_same ∙ (states_in image sweeps sight g found limit kept))) verdict

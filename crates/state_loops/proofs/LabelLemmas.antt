@@ -7,15 +7,13 @@ use Rattle.std.proofs.lemmas.Option.{none-some, same_Some}
 use Rattle.cheri_model.specs.declared.operation.Op.{Op}
 use Rattle.cheri_model.specs.declared.operation.Op.TheVariants as operation
 use Rattle.cheri_model.specs.runs.Image.{ImageParts}
-use Rattle.cheri_model.specs.runs.Machine.{MachineState, may_take, state_after_one}
-use Rattle.cheri_model.specs.runs.Replay.{is_legal, state_after}
-use Rattle.graph_search.specs.Trees.{IsFound}
-use Rattle.graph_loops.specs.Loops.{Takes, StaysFound, actor_count}
+use Rattle.cheri_model.specs.runs.Machine.{MachineState, may_take}
+use Rattle.graph_loops.specs.Loops.{Takes, actor_count}
 use Rattle.graph_loops.specs.Loops as graphs
 use Rattle.schedules.specs.declared.ranges.SweepRange.{SweepRange}
 use Rattle.schedules.specs.Schedules.{sweep_of, operation_of_label, next, AreLabelsOf}
-use Rattle.schedules.proofs.WalkLemmas.{walk_legal, legal_walk, legal_labels}
-use Rattle.state_loops.proofs.OperationLemmas.{both_true, next_some, some_next, step_hart, label_of_step, allowed_labels}
+use Rattle.schedules.proofs.WalkLemmas.{legal_walk, legal_labels}
+use Rattle.state_loops.proofs.OperationLemmas.{next_some, label_of_step}
 use Rattle.state_loops.specs.Endless.{Steps, IsLoop, IsFair, step_count}
 
 step_is_no_sweep : (image : ImageParts) (sweeps : List SweepRange) (l lo hi : ℕ) → l < length image.harts →

@@ -1,5 +1,5 @@
 -- Loops of turns, and the loops of steps that they are.
-use Rattle.std.proofs.Common.{◌≡◌, ℕ, zero, suc, ◌<◌, List, [], ◌∷◌, ◌++◌, length, map, take, arith, ap, sym, ◌∙◌, refl, inl, inr, subst}
+use Rattle.std.proofs.Common.{◌≡◌, ℕ, zero, suc, ◌<◌, List, [], ◌∷◌, ◌++◌, length, take, arith, ap, sym, ◌∙◌, refl, inl, inr, subst}
 use Rattle.std.specs.Prelude.{Option, Some, option_and_then, true}
 use Rattle.std.proofs.lemmas.List.{length-map}
 use Rattle.std.proofs.lemmas.Option.{option_and_then_some}
@@ -15,7 +15,7 @@ use Rattle.explore_turns.specs.Orders.{quiet_order, turns_from}
 use Rattle.explore_turns.specs.Turns.{has_harts_of, rest_of, rest_by, resting, turn_by}
 use Rattle.explore_turns.proofs.OrderLemmas.{turns_from_lead}
 use Rattle.explore_turns.proofs.TurnLemmas.{go, merging, is_fit}
-use Rattle.graph_loops.specs.Loops.{Takes, StaysFound}
+use Rattle.graph_loops.specs.Loops.{StaysFound}
 use Rattle.graph_loops.specs.Loops as graphs
 use Rattle.graph_merging.proofs.MergingLemmas.{loops_found, fair_found, some_merged, merged_some}
 use Rattle.graph_search.specs.Trees.{IsFound}

@@ -66,8 +66,8 @@ HasFewTurns kept = (labels : List ℕ) (state : MachineState) →
     (start_by kept.image kept.sweeps kept.sight) labels state →
     actor_count (length kept.image.harts) labels < count kept
 
--- A legal order of steps and of these sweeps is short: a turn has at most so many quiet steps, and so
--- may each hart take before them, one that a sweep would change one step more.
+-- A legal order of steps and of these sweeps is short: a turn has at most so many quiet steps, and
+-- so may each hart take before them, one that a sweep would change one step more.
 abbrev pub HasFewSteps : KeptParts → Type 0
 HasFewSteps kept = (order : List Op) → AreAllowed kept.sweeps order →
     is_legal kept.image (opening_state kept.image) order ≡ true →
@@ -98,8 +98,8 @@ HasFewRounds kept = (rounds : List (List Op)) →
     AreFairRounds kept.image kept.sweeps kept.sight
     (start_by kept.image kept.sweeps kept.sight) rounds → length rounds < count kept
 
--- The order is the witness of a kept state, and the cycle a loop of it: turns, after each of which the
--- state is kept.
+-- The order is the witness of a kept state, and the cycle a loop of it: turns, after each of which
+-- the state is kept.
 pub record IsLasso (kept : KeptParts) (lasso : Lasso) (state : MachineState) : Type 0 where
   pub number : ℕ
   pub there : at kept number ≡ Some state

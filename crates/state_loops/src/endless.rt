@@ -61,8 +61,8 @@ pub fn endless_of(alloc: Global, kept: Kept) -> Result<Judged, AllocError>
 
 /// A verdict on the kept states, in the machine's operations.
 fn endless_by(alloc: Global, kept: &Kept, verdict: &Verdict) -> Result<Endless, AllocError>
-    requires { IsVerdict (turn_by kept.now.image kept.now.sweeps kept.now.sight) (length kept.now.image.harts)
-        (at kept.now) kept.now.complete verdict.now }
+    requires { IsVerdict (turn_by kept.now.image kept.now.sweeps kept.now.sight)
+        (length kept.now.image.harts) (at kept.now) kept.now.complete verdict.now }
     ensures answer { IfOk result (IsAnswerOf verdict.now) }
     ensures endless { IfOk result (IsEndless kept.now) }
 {
@@ -85,7 +85,8 @@ fn orders_of(
 ) -> Result<(Vec<Op>, Vec<Op>), AllocError>
     requires first { AreOfHarts kept.now.image first.items }
     requires whole { AreOfHarts kept.now.image (first.items ++ later.now) }
-    requires longer { length (order_of_turns kept.now.image kept.now.sweeps kept.now.sight first.items)
+    requires longer { length
+        (order_of_turns kept.now.image kept.now.sweeps kept.now.sight first.items)
         ≤ length (order_of_turns kept.now.image kept.now.sweeps kept.now.sight
         (first.items ++ later.now)) }
     ensures first { IfOk result (λ orders. orders.0.items

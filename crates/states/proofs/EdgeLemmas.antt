@@ -11,7 +11,7 @@ use Rattle.cheri_model.specs.runs.Machine as machine
 use Rattle.cheri_model.specs.runs.Sweeps.{is_range, swept_hart, swept_memory}
 use Rattle.graph_search.specs.Graphs.{LeadsTo}
 use Rattle.schedules.specs.declared.ranges.SweepRange.{SweepRange}
-use Rattle.schedules.specs.Schedules.{next, taken, sweep_of}
+use Rattle.schedules.specs.Schedules.{taken, sweep_of}
 use Rattle.state_store.specs.Stores.{hart_at, memory_at}
 use Rattle.state_store.proofs.StoreLemmas.{memory_at_kept, hart_at_kept}
 use Rattle.states.specs.declared.locals.LocalStep.{LocalStep}

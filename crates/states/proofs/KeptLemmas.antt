@@ -1,6 +1,6 @@
 -- What is so of the states that a search kept.
 use Rattle.std.proofs.Common.{◌≡◌, ℕ, zero, suc, ◌+◌, ◌-◌, ◌<◌, inl, inr, nat_lt, List, [], ◌∷◌, ◌++◌, length, arith, ap, sym, ◌∙◌, refl, subst, reverse}
-use Rattle.std.specs.Prelude.{Option, option_map, Some, None, IsSome, slice_get, slice_index_or, Bool, true, false, ◌*◌, ◌==◌, if◌then◌else◌}
+use Rattle.std.specs.Prelude.{Option, option_map, Some, None, IsSome, slice_get, slice_index_or, Bool, true, ◌*◌}
 use Rattle.std.proofs.lemmas.Bool.{cases_Bool, both_ways}
 use Rattle.std.proofs.lemmas.Bool.Decides.{nat_tests}
 use Rattle.std.proofs.lemmas.List.{reverse-reverse}
@@ -9,8 +9,8 @@ use Rattle.cheri_model.specs.declared.operation.Op.{Op}
 use Rattle.cheri_model.specs.declared.operation.Op.TheVariants as operation
 use Rattle.cheri_model.specs.runs.Image.{ImageParts}
 use Rattle.cheri_model.specs.runs.ImageRules.{is_image}
-use Rattle.cheri_model.specs.runs.Machine.{MachineState, opening_state}
-use Rattle.cheri_model.specs.runs.Replay.{is_legal, replayed_state, state_after}
+use Rattle.cheri_model.specs.runs.Machine.{MachineState}
+use Rattle.cheri_model.specs.runs.Replay.{replayed_state}
 use Rattle.graph_search.specs.Searches.{IsExplored, Reaches}
 use Rattle.graph_search.specs.Trees.{IsTrace, Found, state_at, edge_at}
 use Rattle.graph_search.specs.Walks.{IsWitness}
@@ -33,15 +33,7 @@ use Rattle.states.specs.Graphs.{GraphParts, state_in, turn_in}
 use Rattle.states.specs.Kept.{KeptParts, graph_of, at, edge, count, IsKept, IsSearch, IsWitnessOrder, AreWitnessTurns, AreAllKept, IsFirstPassing, NonePasses}
 use Rattle.states.proofs.NodeLemmas.{node_of, is_some}
 use Rattle.states.proofs.OpeningLemmas.{opening_granules}
-
--- rows mean the same in a graph and in what is kept of it
-same_meaning : (g : GraphParts) (image : ImageParts) (sweeps : List SweepRange) (sight : Sight) →
-    length g.image.harts ≡ length image.harts →
-    state_in g ≡ state_in (record { image = image; sweeps = sweeps; sight = sight; store = g.store })
-unfolding state_in
-same_meaning g image sweeps sight same =
-    let meaning : ℕ → List ℕ → Option MachineState = λ n row. if length row == n + 1 then state_of g.store row else None in
-    ap meaning same
+use Rattle.states.proofs.MeaningLemmas.{same_meaning}
 
 -- a graph that was searched
 pub searched : (g : GraphParts) (image : ImageParts) (sweeps : List SweepRange) (sight : Sight) (found : Found) (limit : ℕ) →

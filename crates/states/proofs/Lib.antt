@@ -10,4 +10,6 @@ pub mod TakenLemmas
 pub mod EdgeLemmas
 pub mod KeepLemmas
 pub mod LabelLemmas
+pub mod MeaningLemmas
 pub mod KeptLemmas
+pub mod SearchLemmas

@@ -1,5 +1,6 @@
 -- What a search kept: the first states in the order of their witnesses.
-use Rattle.std.specs.Prelude.{◌≡◌, ℕ, ◌+◌, ◌<◌, List, length, Option, Some, None, Bool, true, false, ◌⊎◌}
+use Rattle.std.specs.Prelude.{◌≡◌, ℕ, ◌+◌, ◌<◌, ◌⊎◌, List, length, Option, Some, None}
+use Rattle.std.specs.Prelude.{Bool, true, false}
 use Rattle.cheri_model.specs.declared.operation.Op.{Op}
 use Rattle.cheri_model.specs.runs.Image.{ImageParts}
 use Rattle.cheri_model.specs.runs.Machine.{MachineState, opening_state}
@@ -15,6 +16,7 @@ use Rattle.explore_turns.specs.Orders.{order_of_turns}
 use Rattle.explore_turns.specs.Turns.{turn_by, rest_by, start_by}
 use Rattle.state_store.specs.Stores.{Stored}
 use Rattle.states.specs.Graphs.{GraphParts, state_in, turn_in}
+use Rattle.states.specs.Searches.{AreTurnsOf, SearchParts}
 
 -- the rows of the states in a store, the edges by which they were found, the limit of the search,
 -- and whether these are all
@@ -41,9 +43,14 @@ kept_of image sweeps sight store found limit =
       complete = found.complete;
     }
 
+-- what was kept is of this search, for a question that sees this
+abbrev pub IsKeptOf : SearchParts → Sight → KeptParts → Type 0
+IsKeptOf search sees kept = AreTurnsOf search sees kept.image kept.sweeps kept.sight
+
 -- the graph of which they are nodes
 abbrev pub graph_of : KeptParts → GraphParts
-graph_of kept = record { image = kept.image; sweeps = kept.sweeps; sight = kept.sight; store = kept.store }
+graph_of kept =
+    record { image = kept.image; sweeps = kept.sweeps; sight = kept.sight; store = kept.store }
 
 -- how many states are kept; the state with a number, and the edge by which it was found
 abbrev pub count : KeptParts → ℕ
@@ -73,8 +80,8 @@ pub record IsKept (image : ImageParts) (sweeps : List SweepRange) (sight : Sight
   pub stands : Reaches (turn_in graph) (state_in graph) limit
       (length found.nodes) found.nodes found.edges found.cut
 
--- The witness of a state as an order: of the turns that lead to the state the fewest, and of those the
--- least, harts ascending before sweeps in the order given; and of these turns each step.
+-- The witness of a state as an order: of the turns that lead to the state the fewest, and of those
+-- the least, harts ascending before sweeps in the order given; and of these turns each step.
 pub record IsWitnessOrder (image : ImageParts) (sweeps : List SweepRange) (sight : Sight)
     (state : MachineState) (order : List Op) : Type 0 where
   pub labels : List ℕ
@@ -93,8 +100,8 @@ pub record AreWitnessTurns (image : ImageParts) (sweeps : List SweepRange) (sigh
   pub least : IsWitness (turn_by image sweeps sight) (start_by image sweeps sight) state labels
   pub operations : AreLabelsOf image sweeps labels ops
 
--- of the state that every legal order of steps and of these sweeps leaves, the one with each hart at
--- its rest is kept
+-- of the state that every legal order of steps and of these sweeps leaves, the one with each hart
+-- at its rest is kept
 abbrev pub AreAllKept : KeptParts → Type 0
 AreAllKept kept = (order : List Op) → AreAllowed kept.sweeps order →
     is_legal kept.image (opening_state kept.image) order ≡ true →

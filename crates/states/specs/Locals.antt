@@ -1,6 +1,7 @@
 -- What a step does to its hart and to the one granule that it may touch. Where a step makes no
 -- access, or none in RAM, that granule is granule 0, which stays as it is.
-use Rattle.std.specs.Prelude.{◌≡◌, ℕ, List, [], ◌∷◌, length, slice_get, Some, nat_lt, if◌then◌else◌, replicate}
+use Rattle.std.specs.Prelude.{◌≡◌, ℕ, List, [], ◌∷◌, length, slice_get, replicate, Some}
+use Rattle.std.specs.Prelude.{nat_lt, if◌then◌else◌}
 use Rattle.cheri_model.specs.declared.instr.Instr.{Instr}
 use Rattle.cap_model.specs.values.CapValue.{CapValue}
 use Rattle.cheri_model.specs.steps.Hart.{HartState}
@@ -37,20 +38,21 @@ site_of program granules hart =
 
 -- the step of the hart with this number, where its granule has the value with this number, and then
 -- what brings the hart to its rest
-pub record IsLocalStep (program : List Instr) (rests : HartState → HartState) (store : Stored) (hart value : ℕ) (after : LocalStep)
-    : Type 0 where
+pub record IsLocalStep (program : List Instr) (rests : HartState → HartState) (store : Stored)
+    (hart value : ℕ) (after : LocalStep) : Type 0 where
   pub before : HartState
   pub granule : CapValue
   pub hart_is : hart_at store hart ≡ Some before
   pub value_is : slice_get store.values value ≡ Some granule
   pub hart_after :
-      hart_at store after.hart ≡ Some (rests (local_step program store.granules before granule).hart)
+      hart_at store after.hart
+      ≡ Some (rests (local_step program store.granules before granule).hart)
   pub value_after :
       slice_get store.values after.value ≡ Some (local_value program store.granules before granule)
 
 -- the sites of all harts, each at its rest, and steps with their keys
-pub record IsTabled (program : List Instr) (rests : HartState → HartState) (store : Stored) (sites : List ℕ) (keys : List (List ℕ))
-    (steps : List LocalStep) : Type 0 where
+pub record IsTabled (program : List Instr) (rests : HartState → HartState) (store : Stored)
+    (sites : List ℕ) (keys : List (List ℕ)) (steps : List LocalStep) : Type 0 where
   pub even : length sites ≡ length store.harts
   pub sites_are : (id site : ℕ) → slice_get sites id ≡ Some site →
       (hart : HartState) × (hart_at store id ≡ Some hart)

@@ -131,8 +131,8 @@ impl MachineGraph {
         })
     }
 
-    /// The node of a state with each hart at its rest. Fails only when out of memory, or of numbers, as all calls here that
-    /// may add something.
+    /// The node of a state with each hart at its rest. Fails only when out of memory, or of numbers,
+    /// as all calls here that may add something.
     pub fn node(&mut self, alloc: Global, harts: &[Hart], ram: &Ram) -> Result<Vec<u32>, AllocError>
         requires harts { length harts.now ≡ length self.old.image.harts }
         requires size { length ram.now ≡ self.old.store.granules }
@@ -216,8 +216,8 @@ impl MachineGraph {
         requires hart { Runs self.old.store hart }
         requires value { value < length self.old.store.values }
         ensures continues { Continues self.old self.new }
-        ensures step { IfOk result (λ after.
-            IsLocalStep self.old.image.program (rests_in self.old) self.new.store hart value after) }
+        ensures step { IfOk result (IsLocalStep self.old.image.program (rests_in self.old)
+            self.new.store hart value) }
     {
         match self.keys.find(&[hart, value]) {
             Some(number) => Ok(self.steps[number as usize]),
@@ -230,8 +230,8 @@ impl MachineGraph {
         requires hart { Runs self.old.store hart }
         requires value { value < length self.old.store.values }
         ensures continues { Continues self.old self.new }
-        ensures step { IfOk result (λ after.
-            IsLocalStep self.old.image.program (rests_in self.old) self.new.store hart value after) }
+        ensures step { IfOk result (IsLocalStep self.old.image.program (rests_in self.old)
+            self.new.store hart value) }
     {
         let (stepped, left) = self.take_step(hart, value);
         let hart_after = self.number_hart(&stepped)?;

@@ -22,7 +22,16 @@ ghost use Rattle.state_store.specs.Stores.{state_of};
 ghost use Rattle.states.specs.Graphs.{state_in, turn_in};
 ghost use Rattle.explore_turns.specs.Orders.{AreOfHarts, order_of_turns};
 ghost use Rattle.explore_turns.specs.Turns.{turn_by, start_by};
-ghost use Rattle.states.specs.Kept.{kept_of, at, count, IsKept, IsSearch, IsWitnessOrder, AreAllKept, AreWitnessTurns};
+ghost use Rattle.states.specs.Kept.{
+  kept_of,
+  at,
+  count,
+  IsKept,
+  IsSearch,
+  IsWitnessOrder,
+  AreAllKept,
+  AreWitnessTurns,
+};
 
 use crate::graph::MachineGraph;
 use cheri_model::{Image, Op};
@@ -33,6 +42,14 @@ use schedules::SweepRange;
 use state_store::State;
 use std::alloc::{AllocError, Global};
 use std::marker::Model;
+
+/// The turns of an image's harts and of sweeps, as far as a question sees them.
+#[derive(Drop)]
+pub(crate) struct Turns {
+    pub image: Image,
+    pub sweeps: Vec<SweepRange>,
+    pub sight: Sight,
+}
 
 /// The states that a search kept, numbered from 0 in the order of their witnesses: the first ones,
 /// or all. In each of them all harts are at their rest. The witness of a state is the order of the
@@ -78,32 +95,30 @@ fn operation_of_label(image: &Image, sweeps: &[SweepRange], label: u32) -> Op
 }
 
 impl Kept {
-    /// Searches a graph with the edges of an image and sweeps from a node: the first `limit`
-    /// states, or all.
+    /// Searches a graph with these turns from a node: the first `limit` states, or all.
     pub(crate) fn search<P: Progress>(
         alloc: Global,
-        image: Image,
-        sweeps: Vec<SweepRange>,
-        sight: Sight,
+        turns: Turns,
         mut graph: MachineGraph,
         start: &[u32],
         limit: u32,
         progress: &mut P,
     ) -> Result<Kept, AllocError>
         requires some { 0 < limit }
-        requires edges { turn_in graph ≡ turn_by image sweeps.items sight }
-        requires harts { length graph.image.harts ≡ length image.harts }
-        requires opening { state_in graph start.now ≡ Some (start_by image sweeps.items sight) }
-        ensures image { IfOk result (λ kept. kept.image ≡ image) }
-        ensures sweeps { IfOk result (λ kept. kept.sweeps ≡ sweeps.items) }
-        ensures sight { IfOk result (λ kept. kept.sight ≡ sight) }
+        requires edges { turn_in graph ≡ turn_by turns.image turns.sweeps.items turns.sight }
+        requires harts { length graph.image.harts ≡ length turns.image.harts }
+        requires opening { state_in graph start.now
+            ≡ Some (start_by turns.image turns.sweeps.items turns.sight) }
+        ensures image { IfOk result (λ kept. kept.image ≡ turns.image) }
+        ensures sweeps { IfOk result (λ kept. kept.sweeps ≡ turns.sweeps.items) }
+        ensures sight { IfOk result (λ kept. kept.sight ≡ turns.sight) }
         ensures limit { IfOk result (λ kept. kept.limit ≡ limit) }
     {
         let reached = explore(alloc, &mut graph, start, limit, progress)?;
         Ok(Kept {
-            image,
-            sweeps,
-            sight,
+            image: turns.image,
+            sweeps: turns.sweeps,
+            sight: turns.sight,
             graph,
             reached,
             limit,
@@ -205,8 +220,8 @@ impl Kept {
         order_of_turns(alloc, &self.image, sweeps, &self.sight, ops.as_slice())
     }
 
-    /// The operations with which the turns of a state's witness begin, without the quiet steps. Fails
-    /// only when out of memory.
+    /// The operations with which the turns of a state's witness begin, without the quiet steps.
+    /// Fails only when out of memory.
     pub fn witness_turns(&self, alloc: Global, number: u32) -> Result<Vec<Op>, AllocError>
         requires { number < count self.now }
         ensures { IfOk result (λ ops. (s : MachineState) → at self.now number ≡ Some s →
@@ -216,8 +231,8 @@ impl Kept {
         self.operations(alloc, labels.as_slice())
     }
 
-    /// The order of turns that begin with these operations: each of them, and all quiet steps. Fails
-    /// only when out of memory.
+    /// The order of turns that begin with these operations: each of them, and all quiet steps.
+    /// Fails only when out of memory.
     pub fn order_of(&self, alloc: Global, ops: &[Op]) -> Result<Vec<Op>, AllocError>
         requires { AreOfHarts self.now.image ops.now }
         ensures { IfOk result (λ order. order.items
@@ -259,8 +274,8 @@ impl Kept {
     pub fn into_parts(self) -> Searched
         ensures parts { kept_of result.image result.sweeps.items result.sight result.graph.store
             result.reached result.limit ≡ self }
-        ensures kept { IsKept result.image result.sweeps.items result.sight result.graph result.reached
-            result.limit }
+        ensures kept { IsKept result.image result.sweeps.items result.sight result.graph
+            result.reached result.limit }
     {
         Searched {
             image: self.image,

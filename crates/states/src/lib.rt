@@ -14,4 +14,4 @@ mod sweeping;
 pub use graph::{MAX_SWEEPS, MachineGraph};
 pub use kept::{Kept, Searched};
 pub use passing::StateTest;
-pub use search::{Found, find_from, search_from};
+pub use search::{Found, Search, find_from, search_from};

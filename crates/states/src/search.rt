@@ -1,22 +1,33 @@
 //! Searches.
 
-ghost use Rattle.std.specs.Prelude.{◌≡◌, ℕ, ◌*◌, ◌<◌, ◌≤◌, length, Some, None, IfOk, true};
-ghost use Rattle.cheri_model.specs.runs.Machine.{MachineState, opening_state};
-ghost use Rattle.explore_sights.specs.Sights.{hides};
-ghost use Rattle.explore_turns.specs.Turns.{KeepsPassing, start_by, turn_by};
-ghost use Rattle.states.specs.Graphs.{state_in, turn_in};
-ghost use Rattle.states.specs.Kept.{IsFirstPassing, IsWhole, NonePasses};
+ghost use Rattle.std.specs.Prelude.{◌≡◌, ℕ, ◌*◌, ◌≤◌, length, None, IfOk, true};
+ghost use Rattle.cheri_model.specs.runs.Machine.{opening_state};
+ghost use Rattle.explore_sights.specs.Sights.{hides, sight_of};
+ghost use Rattle.explore_turns.specs.Turns.{KeepsPassing};
+ghost use Rattle.states.specs.Kept.{IsFirstPassing, IsKeptOf, IsWhole, NonePasses};
+ghost use Rattle.states.specs.Searches.{AreTurnsOf, IsSearchable, search_of};
 
 use crate::graph::{MAX_SWEEPS, MachineGraph};
-use crate::kept::Kept;
+use crate::kept::{Kept, Turns};
 use crate::passing::StateTest;
 use cheri_model::Image;
+use cores::Core;
 use explore_sights::Sight;
 use graph_search::Progress;
-use hart::Hart;
 use schedules::SweepRange;
 use std::alloc::{AllocError, Global};
 use tagged_mem::Ram;
+
+/// What is searched: the states that an image reaches by steps of its harts and by these sweeps,
+/// told apart after every step, or only after those that the question sees. At most `limit` of
+/// them are kept.
+#[derive(Clone, Copy)]
+pub struct Search<'a> {
+    pub image: &'a Image,
+    pub sweeps: &'a [SweepRange],
+    pub every_step: bool,
+    pub limit: u32,
+}
 
 /// How many states a search for a state keeps first, before it looks at them.
 const FIRST_STAGE: u32 = 1 << 14;
@@ -38,82 +49,80 @@ fn copied_ram(alloc: Global, ram: &Ram) -> Result<Ram, AllocError>
     ram.copy(alloc).map_err(|_| AllocError)
 }
 
-/// The graph of an image's turns. `ram` is a memory of the image's size.
+/// What a search sees: every step, where that is asked for, else what the question sees. Fails only
+/// when out of memory.
+fn sight_of(alloc: Global, every_step: bool, sees: &Sight) -> Result<Sight, AllocError>
+    ensures { IfOk result (λ sight. sight ≡ sight_of every_step sees.now) }
+{
+    if every_step {
+        return Ok(Sight::EveryStep);
+    }
+    sees.copy(alloc)
+}
+
+/// The turns of a search, for a question that sees this.
+fn turns_of(alloc: Global, search: &Search<'_>, sees: &Sight) -> Result<Turns, AllocError>
+    ensures { IfOk result (λ turns. AreTurnsOf (search_of search.now) sees.now
+        turns.image turns.sweeps.items turns.sight) }
+{
+    let image = search.image.copy(alloc)?;
+    let sweeps = Vec::from_slice(alloc, search.sweeps)?;
+    let sight = sight_of(alloc, search.every_step, sees)?;
+    Ok(Turns {
+        image,
+        sweeps,
+        sight,
+    })
+}
+
+/// Their graph. `ram` is a memory of the image's size.
 fn graph_of_turns(
     alloc: Global,
-    image: &Image,
+    search: &Search<'_>,
+    sees: &Sight,
     ram: &Ram,
-    sweeps: &[SweepRange],
-    sight: &Sight,
 ) -> Result<MachineGraph, AllocError>
-    requires few { length sweeps.now ≤ MAX_SWEEPS }
-    requires size { 16 * length ram.now ≡ image.now.ram }
-    ensures image { IfOk result (λ graph. graph.image ≡ image.now) }
-    ensures sweeps { IfOk result (λ graph. graph.sweeps ≡ sweeps.now) }
-    ensures sight { IfOk result (λ graph. graph.sight ≡ sight.now) }
+    requires few { length search.now.sweeps.now ≤ MAX_SWEEPS }
+    requires size { 16 * length ram.now ≡ search.now.image.now.ram }
+    ensures turns { IfOk result (λ graph. AreTurnsOf (search_of search.now) sees.now
+        graph.image graph.sweeps graph.sight) }
     ensures granules { IfOk result (λ graph. graph.store.granules ≡ length ram.now) }
 {
-    let image = image.copy(alloc)?;
-    let sweeps = Vec::from_slice(alloc, sweeps)?;
-    let sight = sight.copy(alloc)?;
     let ram = copied_ram(alloc, ram)?;
-    MachineGraph::new(alloc, image, sweeps, sight, ram)
+    let turns = turns_of(alloc, search, sees)?;
+    MachineGraph::new(alloc, turns.image, turns.sweeps, turns.sight, ram)
 }
 
-/// Searches a graph of an image's turns from the node of its opening state.
-fn search_graph<P: Progress>(
-    alloc: Global,
-    image: &Image,
-    sweeps: &[SweepRange],
-    sight: &Sight,
-    graph: MachineGraph,
-    start: &[u32],
-    limit: u32,
-    progress: &mut P,
-) -> Result<Kept, AllocError>
-    requires some { 0 < limit }
-    requires edges { turn_in graph ≡ turn_by image.now sweeps.now sight.now }
-    requires harts { length graph.image.harts ≡ length image.now.harts }
-    requires opening { state_in graph start.now
-        ≡ Some (start_by image.now sweeps.now sight.now) }
-    ensures image { IfOk result (λ kept. kept.image ≡ image.now) }
-    ensures sweeps { IfOk result (λ kept. kept.sweeps ≡ sweeps.now) }
-    ensures sight { IfOk result (λ kept. kept.sight ≡ sight.now) }
-    ensures limit { IfOk result (λ kept. kept.limit ≡ limit) }
-{
-    let image = image.copy(alloc)?;
-    let sweeps = Vec::from_slice(alloc, sweeps)?;
-    let sight = sight.copy(alloc)?;
-    Kept::search(alloc, image, sweeps, sight, graph, start, limit, progress)
-}
-
-/// The states that any order of steps and of these sweeps leads to from an image's opening state,
-/// which `harts` and `ram` have: the first `limit` ones in the order of their witnesses, or all.
-/// Fails only when out of memory, or of numbers past 2^32.
+/// The states that any order of steps and of a search's sweeps leads to from its image's opening
+/// state, which `core` has: the first ones in the order of their witnesses, or all. They are told
+/// apart as far as a question that sees this can tell. Fails only when out of memory, or of numbers
+/// past 2^32.
 pub fn search_from<P: Progress>(
     alloc: Global,
-    image: &Image,
-    harts: &[Hart],
-    ram: &Ram,
-    sweeps: &[SweepRange],
-    sight: &Sight,
-    limit: u32,
+    search: &Search<'_>,
+    sees: &Sight,
+    core: &Core,
     progress: &mut P,
 ) -> Result<Kept, AllocError>
-    requires some { 0 < limit }
-    requires few { length sweeps.now ≤ MAX_SWEEPS }
-    requires opening { opening_state image.now ≡ record { harts = harts.now; memory = ram.now } }
-    ensures image { IfOk result (λ kept. kept.image ≡ image.now) }
-    ensures sweeps { IfOk result (λ kept. kept.sweeps ≡ sweeps.now) }
-    ensures sight { IfOk result (λ kept. kept.sight ≡ sight.now) }
-    ensures limit { IfOk result (λ kept. kept.limit ≡ limit) }
+    requires search { IsSearchable (search_of search.now) }
+    requires opening { core.now.state ≡ opening_state search.now.image.now }
+    ensures kept_of { IfOk result (IsKeptOf (search_of search.now) sees.now) }
+    ensures limit { IfOk result (λ kept. kept.limit ≡ search.now.limit) }
 {
     // Its clause says how large RAM may be.
-    let _granules = image.granules();
-    let mut graph = graph_of_turns(alloc, image, ram, sweeps, sight)?;
-    let start = graph.node(alloc, harts, ram)?;
-    let start = start.as_slice();
-    search_graph(alloc, image, sweeps, sight, graph, start, limit, progress)
+    let _granules = search.image.granules();
+    let view = core.view();
+    let mut graph = graph_of_turns(alloc, search, sees, view.ram)?;
+    let start = graph.node(alloc, view.harts, view.ram)?;
+    let turns = turns_of(alloc, search, sees)?;
+    Kept::search(
+        alloc,
+        turns,
+        graph,
+        start.as_slice(),
+        search.limit,
+        progress,
+    )
 }
 
 /// The first of these states that passes a test, the opening state included, and none after it
@@ -121,32 +130,34 @@ pub fn search_from<P: Progress>(
 /// so that it keeps not many more states than up to the first that passes.
 pub fn find_from<T: StateTest, P: Progress>(
     alloc: Global,
-    image: &Image,
-    harts: &[Hart],
-    ram: &Ram,
-    sweeps: &[SweepRange],
-    sight: &Sight,
-    limit: u32,
+    search: &Search<'_>,
+    sees: &Sight,
+    core: &Core,
     test: &T,
     progress: &mut P,
 ) -> Result<Found, AllocError>
-    requires some { 0 < limit }
-    requires few { length sweeps.now ≤ MAX_SWEEPS }
-    requires opening { opening_state image.now ≡ record { harts = harts.now; memory = ram.now } }
-    requires unseen { KeepsPassing (hides sight.now) (T.passing test.now) }
-    ensures image { IfOk result (λ found. found.kept.image ≡ image.now) }
-    ensures sweeps { IfOk result (λ found. found.kept.sweeps ≡ sweeps.now) }
-    ensures sight { IfOk result (λ found. found.kept.sight ≡ sight.now) }
-    ensures limit { IfOk result (λ found. found.kept.limit ≤ limit) }
+    requires search { IsSearchable (search_of search.now) }
+    requires opening { core.now.state ≡ opening_state search.now.image.now }
+    requires unseen { KeepsPassing (hides (sight_of search.now.every_step sees.now))
+        (T.passing test.now) }
+    ensures kept_of { IfOk result (λ found.
+        IsKeptOf (search_of search.now) sees.now found.kept) }
+    ensures limit { IfOk result (λ found. found.kept.limit ≤ search.now.limit) }
     ensures first { IfOk result (λ found.
         IsFirstPassing found.kept (T.passing test.now) found.state) }
     ensures all { IfOk result (λ found. found.state ≡ None →
-        IsWhole found.kept limit) }
+        IsWhole found.kept search.now.limit) }
     ensures none { IfOk result (λ found. found.state ≡ None → found.kept.complete ≡ true →
-        NonePasses image.now sweeps.now (T.passing test.now)) }
+        NonePasses search.now.image.now search.now.sweeps.now (T.passing test.now)) }
 {
-    let stage = limit.min(FIRST_STAGE);
-    let mut kept = search_from(alloc, image, harts, ram, sweeps, sight, stage, progress)?;
+    let limit = search.limit;
+    let first = Search {
+        image: search.image,
+        sweeps: search.sweeps,
+        every_step: search.every_step,
+        limit: limit.min(FIRST_STAGE),
+    };
+    let mut kept = search_from(alloc, &first, sees, core, progress)?;
     let mut state = first_passing(&kept, test);
     while state.is_none() && !kept.is_complete() && kept.limit() < limit {
         let stage = limit.min(kept.limit().saturating_mul(STAGE_GROWTH));

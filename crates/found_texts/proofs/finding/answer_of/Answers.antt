@@ -1,8 +1,5 @@
-use Rattle.std.proofs.Common.{◌∙◌, sym}
-use Rattle.std.proofs.lemmas.Result.{IfOk-weaker}
-use Rattle.conditions.specs.Values.{holds}
-use Rattle.found_texts.specs.Find.{IsShown}
-use Rattle.found_texts.proofs.FindLemmas.{some_said, none_answers, none_nowhere, passing_first, shown_is}
+use Rattle.conditions.specs.Holding.{holds}
+use Rattle.found_texts.proofs.FindLemmas.{none_answers, none_nowhere, passing_first}
 use Rattle.found_texts.proofs.finding.answer_of.Goals as goal
 
 pub led_to-requires : goal.led_to-requires
@@ -12,8 +9,8 @@ led_to-requires c =
     record {
       there = first.0;
       opening = c.requires.opening;
-      image = c.requires.image;
-      sweeps = c.requires.sweeps;
+      image = c.requires.kept_of.image_is;
+      sweeps = c.requires.kept_of.sweeps_are;
       passing = first.1;
     }
 
@@ -22,7 +19,7 @@ returns-in_ok-text-in-Some-clause-nowhere c is = cc
 
 pub returns-in-None-clause-says : goal.returns-in-None-clause-says
 returns-in-None-clause-says c =
-    none_answers c.args.search.now.every_step c.args.condition.now c.args.search.now.format c.args.found.now.kept c.args.found.now.state
+    none_answers c.args.search.now.every_step c.args.condition.now c.args.format c.args.found.now.kept c.args.found.now.state
     c.none_found.result c.in-None.is c.none_found.ensures.says
 
 pub returns-in-None-clause-nowhere : goal.returns-in-None-clause-nowhere

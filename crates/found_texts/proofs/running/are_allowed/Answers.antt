@@ -1,4 +1,4 @@
-use Rattle.std.proofs.Common.{◌+◌, List, take, sym, subst, refl}
+use Rattle.std.proofs.Common.{List, take, sym, subst, refl}
 use Rattle.std.proofs.lemmas.List.{take_more}
 use Rattle.cheri_model.specs.declared.operation.Op.{Op}
 use Rattle.schedules.specs.Schedules.{AreAllowed}

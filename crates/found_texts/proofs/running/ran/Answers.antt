@@ -1,4 +1,4 @@
-use Rattle.std.proofs.Common.{List, Option, None, sym, ap, ◌∙◌, subst}
+use Rattle.std.proofs.Common.{Option, sym, ap, ◌∙◌, subst}
 use Rattle.cheri_model.specs.runs.Image.{ImageParts}
 use Rattle.cores.specs.Runs.{Stop}
 use Rattle.found_texts.specs.Find.{IsRun}

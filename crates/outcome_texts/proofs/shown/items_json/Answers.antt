@@ -1,4 +1,4 @@
-use Rattle.std.proofs.Common.{refl, length, ap, ◌∙◌}
+use Rattle.std.proofs.Common.{refl, length}
 use Rattle.serde_json.proofs.Views.{view-Object}
 use Rattle.outcome_texts.proofs.RowLemmas.{puts_step, puts_end, in_both, past_one}
 use Rattle.outcome_texts.proofs.shown.items_json.Goals as goal

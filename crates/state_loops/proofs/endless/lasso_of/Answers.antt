@@ -1,10 +1,10 @@
 use Rattle.std.proofs.Common.{◌≡◌, ℕ, ◌≤◌, List, ◌++◌, length, drop, ap, sym, ◌∙◌, subst}
 use Rattle.cheri_model.specs.declared.operation.Op.{Op}
-use Rattle.explore_turns.specs.Orders.{AreOfHarts, order_of_turns, turns_from}
+use Rattle.explore_turns.specs.Orders.{AreOfHarts, order_of_turns}
 use Rattle.schedules.specs.Schedules.{AreLabelsOf}
 use Rattle.states.specs.Kept.{IsWitnessOrder}
 use Rattle.states.proofs.KeptLemmas.{witness_order}
-use Rattle.state_loops.proofs.CycleLemmas.{turns_go_on, GoOn}
+use Rattle.state_loops.proofs.CycleLemmas.{turns_go_on}
 use Rattle.state_loops.proofs.EndlessLemmas.{kept_within, walk_means}
 use Rattle.state_loops.proofs.endless.lasso_of.Goals as goal
 

@@ -1,6 +1,6 @@
 use Rattle.std.proofs.Common.{ap, ◌∙◌}
 use Rattle.cheri_model.specs.runs.Machine.{MachineState}
-use Rattle.conditions.specs.Values.{holds}
+use Rattle.conditions.specs.Holding.{holds}
 use Rattle.shown_states.proofs.seen.ConditionTestStateTest.passes.Goals as goal
 
 pub returns : goal.returns

@@ -1,7 +1,6 @@
 use Rattle.std.proofs.Common.{◌≡◌, ◌+◌, ◌<◌, ℕ, List, length, arith, ap, sym, ◌∙◌, subst}
 use Rattle.std.specs.Prelude.{Some, option_map, true, slice_get, slice_index_or, slice_set}
 use Rattle.std.proofs.lemmas.Option.{slice_get-get_or, slice_get_within}
-use Rattle.cheri_model.specs.runs.Machine.{MachineState}
 use Rattle.cheri_model.specs.runs.Machine as machine
 use Rattle.state_store.specs.Stores.{memory_at}
 use Rattle.state_store.proofs.SeenLemmas.{seen_granule}

@@ -1,6 +1,5 @@
 use Rattle.std.proofs.Common.{◌-◌, ◌<◌, ◌≤◌, length, arith, ap, sym, ◌∙◌, inl, inr}
 use Rattle.std.specs.Prelude.{slice_index_or, option_map}
-use Rattle.cheri_model.specs.runs.Machine.{MachineState}
 use Rattle.cheri_model.specs.runs.Machine as machine
 use Rattle.state_store.specs.Stores.{hart_at, memory_at}
 use Rattle.state_store.proofs.StoreLemmas.{memory_at_kept}

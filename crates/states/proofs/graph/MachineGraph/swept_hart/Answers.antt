@@ -3,7 +3,6 @@ use Rattle.std.proofs.lemmas.Option.{same_Some}
 use Rattle.std.proofs.lemmas.Result.{IfOk-weaker}
 use Rattle.cheri_model.specs.steps.Hart.{HartState}
 use Rattle.cheri_model.specs.runs.Sweeps.{cleared_in_hart, swept_hart}
-use Rattle.explore_turns.specs.Turns.{resting}
 use Rattle.explore_turns.proofs.RestLemmas.{swept_whole}
 use Rattle.state_store.specs.Stores.{hart_at}
 use Rattle.states.specs.Graphs.{GraphParts, IsGraph, rests_in}

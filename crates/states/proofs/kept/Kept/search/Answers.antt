@@ -7,10 +7,10 @@ use Rattle.states.proofs.kept.Kept.search.Goals as goal
 
 pub explore-requires-clause-opened : goal.explore-requires-clause-opened
 explore-requires-clause-opened g c =
-    is_some (state_in c.args.graph c.args.start.now) (start_by c.args.image c.args.sweeps.items c.args.sight) c.requires.opening
+    is_some (state_in c.args.graph c.args.start.now) (start_by c.args.turns.image c.args.turns.sweeps.items c.args.turns.sight) c.requires.opening
 
 pub explore-requires-clause-wide : goal.explore-requires-clause-wide
-explore-requires-clause-wide g c = (node_of c.args.graph c.args.start.now (start_by c.args.image c.args.sweeps.items c.args.sight) c.requires.opening).width
+explore-requires-clause-wide g c = (node_of c.args.graph c.args.start.now (start_by c.args.turns.image c.args.turns.sweeps.items c.args.turns.sight) c.requires.opening).width
 
 pub invariant_of-result : goal.invariant_of-result
 invariant_of-result g c =
@@ -18,7 +18,7 @@ invariant_of-result g c =
     c.explore.ensures.same_graph in
     let width : length c.explore.new.graph.image.harts + 1 ≡ length c.args.graph.image.harts + 1 = c.explore.ensures.same_width in
     let same = c.requires.harts in
-    let harts : length c.explore.new.graph.image.harts ≡ length c.args.image.harts = omega arith in
-    searched c.explore.new.graph c.args.image c.args.sweeps.items c.args.sight c.in_ok-reached.reached c.args.limit (edges ∙ c.requires.edges) harts
-    (c.in_ok-reached.ensures.explored (start_by c.args.image c.args.sweeps.items c.args.sight) c.requires.opening)
+    let harts : length c.explore.new.graph.image.harts ≡ length c.args.turns.image.harts = omega arith in
+    searched c.explore.new.graph c.args.turns.image c.args.turns.sweeps.items c.args.turns.sight c.in_ok-reached.reached c.args.limit (edges ∙ c.requires.edges) harts
+    (c.in_ok-reached.ensures.explored (start_by c.args.turns.image c.args.turns.sweeps.items c.args.turns.sight) c.requires.opening)
     c.in_ok-reached.ensures.wide c.in_ok-reached.ensures.stands

@@ -1,8 +1,6 @@
-use Rattle.std.proofs.Common.{◌≡◌, ◌≤◌, ◌+◌, ℕ, List, length, ◌∙◌, ap, sym, arith}
+use Rattle.std.proofs.Common.{◌≡◌, ◌≤◌, ◌+◌, ℕ, length, ◌∙◌, ap, sym, arith}
 use Rattle.explore_turns.specs.Turns.{start_by}
-use Rattle.cheri_model.specs.runs.Machine.{MachineState}
-use Rattle.graph_search.specs.Trees.{state_at}
-use Rattle.states.specs.Graphs.{state_in, turn_in}
+use Rattle.states.specs.Graphs.{turn_in}
 use Rattle.states.specs.Kept.{KeptParts}
 use Rattle.states.proofs.KeptLemmas.{searched, first_state}
 use Rattle.states.proofs.kept.Kept.search_on.Goals as goal
