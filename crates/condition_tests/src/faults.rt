@@ -2,16 +2,21 @@
 
 use cheri_model::Image;
 use conditions::{TextFault, read_condition, read_items};
+use grammar::labels::{Labels, labels_of};
 use listings::read_listing;
 use std::alloc::Global;
 use std::process::Abort;
 use std::test::Fail;
 
-/// Two harts and 64 bytes of RAM.
+/// Two harts, 64 bytes of RAM and three labels.
 const LISTING: &[u8] = b".ram 64\n\
-.hart 0x10000000 4 0x10000000 execute\n\
-.hart 0x10000000 4 0x10000000 execute\n\
-ecall\n";
+.hart 0x10000000 8 0x10000000 execute\n\
+.hart 0x10000000 8 0x10000000 execute\n\
+start:\n\
+ecall\n\
+end: # behind\n\
+ecall\n\
+last:\n";
 
 /// Conditions of this image.
 const GOOD: &[&str] = &[
@@ -39,6 +44,40 @@ const GOOD: &[&str] = &[
     "0 reaches 0xffffffffffffffff load+store",
     "0 reaches 1 all and 1 is halted and 0.c1 = 0",
     "0.c1 = 340282366920938463463374607431768211455",
+    "0 at start",
+    "1 at @2",
+    "0 at last",
+    "0 in start..last",
+    "1 in @0..@2",
+    "0 in start..end and 1 at end or 0 is halted",
+    "not 0 is halted",
+    "not (not 0 is halted)",
+    "( 0 is halted )",
+    "(0 is halted)",
+    "((0 is halted) or 1 is halted)",
+    "0.c5 = 1.c5",
+    "0.c5 <= mem[0x80000000]",
+    "mem8[0x80000000] != mem8[0x80000008]",
+    "0.c1 = &start",
+    "0.pcc.addr >= &@2",
+    "any hart is trapped",
+    "no hart is running",
+    "two harts in start..last",
+    "all harts are halted",
+    "two harts reach 0x80000000 load",
+    "any hart reaches 0x80000000 load",
+    "any hart at end",
+    "all harts at end",
+    "any hart (h is halted)",
+    "any hart (h.c5 = 0.c5 and not h.pcc.tag = 1)",
+    "count(h at start) = 2",
+    "count (h at start or h in end..last) >= 1",
+    "count (0 is halted) != 0",
+    "0 is trapped:Length",
+    "any hart is trapped:CInvoke",
+    "(any hart is halted) or (no hart is halted)",
+    "count(h.c1 = &end) < 340282366920938463463374607431768211455",
+    "((((((((((((((((((((((((((((((((0 is halted))))))))))))))))))))))))))))))))",
 ];
 
 /// Texts that are none, and the bytes of their faults.
@@ -53,7 +92,6 @@ const BAD: &[(&str, usize)] = &[
     ("0.c1 = 0 ", 9),
     ("0.c1 = 0 and", 12),
     ("0.c1 = 0 and ", 13),
-    ("0.c1 = 0 or 0.c1 = 0", 9),
     ("2.c1 = 0", 0),
     ("2 is halted", 0),
     ("0.c32 = 0", 0),
@@ -93,6 +131,67 @@ const BAD: &[(&str, usize)] = &[
     ("0 is halted and 1 is halted and and", 32),
     ("00 is halted", 0),
     ("0 is halted\n", 5),
+    ("0 at", 4),
+    ("0 at nowhere", 5),
+    ("0 at @3", 5),
+    ("0 at start..end", 5),
+    ("0 in start", 5),
+    ("0 in end..start", 5),
+    ("0 in start..start", 5),
+    ("0 in start...end", 5),
+    ("0 in start..end..last", 5),
+    ("0 in ..end", 5),
+    ("0 in start..", 5),
+    ("0 reach 0 none", 2),
+    ("0 are halted", 2),
+    ("any harts are halted", 4),
+    ("two hart is halted", 4),
+    ("any hart are halted", 9),
+    ("two harts is halted", 10),
+    ("any hart halted", 9),
+    ("any", 3),
+    ("no hart", 7),
+    ("h is halted", 0),
+    ("h.c5 = 0", 0),
+    ("any hart (any hart is halted)", 10),
+    ("any hart (count(h is halted) = 1)", 10),
+    ("count h is halted", 6),
+    ("count(h is halted)", 18),
+    ("count(h is halted) =", 20),
+    ("count(h is halted) = h.c5", 21),
+    ("any hart (h is halted", 21),
+    ("any hart (h is halted))", 22),
+    ("(0 is halted", 12),
+    ("0 is halted)", 11),
+    ("()", 1),
+    ("( )", 2),
+    ("not", 3),
+    ("not not 0 is halted", 4),
+    ("0 is halted or", 14),
+    ("or 0 is halted", 0),
+    ("0 is halted and or 1 is halted", 16),
+    ("0 is halted 1 is halted", 12),
+    ("0 is trapped:length", 5),
+    ("0 is trapped:", 5),
+    ("0.c1 = &", 7),
+    ("0.c1 = &nowhere", 7),
+    ("0.c1 = &@3", 7),
+    ("0.c1 = h.c1", 7),
+    ("0 at start.", 5),
+    ("0 at 0", 5),
+    ("any hart (h.c32 = 0)", 10),
+    ("any hart (h.c5.foo = 0)", 10),
+    ("any hart (h = 0)", 12),
+    ("h", 0),
+    ("(", 1),
+    ("not (0 is halted) (", 18),
+    ("0 is halted  or 1 is halted", 12),
+    ("0 is halted or ", 15),
+    (
+        "(((((((((((((((((((((((((((((((((0 is halted)))))))))))))))))))))))))))))))))",
+        32,
+    ),
+    ("count(h is halted) >= 1 or h is halted", 27),
 ];
 
 /// Lists of items, and how many each has.
@@ -131,8 +230,15 @@ fn image(alloc: Global) -> Result<Image, Fail> {
     Ok(read_listing(alloc, LISTING)?)
 }
 
-fn refuses_condition(rt: &impl Abort, alloc: Global, image: &Image, text: &str, byte: usize) {
-    match read_condition(alloc, image, text) {
+fn refuses_condition(
+    rt: &impl Abort,
+    alloc: Global,
+    labels: &Labels<'_>,
+    image: &Image,
+    text: &str,
+    byte: usize,
+) {
+    match read_condition(alloc, labels, image, text) {
         Ok(_) => panic!(rt; "{text:?} is taken for a condition"),
         Err(fault) => assert!(rt; fault == TextFault::Condition(byte), "{text:?}"),
     }
@@ -148,11 +254,12 @@ fn refuses_items(rt: &impl Abort, alloc: Global, image: &Image, text: &str, byte
 #[test]
 fn conditions_are_read_or_refused_at_their_first_faulty_word(rt: HostRuntime) -> Result<(), Fail> {
     let image = image(rt.alloc())?;
+    let labels = labels_of(rt.alloc(), LISTING)?;
     for text in GOOD {
-        let _ = read_condition(rt.alloc(), &image, text)?;
+        let _ = read_condition(rt.alloc(), &labels, &image, text)?;
     }
     for (text, byte) in BAD {
-        refuses_condition(&rt, rt.alloc(), &image, text, *byte);
+        refuses_condition(&rt, rt.alloc(), &labels, &image, text, *byte);
     }
     Ok(())
 }

@@ -5,12 +5,17 @@ use bitflags::Flags;
 use cap_ops::Cap;
 use cheri_model::{Perms, RAM_BASE, Reg, Status, Trap};
 use conditions::{StateView, read_condition};
+use grammar::labels::labels_of;
 use hart::Hart;
 use listings::read_listing;
 use std::test::Fail;
 use tagged_mem::Ram;
 
-const LISTING: &[u8] = b".ram 16\n.hart 0x10000000 4 0x10000000 execute\necall\n";
+const LISTING: &[u8] = b".ram 16\n\
+.hart 0x10000000 4 0x10000000 execute\n\
+here:\n\
+ecall\n\
+there:\n";
 
 /// The harts and the memory of a machine.
 #[derive(Clone, Copy)]
@@ -90,11 +95,44 @@ const ANSWERS: &[(&str, bool)] = &[
     ("0 is trapped and 0.c1.tag = 1", true),
     ("0 is trapped and 0.c1.tag = 0", false),
     ("0.c1.tag = 0 and 0 is trapped", false),
+    ("0.c1 = 0.pcc", true),
+    ("0.c1 != 0.c2", true),
+    ("0.c2.len > 0.c1.len", true),
+    ("0.c1 < mem[0x80000000]", true),
+    ("mem8[0x80000000] <= 0.c1", false),
+    ("0.c1 = &here", false),
+    ("0.c2 < &there", true),
+    ("not 0 is trapped", false),
+    ("not (0 is trapped and 0.c1.tag = 0)", true),
+    ("0 is halted or 0 is trapped", true),
+    ("0 is halted or 0 is running", false),
+    ("not 0 is trapped and 0 is halted or 0 is trapped", true),
+    ("not 0 is trapped and (0 is halted or 0 is trapped)", false),
+    ("0 is trapped or 0 is trapped and 0 is halted", true),
+    ("(0 is trapped or 0 is trapped) and 0 is halted", false),
+    ("any hart is trapped", true),
+    ("no hart is trapped", false),
+    ("two harts are trapped", false),
+    ("all harts are trapped", true),
+    ("any hart is trapped:Length", true),
+    ("any hart is trapped:Tag", false),
+    ("count(h is trapped) = 1", true),
+    ("count(h is trapped) != 1", false),
+    ("count(h is trapped) > 1", false),
+    ("count(h is halted) < 1", true),
+    ("any hart (h.c1 = 0.pcc and h.c1.tag = 1)", true),
+    ("no hart (h.c1 != 0.pcc)", true),
+    ("any hart reaches 0x80000000 load", true),
+    ("0 at here", false),
+    ("0 in here..there", false),
+    ("not 0 in here..there", true),
+    ("all harts (not h at there)", true),
 ];
 
 #[test]
 fn conditions_hold_as_the_model_says(rt: HostRuntime) -> Result<(), Fail> {
     let image = read_listing(rt.alloc(), LISTING)?;
+    let labels = labels_of(rt.alloc(), LISTING)?;
     let held = Cap::make(RAM_BASE, 64, RAM_BASE + 16, Perms::LOAD.union(Perms::STORE))?;
     let Some(opening) = image.harts().first() else {
         return Err(Fail::from("the image has a hart"));
@@ -115,7 +153,7 @@ fn conditions_hold_as_the_model_says(rt: HostRuntime) -> Result<(), Fail> {
         ram: &ram,
     };
     for (text, holds) in ANSWERS {
-        let condition = read_condition(rt.alloc(), &image, text)?;
+        let condition = read_condition(rt.alloc(), &labels, &image, text)?;
         assert!(rt; condition.holds(&shown) == *holds, "{text:?}");
     }
     Ok(())

@@ -1,78 +1,32 @@
--- What a condition hides keeps it: each atom speaks of one hart or of memory.
-use Rattle.std.proofs.Common.{◌≡◌, ◌≢◌, ℕ, zero, suc, ◌+◌, ◌<◌, List, [], ◌∷◌, replicate, length, get_or, slice_get, slice_set, arith, ap, sym, ◌∙◌, refl, inl, inr, subst}
-use Rattle.std.specs.Prelude.{Bool, true, false, not, ◌&&◌, ◌||◌, Option, Some, None}
-use Rattle.std.specs.List.{list_all}
-use Rattle.std.proofs.lemmas.Bool.{cases_eq}
+-- Harts that are all the same, and what a condition of one hart alone says of each state with it.
+use Rattle.std.proofs.Common.{◌≡◌, ℕ, zero, suc, ◌+◌, ◌<◌, ◌==◌, [], ◌∷◌, replicate, length, arith, ap, sym, ◌∙◌, refl, subst}
+use Rattle.std.specs.Prelude.{Bool, true, false, not, if◌then◌else◌, Option, Some, None}
 use Rattle.std.proofs.lemmas.Bool.Decides.{nat_tests}
 use Rattle.std.proofs.lemmas.Grind.{common_steps}
-use Rattle.std.proofs.lemmas.List.{get_or-set_same, get_or-set_other}
 use Rattle.std.proofs.lemmas.Option.{none-some, same_Some}
 use Rattle.cap_model.specs.values.CapValue.{raw}
-use Rattle.cheri_model.specs.steps.Hart.{HartState}
-use Rattle.cheri_model.specs.steps.Memory.{granule_at}
-use Rattle.cheri_model.specs.runs.Machine.{MachineState, hart_at, no_hart}
-use Rattle.conditions.specs.declared.parts.Holder.TheVariants as holder
-use Rattle.conditions.specs.declared.parts.Place.TheVariants as place
+use Rattle.cheri_model.specs.steps.Hart.{HartState, register}
+use Rattle.cheri_model.specs.steps.Memory.{granule_at, load_capability, load_data, bytes_of}
+use Rattle.cheri_model.specs.runs.Machine.{MachineState, hart_at}
 use Rattle.conditions.specs.declared.parts.Atom.{Atom}
 use Rattle.conditions.specs.declared.parts.Atom.TheVariants as atom
-use Rattle.conditions.specs.Values.{value_in, number_at, atom_holds, holds}
-use Rattle.conditions.specs.Hiding.{hart_of, is_number, all_alike, atom_holds_of, holds_of, keeps_hart, hides}
-
-both_true : (a b : Bool) → (a && b) ≡ true → (a ≡ true) × (b ≡ true)
-both_true true b e = (refl, e)
-both_true false b e = absurd (cc)
-
-true_both : (a b : Bool) → a ≡ true → b ≡ true → (a && b) ≡ true
-true_both true b one two = two
-true_both false b one two = absurd (cc)
-
--- what an atom that speaks of a hart says is the same of all states with this hart
-same_hart : (s t : MachineState) (number : ℕ) (a : Atom) → hart_of a ≡ Some number →
-    hart_at s number ≡ hart_at t number → atom_holds s a ≡ atom_holds t a
-unfolding atom_holds number_at value_in
-same_hart s t number (atom.Compares (place.Value (holder.Register hart reg) read) comparison n) is same = search
-same_hart s t number (atom.Compares (place.Value (holder.Pcc hart) read) comparison n) is same = search
-same_hart s t number (atom.Compares (place.Value (holder.Granule addr) read) comparison n) is same = absurd (none-some number is)
-same_hart s t number (atom.Compares (place.Data addr width) comparison n) is same = absurd (none-some number is)
-same_hart s t number (atom.HasStatus hart test) is same = search
-same_hart s t number (atom.Reaches hart addr perms) is same = search
+use Rattle.conditions.specs.declared.parts.Holder.TheVariants as holder
+use Rattle.conditions.specs.declared.parts.Source.{Source}
+use Rattle.conditions.specs.declared.parts.Source.TheVariants as source
+use Rattle.conditions.specs.declared.parts.Subject.{Subject}
+use Rattle.conditions.specs.declared.parts.Subject.TheVariants.{Numbered, Each}
+use Rattle.conditions.specs.declared.parts.Term.TheVariants as term
+use Rattle.conditions.specs.Formulas.{Formula, says, deny, enclosed, join, counted}
+use Rattle.conditions.specs.Holding.{joined, is_so}
+use Rattle.conditions.specs.Values.{field_value, own_value, value_in, number_at, number_of, source_number, term_number, atom_holds, compares, has_status, reaches, is_between}
+use Rattle.cap_model.specs.results.Addresses.{address_of}
+use Rattle.conditions.specs.Hiding.{alone_source, is_same, is_of, alone_both, alone_atom, alone, all_alike, copies, so_of}
 
 -- each granule of a memory of one that is null is null
 pub null_granule : (k : ℕ) → granule_at (raw 0 ∷ []) k ≡ raw 0
 unfolding granule_at
 null_granule zero = refl
 null_granule (suc k) = refl
-
--- and one that speaks of memory says the same of all states with this memory
-same_memory : (s t : MachineState) (a : Atom) → hart_of a ≡ None → s.memory ≡ t.memory →
-    atom_holds s a ≡ atom_holds t a
-unfolding atom_holds number_at value_in
-same_memory s t (atom.Compares (place.Value (holder.Register hart reg) read) comparison n) is same = absurd (none-some hart (sym is))
-same_memory s t (atom.Compares (place.Value (holder.Pcc hart) read) comparison n) is same = absurd (none-some hart (sym is))
-same_memory s t (atom.Compares (place.Value (holder.Granule addr) read) comparison n) is same = search
-same_memory s t (atom.Compares (place.Data addr width) comparison n) is same = search
-same_memory s t (atom.HasStatus hart test) is same = absurd (none-some hart (sym is))
-same_memory s t (atom.Reaches hart addr perms) is same = absurd (none-some hart (sym is))
-
-all_in : (p q : Atom → Bool) (xs : List Atom) → ((a : Atom) → p a ≡ true → q a ≡ true) → list_all p xs ≡ true →
-    list_all q xs ≡ true
-all_in p q [] each all = refl
-all_in p q (x ∷ xs) each all =
-    let both = both_true (p x) (list_all p xs) all in
-    true_both (q x) (list_all q xs) (each x both.0) (all_in p q xs each both.1)
-
-all_get : (p : Atom → Bool) (xs : List Atom) (k : ℕ) (a : Atom) → list_all p xs ≡ true → slice_get xs k ≡ Some a →
-    p a ≡ true
-all_get p [] k a all is = absurd (none-some a is)
-all_get p (x ∷ xs) zero a all is =
-    subst (λ (y : Atom). p y ≡ true) (same_Some x a is) (both_true (p x) (list_all p xs) all).0
-all_get p (x ∷ xs) (suc k) a all is = all_get p xs k a (both_true (p x) (list_all p xs) all).1 is
-
-all_of : (p : Atom → Bool) (xs : List Atom) → ((k : ℕ) (a : Atom) → slice_get xs k ≡ Some a → p a ≡ true) →
-    list_all p xs ≡ true
-all_of p [] each = refl
-all_of p (x ∷ xs) each =
-    true_both (p x) (list_all p xs) (each 0 x refl) (all_of p xs (λ k a is. each (suc k) a is))
 
 pub copy_at : (count : ℕ) (hart : HartState) (number : ℕ) → number < length (replicate count hart) →
     hart_at (all_alike count hart) number ≡ hart
@@ -83,84 +37,108 @@ copied : (number : ℕ) (hart : HartState) → hart_at (all_alike (number + 1) h
 unfolding hart_at
 copied number hart = grind (arith, common_steps)
 
-is_hart : (number : ℕ) (o : Option ℕ) → is_number number o ≡ true → o ≡ Some number
-is_hart number (Some hart) is = grind (arith, nat_tests)
-is_hart number None is = absurd (cc)
+pub copy_of : (who : Subject) (hart : HartState) → hart_at (copies who hart) (number_of who 0) ≡ hart
+unfolding number_of
+copy_of (Numbered number) hart = copied number hart
+copy_of Each hart = copied 0 hart
 
-hart_is : (number : ℕ) (o : Option ℕ) → o ≡ Some number → is_number number o ≡ true
-hart_is number (Some hart) is = grind (arith, nat_tests)
-hart_is number None is = absurd (none-some number is)
+-- ---- one hart alone
 
-implied : (a b : Bool) → (a ≡ true → b ≡ true) → (not a || b) ≡ true
-implied true b gives = gives refl
-implied false b gives = refl
+same_subject : (who other : Subject) → is_same who other ≡ true → who ≡ other
+same_subject (Numbered a) (Numbered b) is = let same : a ≡ b = grind (arith, nat_tests) in ap Numbered same
+same_subject (Numbered a) Each is = absurd (cc)
+same_subject Each (Numbered b) is = absurd (cc)
+same_subject Each Each is = refl
 
-implying : (a b : Bool) → (not a || b) ≡ true → a ≡ true → b ≡ true
-implying true b is so = is
-implying false b is so = absurd (cc)
+pub of_is : (who : Subject) (o : Option Subject) → is_of who o ≡ true → o ≡ Some who
+of_is who (Some other) is = ap Some (sym (same_subject who other is))
+of_is who None is = absurd (cc)
 
--- of the hart of a number all atoms hold, where they hold in the state
-hold_of : (state : MachineState) (number : ℕ) (hart : HartState) (atoms : List Atom) → hart_at state number ≡ hart →
-    holds state atoms ≡ true → holds_of atoms number hart ≡ true
-unfolding holds holds_of atom_holds_of
-hold_of state number hart atoms here all =
-    all_in (atom_holds state) (atom_holds_of number hart) atoms
-    (λ a so. implied (is_number number (hart_of a)) (atom_holds (all_alike (number + 1) hart) a)
-    (λ is. same_hart (all_alike (number + 1) hart) state number a (is_hart number (hart_of a) is)
-    (copied number hart ∙ sym here) ∙ so)) all
+pub is_of_same : (who : Subject) (o : Option Subject) → o ≡ Some who → is_of who o ≡ true
+is_of_same (Numbered a) (Some (Numbered b)) is = let same : b ≡ a = cc in grind (arith, nat_tests)
+is_of_same (Numbered a) (Some Each) is = absurd (cc)
+is_of_same Each (Some (Numbered b)) is = absurd (cc)
+is_of_same Each (Some Each) is = refl
+is_of_same who None is = absurd (none-some who is)
 
-of_hart : (number : ℕ) (hart : HartState) (a : Atom) → hart_of a ≡ Some number → atom_holds_of number hart a ≡ true →
-    atom_holds (all_alike (number + 1) hart) a ≡ true
-unfolding atom_holds_of
-of_hart number hart a is all =
-    implying (is_number number (hart_of a)) (atom_holds (all_alike (number + 1) hart) a) all (hart_is number (hart_of a) is)
+both_if : (who w : Subject) (test : Bool) → (if test then Some w else None) ≡ Some who → (test ≡ true) × (w ≡ who)
+both_if who w true is = (refl, same_Some w who is)
+both_if who w false is = absurd (none-some who is)
 
-there_is : (hs : List HartState) (k : ℕ) (h d : HartState) → slice_get hs k ≡ Some h →
-    (k < length hs) × (get_or hs k d ≡ h)
-there_is [] k h d is = absurd (none-some h is)
-there_is (g ∷ hs) zero h d is = (omega arith, same_Some g h is)
-there_is (g ∷ hs) (suc k) h d is = let later = there_is hs k h d is in (omega (arith, later.0), later.1)
+pub both_of : (o p : Option Subject) (who : Subject) → alone_both o p ≡ Some who → (o ≡ Some who) × (p ≡ Some who)
+unfolding alone_both
+both_of None p who is = absurd (none-some who is)
+both_of (Some w) p who is =
+    let so = both_if who w (is_of w p) is in (ap Some so.1, of_is w p so.0 ∙ ap Some so.1)
 
-module _ (state : MachineState) (number : ℕ) (before after : HartState) where
-  abbrev there : MachineState
-  there = record state { harts = slice_set state.harts number after }
+source_same : (s t : MachineState) (b c : ℕ) (who : Subject) (from : Source) → alone_source from ≡ Some who
+    → hart_at s (number_of who b) ≡ hart_at t (number_of who c) → source_number s b from ≡ source_number t c from
+unfolding alone_source source_number number_at value_in number_of
+source_same s t b c who (source.Value (holder.Register hart reg) read) is same =
+    let named : Numbered hart ≡ who = same_Some (Numbered hart) who is in
+    let here : hart_at s hart ≡ hart_at t hart = subst (λ (w : Subject). hart_at s (number_of w b) ≡ hart_at t (number_of w c)) (sym named) same in
+    ap (λ (x : HartState). field_value read (register x reg)) here
+source_same s t b c who (source.Value (holder.Pcc hart) read) is same =
+    let named : Numbered hart ≡ who = same_Some (Numbered hart) who is in
+    let here : hart_at s hart ≡ hart_at t hart = subst (λ (w : Subject). hart_at s (number_of w b) ≡ hart_at t (number_of w c)) (sym named) same in
+    ap (λ (x : HartState). field_value read x.pcc) here
+source_same s t b c who (source.Value (holder.Granule addr) read) is same = absurd (none-some who is)
+source_same s t b c who (source.Data addr width) is same = absurd (none-some who is)
+source_same s t b c who (source.Each held read) is same =
+    let named : Each ≡ who = same_Some Each who is in
+    let here : hart_at s b ≡ hart_at t c = subst (λ (w : Subject). hart_at s (number_of w b) ≡ hart_at t (number_of w c)) (sym named) same in
+    ap (λ (x : HartState). field_value read (own_value held x)) here
 
-  old_here : slice_get state.harts number ≡ Some before → hart_at state number ≡ before
-  unfolding hart_at
-  old_here is = (there_is state.harts number before no_hart is).1
+-- memory alone is the same wherever memory is
+pub memory_same : (s t : MachineState) (b c : ℕ) (from : Source) → alone_source from ≡ None → s.memory ≡ t.memory
+    → source_number s b from ≡ source_number t c from
+unfolding alone_source source_number number_at value_in
+memory_same s t b c (source.Value (holder.Register hart reg) read) is same = absurd (none-some (Numbered hart) (sym is))
+memory_same s t b c (source.Value (holder.Pcc hart) read) is same = absurd (none-some (Numbered hart) (sym is))
+memory_same s t b c (source.Value (holder.Granule addr) read) is same = ap (λ m. field_value read (load_capability m addr)) same
+memory_same s t b c (source.Data addr width) is same = ap (λ m. load_data m addr (bytes_of width)) same
+memory_same s t b c (source.Each held read) is same = absurd (none-some Each (sym is))
 
-  new_here : slice_get state.harts number ≡ Some before → hart_at there number ≡ after
-  unfolding hart_at
-  new_here is = get_or-set_same state.harts number after no_hart (there_is state.harts number before no_hart is).0
+pub source_alone : (s t : MachineState) (b c : ℕ) (who : Subject) (from : Source) → alone_source from ≡ Some who
+    → hart_at s (number_of who b) ≡ hart_at t (number_of who c) → source_number s b from ≡ source_number t c from
+source_alone = source_same
 
-  new_other : (other : ℕ) → other ≢ number → hart_at there other ≡ hart_at state other
-  unfolding hart_at
-  new_other other apart = get_or-set_other state.harts number other after no_hart apart
+named_same : (s t : MachineState) (b c : ℕ) (w who : Subject) → w ≡ who → hart_at s (number_of who b) ≡ hart_at t (number_of who c)
+    → hart_at s (number_of w b) ≡ hart_at t (number_of w c)
+named_same s t b c w who named same = subst (λ (x : Subject). hart_at s (number_of x b) ≡ hart_at t (number_of x c)) (sym named) same
 
-  -- one atom, by what it speaks of
-  one_kept : (atoms : List Atom) (k : ℕ) (a : Atom) (o : Option ℕ) → slice_get state.harts number ≡ Some before →
-      slice_get atoms k ≡ Some a → hart_of a ≡ o → keeps_hart atoms before after o ≡ true → holds state atoms ≡ true →
-      atom_holds there a ≡ true
-  unfolding holds keeps_hart holds_of
-  one_kept atoms k a None here at is keeps all =
-      same_memory there state a is refl ∙ all_get (atom_holds state) atoms k a all at
-  one_kept atoms k a (Some other) here at is keeps all = elim (cases_eq other number) [
-    | inl same ↦
-        let named : hart_of a ≡ Some number = is ∙ ap Some same in
-        let kept = subst (λ (n : ℕ). keeps_hart atoms before after (Some n) ≡ true) same keeps in
-        let held = hold_of state number before atoms (old_here here) all in
-        let holding = implying (holds_of atoms number before) (holds_of atoms number after) kept held in
-        same_hart there (all_alike (number + 1) after) number a named (new_here here ∙ sym (copied number after))
-        ∙ of_hart number after a named (all_get (atom_holds_of number after) atoms k a holding at)
-    | inr apart ↦
-        same_hart there state other a is (new_other other apart) ∙ all_get (atom_holds state) atoms k a all at
-  ]
+atom_same : (s t : MachineState) (b c : ℕ) (who : Subject) (a : Atom) → alone_atom a ≡ Some who
+    → hart_at s (number_of who b) ≡ hart_at t (number_of who c) → atom_holds s b a ≡ atom_holds t c a
+unfolding alone_atom atom_holds term_number
+atom_same s t b c who (atom.Compares from compared (term.Number number)) is same =
+    ap (λ x. compares compared x number) (source_same s t b c who from is same)
+atom_same s t b c who (atom.Compares from compared (term.Source other)) is same =
+    let both = both_of (alone_source from) (alone_source other) who is in
+    ap (λ x. compares compared x (source_number s b other)) (source_same s t b c who from both.0 same)
+    ∙ ap (λ y. compares compared (source_number t c from) y) (source_same s t b c who other both.1 same)
+atom_same s t b c who (atom.HasStatus w test) is same =
+    ap (λ (x : HartState). has_status test x.status) (named_same s t b c w who (same_Some w who is) same)
+atom_same s t b c who (atom.Reaches w addr perms) is same =
+    ap (λ (x : HartState). reaches addr perms x) (named_same s t b c w who (same_Some w who is) same)
+atom_same s t b c who (atom.IsAt w addr) is same =
+    ap (λ (x : HartState). address_of x.pcc == addr) (named_same s t b c w who (same_Some w who is) same)
+atom_same s t b c who (atom.IsIn w first second) is same =
+    ap (λ (x : HartState). is_between first second (address_of x.pcc)) (named_same s t b c w who (same_Some w who is) same)
 
-pub hidden_keeps : (atoms : List Atom) (before after : HartState) (state : MachineState) (number : ℕ) →
-    hides atoms before after ≡ true → slice_get state.harts number ≡ Some before → holds state atoms ≡ true →
-    holds (record state { harts = slice_set state.harts number after }) atoms ≡ true
-unfolding hides holds
-hidden_keeps atoms before after state number hidden here all =
-    all_of (atom_holds (record state { harts = slice_set state.harts number after })) atoms
-    (λ k a at. one_kept state number before after atoms k a (hart_of a) here at refl
-    (all_get (λ b. keeps_hart atoms before after (hart_of b)) atoms k a hidden at) all)
+-- a condition of one hart alone says the same of all states with this hart
+pub same_hart : (s t : MachineState) (b c : ℕ) (who : Subject) (f : Formula) → alone f ≡ Some who
+    → hart_at s (number_of who b) ≡ hart_at t (number_of who c) → is_so s b f ≡ is_so t c f
+unfolding alone is_so
+same_hart s t b c who (says a) is same = atom_same s t b c who a is same
+same_hart s t b c who (deny f) is same = ap not (same_hart s t b c who f is same)
+same_hart s t b c who (enclosed f) is same = same_hart s t b c who f is same
+same_hart s t b c who (join j f g) is same =
+    let both = both_of (alone f) (alone g) who is in
+    ap (λ x. joined j x (is_so s b g)) (same_hart s t b c who f both.0 same)
+    ∙ ap (λ y. joined j (is_so t c f) y) (same_hart s t b c who g both.1 same)
+same_hart s t b c who (counted f d m) is same = absurd (none-some who is)
+
+pub so_here : (s : MachineState) (b : ℕ) (who : Subject) (hart : HartState) (f : Formula) → alone f ≡ Some who
+    → hart_at s (number_of who b) ≡ hart → is_so s b f ≡ so_of who hart f
+unfolding so_of
+so_here s b who hart f is here = same_hart s (copies who hart) b 0 who f is (here ∙ sym (copy_of who hart))

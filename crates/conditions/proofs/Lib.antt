@@ -1,7 +1,17 @@
 pub mod Unfold
 pub mod Rulesets
+pub mod FormulaLemmas
+pub mod Ranks
+pub mod NestingLemmas
+pub mod PartLemmas
 pub mod HoldingLemmas
 pub mod HidingLemmas
+pub mod JoinedLemmas
+pub mod AroundLemmas
+pub mod KeepingLemmas
+pub mod MovingLemmas
+pub mod HiddenLemmas
 pub mod PlaceLemmas
 pub mod ReadingLemmas
 pub mod StartLemmas
+pub mod WordLemmas

@@ -21,7 +21,7 @@ comparison_table =
 unfoldable pub comparison_of : List ℕ → Option Comparison
 comparison_of word = found_at comparison_table word
 
--- a trap of any cause, or of one cause from 1 to 13
+-- a trap of any cause, or of one cause from 1 to 13, by its number or its name
 abbrev pub status_table : List (List ℕ × StatusTest)
 status_table =
     (codes "running", Running) ∷ (codes "halted", Halted) ∷ (codes "trapped", Trapped)
@@ -31,7 +31,20 @@ status_table =
     ∷ (codes "trapped:7", TrappedBy 7) ∷ (codes "trapped:8", TrappedBy 8)
     ∷ (codes "trapped:9", TrappedBy 9) ∷ (codes "trapped:10", TrappedBy 10)
     ∷ (codes "trapped:11", TrappedBy 11) ∷ (codes "trapped:12", TrappedBy 12)
-    ∷ (codes "trapped:13", TrappedBy 13) ∷ []
+    ∷ (codes "trapped:13", TrappedBy 13)
+    ∷ (codes "trapped:Tag", TrappedBy 1)
+    ∷ (codes "trapped:Seal", TrappedBy 2)
+    ∷ (codes "trapped:Execute", TrappedBy 3)
+    ∷ (codes "trapped:Load", TrappedBy 4)
+    ∷ (codes "trapped:Store", TrappedBy 5)
+    ∷ (codes "trapped:StoreCap", TrappedBy 6)
+    ∷ (codes "trapped:StoreLocal", TrappedBy 7)
+    ∷ (codes "trapped:Length", TrappedBy 8)
+    ∷ (codes "trapped:Align", TrappedBy 9)
+    ∷ (codes "trapped:Place", TrappedBy 10)
+    ∷ (codes "trapped:Fetch", TrappedBy 11)
+    ∷ (codes "trapped:Type", TrappedBy 12)
+    ∷ (codes "trapped:CInvoke", TrappedBy 13) ∷ []
 
 unfoldable pub status_of : List ℕ → Option StatusTest
 status_of word = found_at status_table word

@@ -20,6 +20,10 @@ use Rattle.conditions.specs.declared.parts.Field.{Field}
 use Rattle.conditions.specs.declared.parts.Field.TheVariants as field
 use Rattle.conditions.specs.declared.parts.Holder.{Holder}
 use Rattle.conditions.specs.declared.parts.Holder.TheVariants as holder
+use Rattle.conditions.specs.declared.parts.Own.{Own}
+use Rattle.conditions.specs.declared.parts.Own.TheVariants as own
+use Rattle.conditions.specs.declared.parts.Source.{Source}
+use Rattle.conditions.specs.declared.parts.Source.TheVariants as source
 use Rattle.conditions.specs.declared.parts.Place.{Place}
 use Rattle.conditions.specs.declared.parts.Place.TheVariants as place
 
@@ -126,3 +130,32 @@ place_of image word =
     else if is_data word
     then data_place image (slice_index word 3) (slice_range word 5 (length word - 1))
     else None
+
+-- `h.`, and what it begins: `cN` or `pcc` with an optional field
+abbrev pub begins_each : List ℕ → Bool
+begins_each word = starts_with nat_eq word (codes "h.")
+
+abbrev pub own_read : Result ℕ ListingFaultKind → Option Own
+own_read (Ok number) = Some (own.Register number)
+own_read (Err fault) = None
+
+unfoldable pub own_named : List ℕ → Option Own
+own_named name = if bytes_eq name (codes "pcc") then Some own.Pcc else own_read (register_of name)
+
+unfoldable pub own_place : List ℕ → Option Source
+own_place rest =
+    let name = before_first (λ b. b == 0x2E) rest in do
+      held ← own_named name
+      read ← field_of (drop (length name) rest)
+      Some (source.Each held read)
+
+abbrev pub source_at : Option Place → Option Source
+source_at (Some (place.Value held read)) = Some (source.Value held read)
+source_at (Some (place.Data addr width)) = Some (source.Data addr width)
+source_at None = None
+
+-- the number that a word names; `h` may stand where each hart is spoken of
+unfoldable pub source_of : ImageParts → Bool → List ℕ → Option Source
+source_of image each word =
+    if begins_each word then (if each then own_place (drop 2 word) else None)
+    else source_at (place_of image word)

@@ -1,12 +1,12 @@
--- What places are in a state, and what conditions say of it.
+-- What places are in a state, and what atoms say of it.
 use Rattle.std.specs.Prelude.{ℕ, ◌+◌, ◌==◌, nat_lt, nat_le, Bool, true, false, not, ◌&&◌, ◌||◌}
-use Rattle.std.specs.Prelude.{List, zero, suc, bit_and}
-use Rattle.std.specs.List.{list_all}
+use Rattle.std.specs.Prelude.{zero, suc, bit_and}
 use Rattle.cap_model.specs.declared.perms.Perms.{Perms}
 use Rattle.cap_model.specs.values.CapValue.{CapValue, valid, raw, bits_of, tag_of}
 use Rattle.cap_model.specs.results.Addresses.{address_of, length_of}
-use Rattle.cap_model.specs.results.Readings.{number_of, base_of, top_of, permissions_of, is_sealed}
+use Rattle.cap_model.specs.results.Readings.{base_of, top_of, permissions_of, is_sealed}
 use Rattle.cap_model.specs.results.Readings.{object_type_of}
+use Rattle.cap_model.specs.results.Readings as reading
 use Rattle.cheri_model.specs.declared.trace.Status.{Status}
 use Rattle.cheri_model.specs.declared.trace.Status.TheVariants as status
 use Rattle.cheri_model.specs.steps.Hart.{HartState, register}
@@ -22,17 +22,25 @@ use Rattle.conditions.specs.declared.parts.Comparison.{Comparison}
 use Rattle.conditions.specs.declared.parts.Comparison.TheVariants as comparison
 use Rattle.conditions.specs.declared.parts.StatusTest.{StatusTest}
 use Rattle.conditions.specs.declared.parts.StatusTest.TheVariants as test
+use Rattle.conditions.specs.declared.parts.Subject.{Subject}
+use Rattle.conditions.specs.declared.parts.Subject.TheVariants as subject
+use Rattle.conditions.specs.declared.parts.Own.{Own}
+use Rattle.conditions.specs.declared.parts.Own.TheVariants as own
+use Rattle.conditions.specs.declared.parts.Source.{Source}
+use Rattle.conditions.specs.declared.parts.Source.TheVariants as source
+use Rattle.conditions.specs.declared.parts.Term.{Term}
+use Rattle.conditions.specs.declared.parts.Term.TheVariants as term
 use Rattle.conditions.specs.declared.parts.Atom.{Atom}
 use Rattle.conditions.specs.declared.parts.Atom.TheVariants as atom
 
 -- what instructions read of a value, its decoded top, its type's number and all its bits
 unfoldable pub field_value : Field → CapValue → ℕ
 field_value field.Addr v = address_of v
-field_value field.Tag v = number_of (tag_of v)
+field_value field.Tag v = reading.number_of (tag_of v)
 field_value field.Base v = base_of v
 field_value field.Len v = length_of v
 field_value field.Perms v = permissions_of v
-field_value field.Sealed v = number_of (is_sealed v)
+field_value field.Sealed v = reading.number_of (is_sealed v)
 field_value field.Top v = top_of v
 field_value field.Type v = object_type_of v
 field_value field.Word v = bits_of v
@@ -100,13 +108,41 @@ registers_grant addr perms hart number (suc count) =
 unfoldable pub reaches : ℕ → Perms → HartState → Bool
 reaches addr perms hart = grants addr perms hart.pcc || registers_grant addr perms hart 1 31
 
--- an atom holds in a state
-unfoldable pub atom_holds : MachineState → Atom → Bool
-atom_holds state (atom.Compares at comparison number) =
-    compares comparison (number_at at state) number
-atom_holds state (atom.HasStatus hart wanted) = has_status wanted (hart_at state hart).status
-atom_holds state (atom.Reaches hart addr perms) = reaches addr perms (hart_at state hart)
+-- the number of the hart that is spoken of, where `h` is the one of this number
+unfoldable pub number_of : Subject → ℕ → ℕ
+number_of (subject.Numbered number) each = number
+number_of subject.Each each = each
 
--- a condition holds where all its atoms hold
-unfoldable pub holds : MachineState → List Atom → Bool
-holds state atoms = list_all (atom_holds state) atoms
+abbrev pub hart_of : MachineState → ℕ → Subject → HartState
+hart_of state each who = hart_at state (number_of who each)
+
+-- a register or PCC of a hart
+unfoldable pub own_value : Own → HartState → CapValue
+own_value (own.Register reg) hart = register hart reg
+own_value own.Pcc hart = hart.pcc
+
+-- the number that is read, and the one that it is compared with
+unfoldable pub source_number : MachineState → ℕ → Source → ℕ
+source_number state each (source.Value held read) = number_at (place.Value held read) state
+source_number state each (source.Data addr width) = number_at (place.Data addr width) state
+source_number state each (source.Each held read) =
+    field_value read (own_value held (hart_at state each))
+
+unfoldable pub term_number : MachineState → ℕ → Term → ℕ
+term_number state each (term.Number number) = number
+term_number state each (term.Source from) = source_number state each from
+
+-- an address is at least the first one and below the second
+abbrev pub is_between : ℕ → ℕ → ℕ → Bool
+is_between first second addr = nat_le first addr && nat_lt addr second
+
+-- an atom holds in a state
+unfoldable pub atom_holds : MachineState → ℕ → Atom → Bool
+atom_holds state each (atom.Compares from comparison with) =
+    compares comparison (source_number state each from) (term_number state each with)
+atom_holds state each (atom.HasStatus who wanted) =
+    has_status wanted (hart_of state each who).status
+atom_holds state each (atom.Reaches who addr perms) = reaches addr perms (hart_of state each who)
+atom_holds state each (atom.IsAt who addr) = address_of (hart_of state each who).pcc == addr
+atom_holds state each (atom.IsIn who first second) =
+    is_between first second (address_of (hart_of state each who).pcc)

@@ -36,6 +36,19 @@ const STATUSES: &[(&str, StatusTest)] = &[
     ("trapped:11", StatusTest::TrappedBy(11)),
     ("trapped:12", StatusTest::TrappedBy(12)),
     ("trapped:13", StatusTest::TrappedBy(13)),
+    ("trapped:Tag", StatusTest::TrappedBy(1)),
+    ("trapped:Seal", StatusTest::TrappedBy(2)),
+    ("trapped:Execute", StatusTest::TrappedBy(3)),
+    ("trapped:Load", StatusTest::TrappedBy(4)),
+    ("trapped:Store", StatusTest::TrappedBy(5)),
+    ("trapped:StoreCap", StatusTest::TrappedBy(6)),
+    ("trapped:StoreLocal", StatusTest::TrappedBy(7)),
+    ("trapped:Length", StatusTest::TrappedBy(8)),
+    ("trapped:Align", StatusTest::TrappedBy(9)),
+    ("trapped:Place", StatusTest::TrappedBy(10)),
+    ("trapped:Fetch", StatusTest::TrappedBy(11)),
+    ("trapped:Type", StatusTest::TrappedBy(12)),
+    ("trapped:CInvoke", StatusTest::TrappedBy(13)),
 ];
 
 /// The comparison that a word names.

@@ -1,84 +1,89 @@
 //! Conditions: one argument's grammar, and whether a condition holds in a state.
 #![tactic(auto, unfolding(crate::proofs::Unfold::conditions))]
 
-ghost use Rattle.std.specs.Prelude.{◌≡◌, IfOk, map};
-ghost use Rattle.conditions.specs.Conditions.{
-  may_end,
-  atoms_from,
-  condition_of,
-  GivesWords,
-  GivesCondition,
-};
-ghost use Rattle.conditions.specs.Values.{holds};
+ghost use Rattle.std.specs.Prelude.{◌≡◌, IfOk, map, slice_get, length};
+ghost use Rattle.grammar.specs.LabelMap.{label_parts};
+ghost use Rattle.conditions.specs.Conditions.{condition_of, start_of, whole, nodes_or_byte};
+ghost use Rattle.conditions.specs.Conditions.{GivesCondition, GivesWords};
+ghost use Rattle.conditions.specs.Reading.{context_of};
+ghost use Rattle.conditions.specs.Formulas.{formula_of, nodes_of};
+ghost use Rattle.conditions.specs.Holding.{holds};
+ghost use Rattle.conditions.specs.WordPairs.{word_pairs};
 
 use crate::fault::TextFault;
-use crate::parts::Atom;
-use crate::reading::{Expected, Step, step_of};
+use crate::holding::is_so;
+use crate::parts::Node;
+use crate::reading::Reader;
 use crate::view::StateView;
-use crate::words::{WordFault, push, word_start, words_of};
+use crate::words::{Word, WordFault, condition_words};
 use cheri_model::Image;
+use grammar::labels::Labels;
 use std::alloc::{AllocError, Global};
 use std::marker::Model;
 
-/// A condition on states of the machine: all its atoms hold.
+/// The most bytes of a condition.
+pub const MAX_BYTES: usize = 131_072;
+
+/// How many parentheses of a condition may be open at once.
+pub const MAX_PARENTHESES: u8 = 32;
+
+/// A condition on states of the machine.
 #[derive(Debug, Drop)]
 pub struct Condition {
-    pub(crate) atoms: Vec<Atom>,
+    pub(crate) nodes: Vec<Node>,
 }
 
 impl Model for Condition {
-    ghost use Rattle.std.specs.Prelude.{List};
-    ghost use Rattle.conditions.specs.declared.parts.Atom.{Atom};
+    ghost use Rattle.std.specs.Prelude.{List, ◌≡◌};
+    ghost use Rattle.conditions.specs.Formulas.{formula_of, nodes_of};
+    ghost use Rattle.conditions.specs.declared.parts.Node.{Node};
 
-    ghost Value = { List Atom };
+    ghost Value = { List Node };
 
-    ghost view = { λ condition. condition.atoms.items };
+    ghost view = { λ condition. condition.nodes.items };
+
+    ghost invariant = { λ condition. nodes_of (formula_of condition.nodes.items)
+        ≡ condition.nodes.items };
 }
 
-/// The atoms of a condition's words, in turn, or the number of the first word that cannot stand
-/// where it is: the count of words where one is missing.
-fn atoms_of(alloc: Global, image: &Image, words: &[&str]) -> Result<Vec<Atom>, WordFault>
-    ensures { GivesWords result
-        (atoms_from image.now Expected.Subject 0 (map (λ word. word.now) words.now)) }
+/// The byte where the word of a number begins; the text's length where there is no such word.
+fn start_of(text: &[u8], words: &[Word<'_>], number: usize) -> usize
+    ensures { result ≡ start_of text.now (slice_get (word_pairs words.now) number) }
 {
-    let mut atoms = Vec::new(alloc);
-    let mut expected = Expected::Subject;
-    for (number, word) in words.iter().enumerate() {
-        match step_of(image, expected, word.as_bytes()) {
-            Some(Step::Expects(next)) => expected = next,
-            Some(Step::Ends(atom)) => {
-                push(&mut atoms, atom)?;
-                expected = Expected::And;
-            }
-            None => return Err(WordFault::At(number)),
+    match words.get(number) {
+        Some(word) => word.start,
+        None => text.len(),
+    }
+}
+
+/// The condition that a text writes, for an image and the labels of its listing: its harts, places
+/// and labels are theirs. A fault is at the first word that cannot stand where it is; running out
+/// of memory says nothing of the text.
+pub fn read_condition<'a>(
+    alloc: Global,
+    labels: &'a Labels<'a>,
+    image: &'a Image,
+    text: &'a str,
+) -> Result<Condition, TextFault>
+    ensures { GivesCondition result
+        (condition_of (label_parts labels.now) image.now text.now) }
+{
+    let text = text.as_bytes();
+    if text.len() > MAX_BYTES {
+        return Err(TextFault::Condition(MAX_BYTES));
+    }
+    let words = condition_words(alloc, text)?;
+    let reader = Reader {
+        labels,
+        image,
+        words: words.as_slice(),
+    };
+    match reader.whole(alloc) {
+        Ok(nodes) => Ok(Condition { nodes }),
+        Err(WordFault::At(number)) => {
+            let byte = start_of(text, words.as_slice(), number);
+            Err(TextFault::Condition(byte))
         }
-    }
-    if !may_end(expected) {
-        return Err(WordFault::At(words.len()));
-    }
-    Ok(atoms)
-}
-
-/// Whether a condition can end here.
-fn may_end(expected: Expected) -> bool
-    ensures { result ≡ may_end expected }
-{
-    matches!(expected, Expected::And)
-}
-
-/// The condition that a text writes, for an image: its harts and places are the image's. A fault is
-/// at the first word that cannot stand where it is; running out of memory says nothing of the text.
-pub fn read_condition(alloc: Global, image: &Image, text: &str) -> Result<Condition, TextFault>
-    ensures { GivesCondition result (condition_of image.now text.now) }
-{
-    let words = words_of(alloc, ' ', text)?;
-    match atoms_of(alloc, image, words.as_slice()) {
-        Ok(atoms) => Ok(Condition { atoms }),
-        Err(WordFault::At(number)) => Err(TextFault::Condition(word_start(
-            b' ',
-            text.as_bytes(),
-            number,
-        ))),
         Err(WordFault::NoMemory) => Err(TextFault::NoMemory),
     }
 }
@@ -88,14 +93,14 @@ impl Condition {
     pub fn copy(&self, alloc: Global) -> Result<Condition, AllocError>
         ensures { IfOk result (λ copy. copy ≡ self.now) }
     {
-        let atoms = Vec::from_slice(alloc, self.atoms.as_slice())?;
-        Ok(Condition { atoms })
+        let nodes = Vec::from_slice(alloc, self.nodes.as_slice())?;
+        Ok(Condition { nodes })
     }
 
-    /// Whether all atoms hold in a state.
+    /// Whether it holds in a state.
     pub fn holds<V: StateView>(&self, view: &V) -> bool
         ensures { result ≡ holds (V.state view.now) self.now }
     {
-        self.atoms.iter().all(|atom| atom.holds(view))
+        is_so(view, 0, self.nodes.as_slice())
     }
 }

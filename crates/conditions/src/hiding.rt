@@ -1,22 +1,38 @@
 //! What a condition doesn't see of a hart's steps.
 #![tactic(auto, unfolding(crate::proofs::Unfold::hiding))]
 
-ghost use Rattle.std.specs.Prelude.{◌≡◌, ◌+◌};
+ghost use Rattle.std.specs.Prelude.{◌≡◌, ◌<◌, ◌&&◌, ◌||◌, not, IfSome, length, None};
+ghost use Rattle.conditions.specs.Parts.{IsJoined};
+ghost use Rattle.conditions.specs.Formulas.{Formula, nodes_of, formula_of};
 ghost use Rattle.conditions.specs.Hiding.{
-  hart_of_holder,
-  hart_of_place,
-  hart_of,
-  is_number,
+  Chain,
   all_alike,
-  atom_holds_of,
-  holds_of,
-  keeps_hart,
+  alone,
+  atom_keeps,
+  chain_of,
+  copies,
   hides,
+  is_joint,
+  keeps,
+  neutral,
+  part_so,
+  parts_so,
+  so_of,
+  source_moves,
+  stays_so,
+  term_moves,
+  unit_so,
 };
+ghost use Rattle.conditions.specs.Units.{IsAround};
+ghost use Rattle.conditions.specs.Values.{source_number};
 
+use crate::alone::alone;
 use crate::conditions::Condition;
-use crate::parts::{Atom, Holder, Place};
+use crate::formulas::{Parts, parts_of};
+use crate::holding::is_so;
+use crate::parts::{Atom, Joint, Node, Source, Subject, Term};
 use crate::view::StateView;
+use crate::ways::Way;
 use cap_ops::Cap;
 use cheri_model::{Reg, Status};
 use hart::Hart;
@@ -29,15 +45,15 @@ struct Copies<'a> {
 }
 
 impl<'a> Copies<'a> {
-    /// Up to a number.
-    fn up_to(number: u8, hart: &'a Hart) -> Copies<'a>
-        ensures count { result.count ≡ number + 1 }
-        ensures hart { result.hart.now ≡ hart.now }
+    /// Up to the one that is spoken of.
+    fn of(who: Subject, hart: &'a Hart) -> Copies<'a>
+        ensures { all_alike result.count result.hart.now ≡ copies who hart.now }
     {
-        Copies {
-            count: usize::from(number) + 1,
-            hart,
-        }
+        let count = match who {
+            Subject::Numbered(number) => usize::from(number) + 1,
+            Subject::Each => 1,
+        };
+        Copies { count, hart }
     }
 }
 
@@ -69,102 +85,248 @@ impl StateView for Copies<'_> {
     }
 }
 
-impl Holder {
-    /// The hart that this is of; none where it is a granule.
-    fn hart(self) -> Option<u8>
-        ensures { result ≡ hart_of_holder self }
+/// Whether the condition of some nodes, which speaks of one hart alone, holds of it.
+fn so_of(who: Subject, hart: &Hart, nodes: &[Node]) -> bool
+    ensures { (formula : Formula) → nodes.now ≡ nodes_of formula → result
+        ≡ so_of who hart.now formula }
+{
+    let copies = Copies::of(who, hart);
+    is_so(&copies, 0, nodes)
+}
+
+/// The number that is read of a hart.
+fn number_of_hart(who: Subject, hart: &Hart, source: &Source) -> u128
+    ensures { result ≡ source_number (copies who hart.now) 0 source.now }
+{
+    let copies = Copies::of(who, hart);
+    (*source).number(&copies, 0)
+}
+
+/// A step of a hart: the hart before it and after it.
+#[derive(Clone, Copy)]
+struct Step<'a> {
+    before: &'a Hart,
+    after: &'a Hart,
+}
+
+impl Joint {
+    /// Whether this is the same.
+    fn is_joint(self, other: Joint) -> bool
+        ensures { result ≡ is_joint self other }
+    {
+        matches!(
+            (self, other),
+            (Joint::And, Joint::And) | (Joint::Or, Joint::Or)
+        )
+    }
+
+    /// What doesn't count where parts are joined.
+    fn neutral(self) -> bool
+        ensures { result ≡ neutral self }
+    {
+        matches!(self, Joint::And)
+    }
+}
+
+/// Whether a part holds of a hart, if it is of this one alone; else it doesn't count.
+fn part_so(joint: Joint, who: Subject, hart: &Hart, nodes: &[Node]) -> bool
+    ensures { (formula : Formula) → nodes.now ≡ nodes_of formula → result
+        ≡ part_so joint who hart.now formula }
+{
+    if who.is_of(alone(nodes)) {
+        so_of(who, hart, nodes)
+    } else {
+        joint.neutral()
+    }
+}
+
+/// How the last two parts of a condition are joined, and these, if they are.
+fn joined_parts(nodes: &[Node]) -> Option<(Joint, &[Node], &[Node])>
+    ensures joined { (formula : Formula) → nodes.now ≡ nodes_of formula → IsJoined formula result }
+    ensures shorter { IfSome result (λ parts. (length parts.1.now < length nodes.now)
+        × (length parts.2.now < length nodes.now)) }
+{
+    match parts_of(nodes) {
+        Some(Parts::Joined(joint, first, second)) => Some((joint, first, second)),
+        Some(Parts::Says(_)) => None,
+        Some(Parts::Not(_)) => None,
+        Some(Parts::Enclosed(_)) => None,
+        Some(Parts::Counted(_, _, _)) => None,
+        None => None,
+    }
+}
+
+/// Whether the parts of one hart, which are joined so, hold of it together.
+fn parts_so(joint: Joint, who: Subject, hart: &Hart, nodes: &[Node]) -> bool
+    ensures { (formula : Formula) → nodes.now ≡ nodes_of formula → result
+        ≡ parts_so joint who hart.now formula }
+{
+    let Some((other, first, second)) = joined_parts(nodes) else {
+        return part_so(joint, who, hart, nodes);
+    };
+    if !joint.is_joint(other) {
+        return part_so(joint, who, hart, nodes);
+    }
+    let answer = parts_so(joint, who, hart, second);
+    if joint.decides(answer) {
+        return answer;
+    }
+    parts_so(joint, who, hart, first)
+}
+
+/// The parts that a part is joined with, if it is.
+#[derive(Clone, Copy)]
+enum Around<'a> {
+    Single,
+    Chain(Joint, &'a [Node]),
+}
+
+impl<'a> Around<'a> {
+    /// The chain of the parts of a part that are joined so.
+    fn joined(self, joint: Joint, nodes: &'a [Node]) -> Around<'a>
+        ensures { (chain : Chain) (formula : Formula) → IsAround chain self.entry →
+            nodes.now ≡ nodes_of formula → IsAround (chain_of chain joint formula) result }
     {
         match self {
-            Holder::Register(hart, _) | Holder::Pcc(hart) => Some(hart),
-            Holder::Granule(_) => None,
-        }
-    }
-}
-
-impl Place {
-    /// The hart that this is of; none where it is in memory.
-    fn hart(self) -> Option<u8>
-        ensures { result ≡ hart_of_place self }
-    {
-        match self {
-            Place::Value(held, _) => held.hart(),
-            Place::Data(_, _) => None,
-        }
-    }
-}
-
-impl Atom {
-    /// The hart that this speaks of; none where it speaks of memory.
-    fn hart(self) -> Option<u8>
-        ensures { result ≡ hart_of self }
-    {
-        match self {
-            Atom::Compares(place, _, _) => place.hart(),
-            Atom::HasStatus(hart, _) | Atom::Reaches(hart, _, _) => Some(hart),
-        }
-    }
-}
-
-/// Whether an atom speaks of the hart of a number.
-fn is_of(atom: &Atom, number: u8) -> bool
-    ensures { result ≡ is_number number (hart_of atom.now) }
-{
-    match atom.hart() {
-        Some(hart) => hart == number,
-        None => false,
-    }
-}
-
-/// Whether an atom holds where the hart of a number is this one, if it speaks of that hart.
-fn atom_holds_of(atom: &Atom, number: u8, hart: &Hart) -> bool
-    ensures { result ≡ atom_holds_of number hart.now atom.now }
-{
-    if !is_of(atom, number) {
-        return true;
-    }
-    atom.holds(&Copies::up_to(number, hart))
-}
-
-/// Whether all atoms that speak of the hart of a number hold where it is this one.
-fn all_hold_of(atoms: &[Atom], number: u8, hart: &Hart) -> bool
-    ensures { result ≡ holds_of atoms.now number hart.now }
-{
-    for atom in atoms {
-        if !atom_holds_of(atom, number, hart) {
-            return false;
-        }
-    }
-    true
-}
-
-/// Whether the atoms that speak of a hart, where they all hold before a step, hold after it.
-fn keeps_hart(atoms: &[Atom], before: &Hart, after: &Hart, hart: Option<u8>) -> bool
-    ensures { result ≡ keeps_hart atoms.now before.now after.now hart }
-{
-    match hart {
-        Some(number) => {
-            if !all_hold_of(atoms, number, before) {
-                return true;
+            Around::Single => Around::Chain(joint, nodes),
+            Around::Chain(around, whole) => {
+                if around.is_joint(joint) {
+                    return Around::Chain(around, whole);
+                }
+                Around::Chain(joint, nodes)
             }
-            all_hold_of(atoms, number, after)
         }
-        None => true,
+    }
+
+    /// Whether what is looked at together holds of a hart.
+    fn unit_so(self, who: Subject, hart: &Hart, nodes: &[Node]) -> bool
+        ensures { (chain : Chain) (formula : Formula) → IsAround chain self.entry →
+            nodes.now ≡ nodes_of formula → result ≡ unit_so chain who hart.now formula }
+    {
+        match self {
+            Around::Single => so_of(who, hart, nodes),
+            Around::Chain(joint, whole) => parts_so(joint, who, hart, whole),
+        }
+    }
+}
+
+/// Whether both are so.
+fn both(first: bool, second: bool) -> bool
+    ensures { result ≡ (first && second) }
+{
+    first && second
+}
+
+/// Whether one is so where the other is.
+fn implies(first: bool, second: bool) -> bool
+    ensures { result ≡ (not first || second) }
+{
+    !first || second
+}
+
+/// Whether what is as wanted before is so after.
+fn stays_so(wanted: bool, before: bool, after: bool) -> bool
+    ensures { result ≡ stays_so wanted before after }
+{
+    before != wanted || after == wanted
+}
+
+impl Step<'_> {
+    /// Whether a hart's number moves so; memory stays as it is.
+    fn moves(&self, way: Way, source: &Source) -> bool
+        ensures { result ≡ source_moves way source.now self.now.before.now self.now.after.now }
+    {
+        match (*source).alone() {
+            Some(who) => {
+                let before = number_of_hart(who, self.before, source);
+                let after = number_of_hart(who, self.after, source);
+                way.moves(before, after)
+            }
+            None => true,
+        }
+    }
+
+    /// The same of what a number is compared with.
+    fn moves_term(&self, way: Way, term: Term) -> bool
+        ensures { result ≡ term_moves way term self.now.before.now self.now.after.now }
+    {
+        match term {
+            Term::Number(_) => true,
+            Term::Source(source) => self.moves(way, &source),
+        }
+    }
+
+    /// Whether the numbers of a comparison move so that it stays as wanted.
+    fn keeps_atom(&self, wanted: bool, atom: Atom) -> bool
+        ensures { result ≡ atom_keeps wanted atom self.now.before.now self.now.after.now }
+    {
+        match atom {
+            Atom::Compares(source, comparison, term) => {
+                let way = comparison.left_way(wanted);
+                if !self.moves(way, &source) {
+                    return false;
+                }
+                self.moves_term(way.opposite(), term)
+            }
+            _ => true,
+        }
+    }
+
+    /// Whether the step leaves each unit of a condition as it is wanted to be.
+    #[cycle(hiding)]
+    fn keeps(&self, wanted: bool, around: Around<'_>, nodes: &[Node]) -> bool
+        ensures { (chain : Chain) (formula : Formula) → IsAround chain around.entry →
+            nodes.now ≡ nodes_of formula → result
+            ≡ keeps wanted chain formula self.now.before.now self.now.after.now }
+    {
+        match alone(nodes) {
+            Some(who) => {
+                let before = around.unit_so(who, self.before, nodes);
+                let after = around.unit_so(who, self.after, nodes);
+                stays_so(wanted, before, after)
+            }
+            None => self.keeps_parts(wanted, around, nodes),
+        }
+    }
+
+    /// The same of a condition that doesn't speak of one hart alone, by its parts.
+    #[cycle(hiding)]
+    fn keeps_parts(&self, wanted: bool, around: Around<'_>, nodes: &[Node]) -> bool
+        ensures { (chain : Chain) (formula : Formula) → IsAround chain around.entry →
+            nodes.now ≡ nodes_of formula → None ≡ alone formula → result
+            ≡ keeps wanted chain formula self.now.before.now self.now.after.now }
+    {
+        match parts_of(nodes) {
+            None => false,
+            Some(Parts::Says(atom)) => self.keeps_atom(wanted, atom),
+            Some(Parts::Not(part)) => self.keeps(!wanted, Around::Single, part),
+            Some(Parts::Enclosed(part)) => self.keeps(wanted, Around::Single, part),
+            Some(Parts::Joined(joint, first, second)) => {
+                let inner = around.joined(joint, nodes);
+                let keeps_first = self.keeps(wanted, inner, first);
+                let keeps_second = self.keeps(wanted, inner, second);
+                both(keeps_first, keeps_second)
+            }
+            Some(Parts::Counted(part, comparison, number)) => {
+                let up = comparison.needs(wanted, number, true);
+                let down = comparison.needs(wanted, number, false);
+                let keeps_true = self.keeps(true, Around::Single, part);
+                let keeps_false = self.keeps(false, Around::Single, part);
+                both(implies(up, keeps_true), implies(down, keeps_false))
+            }
+        }
     }
 }
 
 impl Condition {
-    /// Whether the condition doesn't see a step of a hart, whichever hart that is: the atoms of
-    /// each hart, where they all hold of the one before the step, hold of the one after it. So a
-    /// state in which the condition holds keeps it by the step.
+    /// Whether the condition doesn't see a step of a hart, whichever hart that is: what it says of
+    /// one hart alone, or of how its numbers compare with others, is after the step as it has to be
+    /// where the condition held before. So a state in which the condition holds keeps it by the
+    /// step.
     pub fn hides(&self, before: &Hart, after: &Hart) -> bool
         ensures { result ≡ hides self.now before.now after.now }
     {
-        let atoms = self.atoms.as_slice();
-        for atom in atoms {
-            if !keeps_hart(atoms, before, after, atom.hart()) {
-                return false;
-            }
-        }
-        true
+        let step = Step { before, after };
+        step.keeps(true, Around::Single, self.nodes.as_slice())
     }
 }

@@ -1,8 +1,10 @@
-//! Whether atoms hold in a state.
+//! Whether conditions hold in a state.
 #![tactic(auto, unfolding(crate::proofs::Unfold::holding))]
 
-ghost use Rattle.std.specs.Prelude.{◌≡◌};
+ghost use Rattle.std.specs.Prelude.{◌≡◌, ◌+◌, ◌<◌, ◌^◌, if◌then◌else◌, length};
 ghost use Rattle.cheri_model.specs.runs.Machine.{hart_at};
+ghost use Rattle.conditions.specs.Formulas.{Formula, nodes_of};
+ghost use Rattle.conditions.specs.Holding.{decides, how_many, is_so};
 ghost use Rattle.conditions.specs.Values.{
   compares,
   has_status,
@@ -12,7 +14,8 @@ ghost use Rattle.conditions.specs.Values.{
   atom_holds,
 };
 
-use crate::parts::{Atom, Comparison, StatusTest};
+use crate::formulas::{Parts, parts_of};
+use crate::parts::{Atom, Comparison, Joint, Node, StatusTest};
 use crate::values::{pcc_of_hart, register_of_hart, status_of_hart};
 use crate::view::StateView;
 use bitflags::Flags;
@@ -66,7 +69,7 @@ fn grants(addr: u64, perms: Perms, held: Cap) -> bool
 }
 
 /// Whether one of the registers c1 to c31 of a hart holds such a capability.
-fn registers_grant<V: StateView>(view: &V, hart: u8, addr: u64, perms: Perms) -> bool
+fn registers_grant<V: StateView>(view: &V, hart: usize, addr: u64, perms: Perms) -> bool
     ensures { result ≡ registers_grant addr perms (hart_at (V.state view.now) hart) 1 31 }
 {
     for number in 1..32 {
@@ -78,23 +81,86 @@ fn registers_grant<V: StateView>(view: &V, hart: u8, addr: u64, perms: Perms) ->
 }
 
 /// Whether a hart holds such a capability in PCC or a register.
-fn reaches<V: StateView>(view: &V, hart: u8, addr: u64, perms: Perms) -> bool
+fn reaches<V: StateView>(view: &V, hart: usize, addr: u64, perms: Perms) -> bool
     ensures { result ≡ reaches addr perms (hart_at (V.state view.now) hart) }
 {
     grants(addr, perms, pcc_of_hart(view, hart)) || registers_grant(view, hart, addr, perms)
 }
 
 impl Atom {
-    /// Whether this holds in a state.
-    pub fn holds<V: StateView>(self, view: &V) -> bool
-        ensures { result ≡ atom_holds (V.state view.now) self }
+    /// Whether this holds in a state, where `h` is the hart of a number.
+    pub(crate) fn holds<V: StateView>(self, view: &V, each: usize) -> bool
+        ensures { result ≡ atom_holds (V.state view.now) each self }
     {
         match self {
-            Atom::Compares(place, comparison, number) => {
-                comparison.holds(place.number(view), number)
+            Atom::Compares(source, comparison, term) => {
+                comparison.holds(source.number(view, each), term.number(view, each))
             }
-            Atom::HasStatus(hart, test) => test.holds(status_of_hart(view, hart)),
-            Atom::Reaches(hart, addr, perms) => reaches(view, hart, addr, perms),
+            Atom::HasStatus(who, test) => test.holds(status_of_hart(view, who.hart(each))),
+            Atom::Reaches(who, addr, perms) => reaches(view, who.hart(each), addr, perms),
+            Atom::IsAt(who, addr) => pcc_of_hart(view, who.hart(each)).addr() == addr,
+            Atom::IsIn(who, first, second) => {
+                let addr = pcc_of_hart(view, who.hart(each)).addr();
+                first <= addr && addr < second
+            }
+        }
+    }
+}
+
+impl Joint {
+    /// What two answers are together, of which the second is worked out where it decides.
+    pub(crate) fn decides(self, first: bool) -> bool
+        ensures { result ≡ decides self first }
+    {
+        match self {
+            Joint::And => !first,
+            Joint::Or => first,
+        }
+    }
+}
+
+/// A count, with one more where something holds.
+fn one_more(count: usize, holds: bool) -> usize
+    requires { count + 1 < 2 ^ 64 }
+    ensures { result ≡ count + (if holds then 1 else 0) }
+{
+    if holds { count + 1 } else { count }
+}
+
+/// Of how many harts the condition of some nodes holds, each being `h` in turn.
+#[cycle(holding)]
+fn how_many<V: StateView>(view: &V, nodes: &[Node]) -> usize
+    ensures { (formula : Formula) → nodes.now ≡ nodes_of formula → result
+        ≡ how_many (λ hart. is_so (V.state view.now) hart formula)
+        (length (V.state view.now).harts) }
+{
+    let mut count = 0;
+    for hart in 0..view.hart_count() {
+        count = one_more(count, is_so(view, hart, nodes));
+    }
+    count
+}
+
+/// Whether the condition of some nodes holds in a state, where `h` is the hart of a number.
+#[cycle(holding)]
+pub(crate) fn is_so<V: StateView>(view: &V, each: usize, nodes: &[Node]) -> bool
+    ensures { (formula : Formula) → nodes.now ≡ nodes_of formula → result
+        ≡ is_so (V.state view.now) each formula }
+{
+    match parts_of(nodes) {
+        None => false,
+        Some(Parts::Says(atom)) => atom.holds(view, each),
+        Some(Parts::Not(denied)) => !is_so(view, each, denied),
+        Some(Parts::Enclosed(inner)) => is_so(view, each, inner),
+        Some(Parts::Joined(joint, first, second)) => {
+            let answer = is_so(view, each, second);
+            if joint.decides(answer) {
+                return answer;
+            }
+            is_so(view, each, first)
+        }
+        Some(Parts::Counted(part, comparison, number)) => {
+            comparison.holds(how_many(view, part) as u128, number)
         }
     }
 }

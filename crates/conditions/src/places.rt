@@ -28,9 +28,13 @@ ghost use Rattle.conditions.specs.Places.{
   begins_granule,
   is_data,
   place_of,
+  begins_each,
+  own_named,
+  own_place,
+  source_of,
 };
 
-use crate::parts::{Field, Holder, Place};
+use crate::parts::{Field, Holder, Own, Place, Source};
 use cheri_model::table::found_at;
 use cheri_model::{Image, RAM_BASE, Width};
 use grammar::numerals::number_of;
@@ -118,7 +122,7 @@ fn holder_named(hart: u8, name: &[u8]) -> Option<Holder>
 }
 
 /// Where the first point of a text is.
-fn point(text: &[u8]) -> Option<usize>
+pub(crate) fn point(text: &[u8]) -> Option<usize>
     ensures { result ≡ position (λ b. b == 0x2E) text.now }
 {
     text.iter().position(|byte| *byte == b'.')
@@ -227,4 +231,48 @@ pub(crate) fn place_of(image: &Image, word: &[u8]) -> Option<Place>
         return data_place(image, word[3], &word[5..word.len() - 1]);
     }
     None
+}
+
+/// Whether a word begins with `h.`.
+fn begins_each(word: &[u8]) -> bool
+    ensures begins { result ≡ begins_each word.now }
+    ensures room { IsTrue result → 2 ≤ length word.now }
+{
+    word.starts_with(b"h.")
+}
+
+/// What each hart in turn holds: `cN` or `pcc`.
+fn own_named(name: &[u8]) -> Option<Own>
+    ensures { result ≡ own_named name.now }
+{
+    if name == b"pcc".as_slice() {
+        return Some(Own::Pcc);
+    }
+    match register_of(name) {
+        Ok(reg) => Some(Own::Register(reg)),
+        Err(_) => None,
+    }
+}
+
+/// `h.cN` or `h.pcc` with an optional field, after `h.`.
+fn own_place(rest: &[u8]) -> Option<Source>
+    ensures { result ≡ own_place rest.now }
+{
+    let name = before_point(rest);
+    let own = own_named(name)?;
+    let field = field_of(&rest[name.len()..])?;
+    Some(Source::Each(own, field))
+}
+
+/// The number that a word names, of this image. `h` may stand where each hart is spoken of.
+pub(crate) fn source_of(image: &Image, each: bool, word: &[u8]) -> Option<Source>
+    ensures { result ≡ source_of image.now each word.now }
+{
+    if begins_each(word) {
+        return if each { own_place(&word[2..]) } else { None };
+    }
+    match place_of(image, word)? {
+        Place::Value(held, field) => Some(Source::Value(held, field)),
+        Place::Data(addr, width) => Some(Source::Data(addr, width)),
+    }
 }

@@ -11,9 +11,17 @@ ghost use Rattle.cheri_model.specs.steps.Memory.{
 };
 ghost use Rattle.cheri_model.specs.steps.Hart.{register};
 ghost use Rattle.cheri_model.specs.runs.Machine.{hart_at};
-ghost use Rattle.conditions.specs.Values.{field_value, value_in, number_at};
+ghost use Rattle.conditions.specs.Values.{
+  field_value,
+  value_in,
+  number_at,
+  number_of,
+  own_value,
+  source_number,
+  term_number,
+};
 
-use crate::parts::{Field, Holder, Place};
+use crate::parts::{Field, Holder, Own, Place, Source, Subject, Term};
 use crate::view::StateView;
 use bitflags::Flags;
 use cap_ops::Cap;
@@ -39,33 +47,33 @@ impl Field {
 }
 
 /// A register of the hart of a number; null where there is no such hart.
-pub(crate) fn register_of_hart<V: StateView>(view: &V, hart: u8, reg: Reg) -> Cap
+pub(crate) fn register_of_hart<V: StateView>(view: &V, hart: usize, reg: Reg) -> Cap
     ensures { result ≡ register (hart_at (V.state view.now) hart) reg }
 {
-    if usize::from(hart) < view.hart_count() {
-        view.register(usize::from(hart), reg)
+    if hart < view.hart_count() {
+        view.register(hart, reg)
     } else {
         Cap::null()
     }
 }
 
 /// PCC of the hart of a number; null where there is no such hart.
-pub(crate) fn pcc_of_hart<V: StateView>(view: &V, hart: u8) -> Cap
+pub(crate) fn pcc_of_hart<V: StateView>(view: &V, hart: usize) -> Cap
     ensures { result ≡ (hart_at (V.state view.now) hart).pcc }
 {
-    if usize::from(hart) < view.hart_count() {
-        view.pcc(usize::from(hart))
+    if hart < view.hart_count() {
+        view.pcc(hart)
     } else {
         Cap::null()
     }
 }
 
 /// Whether the hart of a number runs; halted where there is no such hart.
-pub(crate) fn status_of_hart<V: StateView>(view: &V, hart: u8) -> Status
+pub(crate) fn status_of_hart<V: StateView>(view: &V, hart: usize) -> Status
     ensures { result ≡ (hart_at (V.state view.now) hart).status }
 {
-    if usize::from(hart) < view.hart_count() {
-        view.status(usize::from(hart))
+    if hart < view.hart_count() {
+        view.status(hart)
     } else {
         Status::Halted
     }
@@ -88,8 +96,8 @@ impl Holder {
         ensures { result ≡ value_in self (V.state view.now) }
     {
         match self {
-            Holder::Register(hart, reg) => register_of_hart(view, hart, reg),
-            Holder::Pcc(hart) => pcc_of_hart(view, hart),
+            Holder::Register(hart, reg) => register_of_hart(view, usize::from(hart), reg),
+            Holder::Pcc(hart) => pcc_of_hart(view, usize::from(hart)),
             Holder::Granule(addr) => granule_of_memory(view, granule_number(addr)),
         }
     }
@@ -133,6 +141,55 @@ impl Place {
         match self {
             Place::Value(holder, field) => field.value(holder.value(view)),
             Place::Data(addr, width) => u128::from(data(view, addr, width)),
+        }
+    }
+}
+
+impl Subject {
+    /// The number of the hart, where each hart in turn is this one.
+    pub(crate) fn hart(self, each: usize) -> usize
+        ensures { result ≡ number_of self each }
+    {
+        match self {
+            Subject::Numbered(number) => usize::from(number),
+            Subject::Each => each,
+        }
+    }
+}
+
+impl Own {
+    /// The value that the hart of a number holds there.
+    fn value<V: StateView>(self, view: &V, hart: usize) -> Cap
+        ensures { result ≡ own_value self (hart_at (V.state view.now) hart) }
+    {
+        match self {
+            Own::Register(reg) => register_of_hart(view, hart, reg),
+            Own::Pcc => pcc_of_hart(view, hart),
+        }
+    }
+}
+
+impl Source {
+    /// The number that is read in a state, where `h` is the hart of a number.
+    pub(crate) fn number<V: StateView>(self, view: &V, each: usize) -> u128
+        ensures { result ≡ source_number (V.state view.now) each self }
+    {
+        match self {
+            Source::Value(held, field) => Place::Value(held, field).number(view),
+            Source::Data(addr, width) => Place::Data(addr, width).number(view),
+            Source::Each(own, field) => field.value(own.value(view, each)),
+        }
+    }
+}
+
+impl Term {
+    /// The number that is compared with in a state, where `h` is the hart of a number.
+    pub(crate) fn number<V: StateView>(self, view: &V, each: usize) -> u128
+        ensures { result ≡ term_number (V.state view.now) each self }
+    {
+        match self {
+            Term::Number(number) => number,
+            Term::Source(source) => source.number(view, each),
         }
     }
 }

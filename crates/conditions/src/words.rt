@@ -13,7 +13,15 @@ ghost use Rattle.std.specs.Prelude.{
   OnOk,
   map,
 };
-ghost use Rattle.conditions.specs.Words.{words_of, word_start};
+ghost use Rattle.std.specs.Prelude.{ℕ, ◌+◌, ◌≤◌, ◌||◌, List, get_or, slice_range, length};
+ghost use Rattle.conditions.specs.Words.{
+  words_of,
+  word_start,
+  is_parenthesis,
+  run_of,
+  condition_words,
+};
+ghost use Rattle.conditions.specs.WordPairs.{word_pairs, Remains};
 
 use std::alloc::{AllocError, Global};
 
@@ -32,6 +40,16 @@ impl From<AllocError> for WordFault {
 
     fn from(_: AllocError) -> WordFault {
         WordFault::NoMemory
+    }
+}
+
+impl From<usize> for WordFault {
+    ghost use Rattle.conditions.specs.declared.words.WordFault.TheVariants.{At};
+
+    ghost from_gives = { λ number fault. fault ≡ At number };
+
+    fn from(number: usize) -> WordFault {
+        WordFault::At(number)
     }
 }
 
@@ -77,4 +95,100 @@ pub(crate) fn push<T: Copy + Drop>(read: &mut Vec<T>, item: T) -> Result<(), All
 {
     read.push(item)?;
     Ok(())
+}
+
+/// A word of a condition, and the byte where it begins.
+#[derive(Clone, Copy)]
+pub(crate) struct Word<'a> {
+    pub(crate) start: usize,
+    pub(crate) text: &'a [u8],
+}
+
+/// Adds the word from one byte of a text up to another; one without bytes only where it may be.
+fn push_run<'a>(
+    words: &mut Vec<Word<'a>>,
+    text: &'a [u8],
+    start: usize,
+    end: usize,
+    may_be_empty: bool,
+) -> Result<(), AllocError>
+    requires start { start ≤ end }
+    requires end { end ≤ length text.now }
+    ensures { OnOk result (word_pairs words.new.items ≡ word_pairs words.old.items
+        ++ run_of start (slice_range text.now start end) may_be_empty) }
+{
+    if may_be_empty || start < end {
+        words.push(Word {
+            start,
+            text: &text[start..end],
+        })?;
+    }
+    Ok(())
+}
+
+/// The bytes of a word so far: where they begin, and whether the piece has no word before them.
+#[derive(Clone, Copy)]
+pub(crate) struct Run {
+    start: usize,
+    alone: bool,
+}
+
+/// Whether a byte is a parenthesis.
+fn is_parenthesis(byte: u8) -> bool
+    ensures { result ≡ is_parenthesis byte }
+{
+    matches!(byte, b'(' | b')')
+}
+
+/// Adds the words that a byte ends, or is, and gives the bytes of a word after it.
+fn take_byte<'a>(
+    words: &mut Vec<Word<'a>>,
+    text: &'a [u8],
+    run: Run,
+    place: usize,
+    byte: u8,
+) -> Result<Run, AllocError>
+    requires order { run.start ≤ place }
+    requires room { place < length text.now }
+    requires there { byte ≡ get_or text.now place 0 }
+    ensures { IfOk result (λ next. (all : List (ℕ × List ℕ)) →
+        Remains text.now words.old.items run place all →
+        Remains text.now words.new.items next (place + 1) all) }
+{
+    let next = place + 1;
+    if byte == b' ' {
+        push_run(words, text, run.start, place, run.alone)?;
+        return Ok(Run {
+            start: next,
+            alone: true,
+        });
+    }
+    if is_parenthesis(byte) {
+        push_run(words, text, run.start, place, false)?;
+        push_run(words, text, place, next, false)?;
+        return Ok(Run {
+            start: next,
+            alone: false,
+        });
+    }
+    Ok(run)
+}
+
+/// The words of a condition: each parenthesis, and what is between these and single spaces.
+pub(crate) fn condition_words<'a>(
+    alloc: Global,
+    text: &'a [u8],
+) -> Result<Vec<Word<'a>>, AllocError>
+    ensures { IfOk result (λ words. word_pairs words.items ≡ condition_words text.now) }
+{
+    let mut words = Vec::new(alloc);
+    let mut run = Run {
+        start: 0,
+        alone: true,
+    };
+    for (place, byte) in text.iter().enumerate() {
+        run = take_byte(&mut words, text, run, place, *byte)?;
+    }
+    push_run(&mut words, text, run.start, text.len(), run.alone)?;
+    Ok(words)
 }

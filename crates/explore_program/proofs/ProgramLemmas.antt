@@ -1,78 +1,93 @@
 -- What the program answers, as the ending of its command line.
-use Rattle.std.proofs.Common.{◌≡◌, ℕ, List, map, false, Option, Some, None, Result, Ok, Err, refl, sym, subst, inl}
-use Rattle.std.specs.Prelude.{IfErr, IfOk}
+use Rattle.std.proofs.Common.{◌≡◌, ℕ, List, map, false, Option, Some, None, Result, Ok, Err, refl, sym, ap, subst, inl, inr}
+use Rattle.std.specs.Prelude.{IfErr, IfOk, IfSome}
 use Rattle.cheri_model.specs.runs.Image.{ImageParts}
-use Rattle.explore_line.specs.Requests.{ExploreAsked, AskedQuestion, Find, Outcomes, Authority}
+use Rattle.explore_line.specs.Requests.{ExploreAsked, AskedQuestion}
 use Rattle.schedules.specs.declared.ranges.SweepRange.{SweepRange}
 use Rattle.shown_states.specs.declared.form.Format.{Format}
-use Rattle.explore_program.specs.Questions.{IsAuthoritySaid, IsFindSaid, IsOutcomesSaid, range_of}
-use Rattle.command_line.specs.declared.faults.CommandFault.{CommandFault}
-use Rattle.command_line.specs.declared.faults.CommandFault.TheVariants as commands
+use Rattle.states.specs.Searches.{SearchParts}
+use Rattle.explore_program.specs.Questions.{IsSaidTo, range_of}
 use Rattle.inputs.specs.Files.{KnownFiles}
-use Rattle.inputs.specs.Reading.{MeansImage, IsImageRefused}
+use Rattle.grammar.specs.Labels.{LabelParts, labels_of}
+use Rattle.inputs.specs.Files.{AreBytesOf}
+use Rattle.inputs.specs.Reading.{IsImageRefused, OfMeant, image_of_meaning}
+use Rattle.listings.specs.Meaning.{listing_meaning}
 use Rattle.inputs.specs.declared.fault.InputFault.{InputFault}
 use Rattle.inputs.specs.declared.fault.InputFault.TheVariants as faults
-use Rattle.inputs.proofs.InputLemmas.{IsReported, image_fails, of_image}
+use Rattle.inputs.proofs.InputLemmas.{input_fails}
 use Rattle.printing.specs.Endings.{Answer, HasWhole, FailsBy}
-use Rattle.printing.proofs.EndingLemmas.{IsEarly, whole_more, fails_more}
+use Rattle.program_io.proofs.EndingLemmas.{all_fail, all_whole, told, told_ends}
+use Rattle.program_io.proofs.FaultLemmas.{reported}
+use Rattle.program_io.specs.Endings.{IsTold}
+use Rattle.program_io.specs.Faults.{text_of, status_of as status_by}
+use Rattle.program_io.specs.declared.fault.Fault.TheVariants.{Usage, Input}
+use Rattle.report_lines.specs.Texts.{line}
+use Rattle.sinks.specs.Sinks.{TakesPrefix}
 use Rattle.shown_states.specs.declared.form.Ending.{Ending}
-use Rattle.explore_program.specs.declared.faults.Fault.{Fault}
-use Rattle.explore_program.specs.declared.faults.Fault.TheVariants as fault
-use Rattle.explore_program.specs.Faults.{failure_of, command_fault}
-use Rattle.explore_program.specs.Program.{IsAnswer, IsQuestionAnswer, format_of}
-
-early_input : (refused : InputFault) → IsEarly (failure_of (fault.Input refused))
-early_input faults.NoMemory = tt
-early_input faults.CannotReadListing = tt
-early_input faults.CannotReadOrder = tt
-early_input (faults.Listing refused) = tt
-early_input (faults.Order refused) = tt
-
-reported : IsReported {End = Ending} fault.Input failure_of false
-reported = record { memory = refl; early = early_input }
+use Rattle.explore_program.specs.Faults.{Fault, failure_of, fault_text, is_refusal, own_failure, own_text, status_of}
+use Rattle.explore_program.specs.Program.{Concludes, Ends, IsAnswer, format_of, search_asked}
 
 -- a listing that was refused
 pub listing_fails : (files : KnownFiles) (asked : ExploreAsked) (refused : InputFault) (old new : Option (List ℕ))
     → IsImageRefused (files asked.listing) refused → new ≡ old
-    → FailsBy (failure_of (fault.Input refused)) (IsAnswer files (Some asked)) (fault.Input refused) old new
-listing_fails files asked refused old new is same =
-    image_fails fault.Input failure_of false reported old new
-    (λ answer image. IsQuestionAnswer image asked asked.question answer) (files asked.listing) refused is same
+    → FailsBy (failure_of (Input refused)) (IsAnswer files (Some asked)) (Input refused) old new
+listing_fails files asked faults.NoMemory old new is same = inl same
+listing_fails files asked faults.CannotReadListing old new is same =
+    input_fails (λ f. Input f) failure_of false (reported own_failure false) old new (IsAnswer files (Some asked)) faults.CannotReadListing
+    (inl (is, refl)) same
+listing_fails files asked (faults.Listing listed) old new is same =
+    input_fails (λ f. Input f) failure_of false (reported own_failure false) old new (IsAnswer files (Some asked)) (faults.Listing listed)
+    (inr (
+      is.0,
+      is.1,
+      subst (λ (r : Result ImageParts InputFault). OfMeant {A = Answer Ending Fault} r (λ refused. Err (Input refused))
+          (λ image. IsSaidTo asked.question (labels_of is.0) (search_asked image asked) (format_of asked.form) (Err (Input (faults.Listing listed))))
+          (Err (Input (faults.Listing listed)))) (sym is.2) refl,
+    )) same
+listing_fails files asked faults.CannotReadOrder old new is same = absurd is
+listing_fails files asked (faults.Order ordered) old new is same = absurd is
 
--- what is answered of the image is an answer
-pub of_question : (files : KnownFiles) (asked : ExploreAsked) (image : ImageParts) → MeansImage (files asked.listing) image
-    → (answer : Answer Ending Fault) → IsQuestionAnswer image asked asked.question answer → IsAnswer files (Some asked) answer
-of_question files asked image means answer so =
-    of_image (files asked.listing) (λ refused. Err (fault.Input refused))
-    (λ i. IsQuestionAnswer i asked asked.question answer) answer image means so
+-- what is answered to the question of the image is an answer
+module _ (files : KnownFiles) (asked : ExploreAsked) (bytes : List ℕ) (image : ImageParts) (question : AskedQuestion) (labels : LabelParts)
+    (sweeps : List SweepRange) (format : Format) (are : AreBytesOf (files asked.listing) bytes) (means : listing_meaning bytes ≡ Ok image)
+    (question_is : question ≡ asked.question) (labels_are : labels ≡ labels_of bytes) (sweeps_are : sweeps ≡ map range_of asked.sweeps)
+    (format_is : format ≡ format_of asked.form) where
+  -- the search, with these sweeps
+  abbrev searched : SearchParts
+  searched = record { image = image; sweeps = sweeps; every_step = asked.every_step; limit = asked.states }
 
-pub question_printed : {E : Type 0} (files : KnownFiles) (asked : ExploreAsked) (image : ImageParts) (IsSaid : Answer Ending Fault → Type 0)
-    (result : Result Ending E) (old new : Option (List ℕ)) → MeansImage (files asked.listing) image
-    → ((answer : Answer Ending Fault) → IsSaid answer → IsQuestionAnswer image asked asked.question answer)
-    → IfOk result (λ ending. HasWhole IsSaid ending old new)
-    → IfOk result (λ ending. HasWhole (IsAnswer files (Some asked)) ending old new)
-question_printed files asked image IsSaid (Ok ending) old new means so printed =
-    whole_more IsSaid (IsAnswer files (Some asked))
-    (λ answer said. of_question files asked image means answer (so answer said)) old new ending printed
-question_printed files asked image IsSaid (Err f) old new means so printed = tt
+  of_question : (answer : Answer Ending Fault) → IsSaidTo question labels searched format answer → IsAnswer files (Some asked) answer
+  of_question answer said =
+      inr (
+        bytes,
+        are,
+        subst (λ (r : Result ImageParts InputFault). OfMeant {A = Answer Ending Fault} r (λ refused. Err (Input refused))
+            (λ i. IsSaidTo asked.question (labels_of bytes) (search_asked i asked) (format_of asked.form) answer) answer)
+            (sym (ap image_of_meaning means))
+            (subst (λ (q : AskedQuestion). IsSaidTo q (labels_of bytes) (search_asked image asked) (format_of asked.form) answer) question_is
+            (subst (λ (ls : LabelParts). IsSaidTo question ls (search_asked image asked) (format_of asked.form) answer) labels_are
+            (subst (λ (f : Format). IsSaidTo question labels (search_asked image asked) f answer) format_is
+            (subst (λ (ss : List SweepRange). IsSaidTo question labels
+            (record { image = image; sweeps = ss; every_step = asked.every_step; limit = asked.states }) format answer) sweeps_are said)))),
+      )
 
-pub question_fails : {T : Type 0} (files : KnownFiles) (asked : ExploreAsked) (image : ImageParts) (IsSaid : Answer Ending Fault → Type 0)
-    (result : Result T Fault) (old new : Option (List ℕ)) → MeansImage (files asked.listing) image
-    → ((answer : Answer Ending Fault) → IsSaid answer → IsQuestionAnswer image asked asked.question answer)
-    → IfErr result (λ f. FailsBy (failure_of f) IsSaid f old new)
-    → IfErr result (λ f. FailsBy (failure_of f) (IsAnswer files (Some asked)) f old new)
-question_fails files asked image IsSaid (Ok done) old new means so fails = tt
-question_fails files asked image IsSaid (Err f) old new means so fails =
-    fails_more IsSaid (IsAnswer files (Some asked))
-    (λ answer said. of_question files asked image means answer (so answer said)) old new (failure_of f) f fails
+  pub question_printed : {E : Type 0} (result : Result Ending E) (old new : Option (List ℕ))
+      → IfOk result (λ ending. HasWhole (IsSaidTo question labels searched format) ending old new)
+      → IfOk result (λ ending. HasWhole (IsAnswer files (Some asked)) ending old new)
+  question_printed result old new printed =
+      all_whole (λ ending. ending) own_failure false (IsSaidTo question labels searched format) (IsAnswer files (Some asked)) of_question old new
+      result printed
+
+  pub question_fails : {T : Type 0} (result : Result T Fault) (old new : Option (List ℕ))
+      → IfErr result (λ f. FailsBy (failure_of f) (IsSaidTo question labels searched format) f old new)
+      → IfErr result (λ f. FailsBy (failure_of f) (IsAnswer files (Some asked)) f old new)
+  question_fails result old new fails =
+      all_fail (λ ending. ending) own_failure false (IsSaidTo question labels searched format) (IsAnswer files (Some asked)) of_question old new
+      result fails
 
 -- arguments that ask for nothing
-pub command_fails : {X : Type 0} (files : KnownFiles) (request : Option ExploreAsked) (result : Result X CommandFault)
-    (refused : CommandFault) (old new : Option (List ℕ)) → result ≡ Err refused → (result ≡ Err commands.Usage → request ≡ None)
-    → new ≡ old → FailsBy (failure_of (command_fault refused)) (IsAnswer files request) (command_fault refused) old new
-command_fails files request result commands.Usage old new is nothing same =
-    subst (λ (r : Option ExploreAsked). FailsBy (failure_of fault.Usage) (IsAnswer files r) fault.Usage old new) (sym (nothing is)) (refl, same)
-command_fails files request result commands.NoMemory old new is nothing same = inl same
+pub none_answers : (files : KnownFiles) (request : Option ExploreAsked) → request ≡ None → IsAnswer files request (Err Usage)
+none_answers files request is = rw is refl
 
 -- arguments that ask for this
 pub asked_printed : {E : Type 0} (files : KnownFiles) (request : Option ExploreAsked) (asked : ExploreAsked) (result : Result Ending E)
@@ -87,35 +102,26 @@ pub asked_fails : {T : Type 0} (files : KnownFiles) (request : Option ExploreAsk
     → IfErr result (λ f. FailsBy (failure_of f) (IsAnswer files request) f old new)
 asked_fails files request asked result old new is fails = rw is fails
 
--- the question that was answered is the one that was asked
-pub find_asked : (image : ImageParts) (asked : ExploreAsked) (condition : List ℕ) (sweeps : List SweepRange) (states : ℕ) (format : Format)
-    (answer : Answer Ending Fault) → asked.question ≡ Find condition → sweeps ≡ map range_of asked.sweeps → states ≡ asked.states
-    → format ≡ format_of asked.form → IsFindSaid image condition sweeps asked.every_step states format answer
-    → IsQuestionAnswer image asked asked.question answer
-find_asked image asked condition sweeps states format answer question sweeps_are states_are format_is said =
-    subst (λ (q : AskedQuestion). IsQuestionAnswer image asked q answer) (sym question)
-    (subst (λ (f : Format). IsFindSaid image condition (map range_of asked.sweeps) asked.every_step asked.states f answer) format_is
-    (subst (λ (n : ℕ). IsFindSaid image condition (map range_of asked.sweeps) asked.every_step n format answer) states_are
-    (subst (λ (s : List SweepRange). IsFindSaid image condition s asked.every_step states format answer) sweeps_are said)))
+-- what is said of a fault
+pub told_of : (fault : Fault) (status : ℕ) (old new : Option (List ℕ)) → status ≡ status_by is_refusal fault
+    → IfSome (text_of (λ f. Some (own_text f)) fault) (λ text. TakesPrefix old new (line text)) → IsTold status_of fault_text fault status old new
+told_of fault status old new is written = told is_refusal own_text fault status old new is written
 
--- the outcomes that were asked for
-pub outcomes_asked : (image : ImageParts) (asked : ExploreAsked) (show : Option (List ℕ)) (sweeps : List SweepRange) (states : ℕ)
-    (format : Format) (answer : Answer Ending Fault) → asked.question ≡ Outcomes show → sweeps ≡ map range_of asked.sweeps
-    → states ≡ asked.states → format ≡ format_of asked.form → IsOutcomesSaid image show sweeps asked.every_step states format answer
-    → IsQuestionAnswer image asked asked.question answer
-outcomes_asked image asked show sweeps states format answer question sweeps_are states_are format_is said =
-    subst (λ (q : AskedQuestion). IsQuestionAnswer image asked q answer) (sym question)
-    (subst (λ (f : Format). IsOutcomesSaid image show (map range_of asked.sweeps) asked.every_step asked.states f answer) format_is
-    (subst (λ (n : ℕ). IsOutcomesSaid image show (map range_of asked.sweeps) asked.every_step n format answer) states_are
-    (subst (λ (s : List SweepRange). IsOutcomesSaid image show s asked.every_step states format answer) sweeps_are said)))
-
--- the rights that were asked for
-pub authority_asked : (image : ImageParts) (asked : ExploreAsked) (sweeps : List SweepRange) (states : ℕ) (format : Format)
-    (answer : Answer Ending Fault) → asked.question ≡ Authority → sweeps ≡ map range_of asked.sweeps → states ≡ asked.states
-    → format ≡ format_of asked.form → IsAuthoritySaid image sweeps asked.every_step states format answer
-    → IsQuestionAnswer image asked asked.question answer
-authority_asked image asked sweeps states format answer question sweeps_are states_are format_is said =
-    subst (λ (q : AskedQuestion). IsQuestionAnswer image asked q answer) (sym question)
-    (subst (λ (f : Format). IsAuthoritySaid image (map range_of asked.sweeps) asked.every_step asked.states f answer) format_is
-    (subst (λ (n : ℕ). IsAuthoritySaid image (map range_of asked.sweeps) asked.every_step n format answer) states_are
-    (subst (λ (s : List SweepRange). IsAuthoritySaid image s asked.every_step states format answer) sweeps_are said)))
+-- how a command ends, whose answer ended so
+pub ends : {Terminal : Type 0} (terminal : Option Terminal) (files : KnownFiles) (request : Option ExploreAsked) (status : ℕ)
+    (old new err_old err_now err_new : Option (List ℕ)) (ended : Result Ending Fault) → Concludes ended status err_now err_new
+    → (terminal ≡ None → err_now ≡ err_old) → IfOk ended (λ ending. HasWhole (IsAnswer files request) ending old new)
+    → IfErr ended (λ fault. FailsBy (failure_of fault) (IsAnswer files request) fault old new)
+    → Ends terminal files request status old new err_old err_new
+ends terminal files request status old new err_old err_now err_new (Ok ending) is silent printed fails = record {
+  err_now = err_now;
+  silent = silent;
+  ends = inl (record { ending = ending; status_is = is.0; printed = printed; stderr = is.1 });
+}
+ends terminal files request status old new err_old err_now err_new (Err fault) is silent printed fails = record {
+  err_now = err_now;
+  silent = silent;
+  ends =
+      inr (told_ends is_refusal own_text fault status err_now err_new
+      (λ f. FailsBy (failure_of f) (IsAnswer files request) f old new) fails is);
+}

@@ -1,22 +1,21 @@
 -- What is answered to each question, of the image of a listing.
-use Rattle.std.specs.Prelude.{◌≡◌, ℕ, Bool, List, Result, Ok, Err, Option, Some, None}
+use Rattle.std.specs.Prelude.{◌≡◌, ℕ, List, Result, Ok, Err, Some, None}
 use Rattle.authority_texts.specs.Answers.{IsAuthorityAnswer}
-use Rattle.cheri_model.specs.runs.Image.{ImageParts}
+use Rattle.explore_line.specs.Requests.{AskedQuestion, Find, Outcomes, Authority}
 use Rattle.explore_line.specs.declared.sweeps.Sweep.{Sweep}
 use Rattle.conditions.specs.Conditions.{condition_of}
 use Rattle.conditions.specs.declared.fault.TextFault.{TextFault}
 use Rattle.conditions.specs.declared.fault.TextFault.TheVariants.{Condition, Place}
 use Rattle.conditions.specs.Items.{items_of}
+use Rattle.grammar.specs.Labels.{LabelParts}
 use Rattle.found_texts.specs.Find.{IsFindAnswer}
 use Rattle.outcome_texts.specs.Answers.{IsListedAnswer, IsShownAnswer}
 use Rattle.printing.specs.Endings.{Answer}
-use Rattle.explore_sights.specs.Sights.{sight_of}
-use Rattle.explore_sights.specs.declared.sights.Sight.TheVariants.{NoStep, Rights}
 use Rattle.schedules.specs.declared.ranges.SweepRange.{SweepRange}
 use Rattle.shown_states.specs.declared.form.Ending.{Ending}
 use Rattle.shown_states.specs.declared.form.Format.{Format}
-use Rattle.explore_program.specs.declared.faults.Fault.{Fault}
-use Rattle.explore_program.specs.declared.faults.Fault.TheVariants.{Text}
+use Rattle.states.specs.Searches.{SearchParts}
+use Rattle.explore_program.specs.Faults.{Fault, text_fault}
 
 -- the range of a sweep
 abbrev pub range_of : Sweep → SweepRange
@@ -31,26 +30,26 @@ IsSaid answers (Err fault) = ⊥
 abbrev pub IsSaidOf : {X : Type 0} → (ℕ → TextFault) → (X → List ℕ → Ending → Type 0) → Result X ℕ
     → Answer Ending Fault → Type 0
 IsSaidOf fault answers (Ok x) answer = IsSaid (answers x) answer
-IsSaidOf fault answers (Err byte) answer = answer ≡ Err (Text (fault byte))
+IsSaidOf fault answers (Err byte) answer = answer ≡ Err (text_fault (fault byte))
 
--- `find`, with the condition that a text writes
-abbrev pub IsFindSaid : ImageParts → List ℕ → List SweepRange → Bool → ℕ → Format → Answer Ending Fault
+-- `find`, with the condition that a text writes beside a listing with these labels
+abbrev pub IsFindSaid : LabelParts → SearchParts → Format → List ℕ → Answer Ending Fault → Type 0
+IsFindSaid labels search format condition answer =
+    IsSaidOf Condition (λ nodes. IsFindAnswer search nodes format)
+    (condition_of labels search.image condition) answer
+
+-- `outcomes`, with the items that a text writes
+abbrev pub IsShownSaid : SearchParts → Format → List ℕ → Answer Ending Fault → Type 0
+IsShownSaid search format items answer =
+    IsSaidOf Place (λ list. IsShownAnswer search list format) (items_of search.image items) answer
+
+-- the answers to a question of the command line, about a listing with these labels
+abbrev pub IsSaidTo : AskedQuestion → LabelParts → SearchParts → Format → Answer Ending Fault
     → Type 0
-IsFindSaid image condition sweeps every_step states format answer =
-    IsSaidOf Condition (λ atoms. IsFindAnswer image atoms sweeps every_step states format)
-    (condition_of image condition) answer
-
--- `authority`
-abbrev pub IsAuthoritySaid : ImageParts → List SweepRange → Bool → ℕ → Format → Answer Ending Fault
-    → Type 0
-IsAuthoritySaid image sweeps every_step states format answer =
-    IsSaid (IsAuthorityAnswer image sweeps (sight_of every_step Rights) states format) answer
-
--- `outcomes`; and with the items that a text writes
-abbrev pub IsOutcomesSaid : ImageParts → Option (List ℕ) → List SweepRange → Bool → ℕ → Format
-    → Answer Ending Fault → Type 0
-IsOutcomesSaid image None sweeps every_step states format answer =
-    IsSaid (IsListedAnswer image sweeps (sight_of every_step NoStep) states format) answer
-IsOutcomesSaid image (Some items) sweeps every_step states format answer =
-    IsSaidOf Place (λ list. IsShownAnswer image list sweeps (sight_of every_step NoStep) states format) (items_of image items)
-    answer
+IsSaidTo (Find condition) labels search format answer =
+    IsFindSaid labels search format condition answer
+IsSaidTo (Outcomes None) labels search format answer =
+    IsSaid (IsListedAnswer search format) answer
+IsSaidTo (Outcomes (Some items)) labels search format answer =
+    IsShownSaid search format items answer
+IsSaidTo Authority labels search format answer = IsSaid (IsAuthorityAnswer search format) answer

@@ -1,158 +1,143 @@
-//! What is answered to each question: the texts of the command line are read, the question is
-//! asked, and the answer is flushed.
+//! What is answered to each question: the texts of the command line are read, and the question is
+//! asked.
 
-ghost use Rattle.std.specs.Prelude.{◌≡◌, option_map, Some, IfOk, IfErr};
+ghost use Rattle.std.specs.Prelude.{◌≡◌, IfOk, IfErr};
+ghost use Rattle.explore_line.specs.Requests.{question_asked_by};
+ghost use Rattle.grammar.specs.LabelMap.{label_parts};
 ghost use Rattle.printing.specs.Endings.{HasWhole, FailsBy};
-ghost use Rattle.shown_states.specs.Searches.{IsSearchable};
-ghost use Rattle.shown_states.specs.Endings.{IsUnwritten, IsWritten};
-ghost use Rattle.shown_states.specs.declared.form.Ending.{Ending};
+ghost use Rattle.states.specs.Searches.{IsSearchable, search_of};
 ghost use Rattle.explore_program.specs.Faults.{failure_of};
-ghost use Rattle.explore_program.specs.Questions.{
-  IsAuthoritySaid,
-  IsFindSaid,
-  IsOutcomesSaid,
-  IsSaid,
-};
+ghost use Rattle.explore_program.specs.Questions.{IsFindSaid, IsSaid, IsSaidTo, IsShownSaid};
 
-use crate::faults::Fault;
-use crate::questions::{Authority, Find, Outcomes, Question, ShownOutcomes};
+use crate::faults::{Fault, text_fault};
+use crate::questions::{Authority, Find, Outcomes, SearchQuestion, ShownOutcomes};
 use conditions::{read_condition, read_items};
+use explore_line::Question;
+use grammar::labels::Labels;
 use graph_search::Progress;
-use printing::flush;
-use shown_states::{Ending, Search};
-use sinks::{ToWrite, WriteFault};
+use shown_states::{Ending, Format};
+use sinks::Sink;
+use states::Search;
 use std::alloc::Global;
-use std::io::Write;
 
-/// Writes the answer to a question to a writer.
-fn write_to<Q: Question, P: Progress, O: Write>(
-    alloc: Global,
-    question: &Q,
-    progress: &mut P,
-    out: &mut O,
-) -> Result<Ending, WriteFault>
-    requires { Q.is_askable question.now }
-    ensures written { IfOk result (λ ending. IsWritten (λ text. Q.answers question.now text ending)
-        (O.contents out.old) (O.contents out.new)) }
-    ensures begun { IfErr result
-        (IsUnwritten (λ text. (ending : Ending) × Q.answers question.now text ending)
-        (O.contents out.old) (O.contents out.new)) }
-{
-    let mut sink = ToWrite::new(out);
-    let written = question.write(alloc, progress, &mut sink);
-    let writer = sink.into_writer();
-    // A last look at the writer tells the caller what it holds now.
-    let _ = &*writer;
-    written
+/// What a question is asked of: a search, the labels of its listing, and how the answer is written.
+#[derive(Clone, Copy)]
+pub struct Asking<'a> {
+    pub labels: &'a Labels<'a>,
+    pub search: Search<'a>,
+    pub format: Format,
 }
 
 /// Answers a question.
-fn ask<Q: Question, P: Progress, O: Write>(
+fn ask<Q: SearchQuestion, P: Progress, S: Sink>(
     alloc: Global,
     question: &Q,
     progress: &mut P,
-    out: &mut O,
+    sink: &mut S,
 ) -> Result<Ending, Fault>
     requires { Q.is_askable question.now }
     ensures printed { IfOk result (λ ending. HasWhole (IsSaid (Q.answers question.now)) ending
-        (O.contents out.old) (O.contents out.new)) }
+        (S.written sink.old) (S.written sink.new)) }
     ensures failed { IfErr result (λ fault. FailsBy (failure_of fault)
-        (IsSaid (Q.answers question.now)) fault (O.contents out.old) (O.contents out.new)) }
+        (IsSaid (Q.answers question.now)) fault (S.written sink.old) (S.written sink.new)) }
+    ensures identity { S.identity sink.new ≡ S.identity sink.old }
 {
-    let ending = write_to(alloc, question, progress, out)?;
-    flush(out)?;
+    let ending = question.write(alloc, progress, sink)?;
     Ok(ending)
 }
 
 /// `find LISTING CONDITION`.
-pub fn answer_find<P: Progress, O: Write>(
+fn answer_find<P: Progress, S: Sink>(
     alloc: Global,
-    search: Search<'_>,
+    asking: Asking<'_>,
     condition: &str,
     progress: &mut P,
-    out: &mut O,
+    sink: &mut S,
 ) -> Result<Ending, Fault>
-    requires { IsSearchable search }
-    ensures printed { IfOk result (λ ending. HasWhole (IsFindSaid search.entry.image.now
-        condition.now search.entry.sweeps.now search.entry.every_step search.entry.states search.entry.format) ending
-        (O.contents out.old) (O.contents out.new)) }
+    requires { IsSearchable (search_of asking.search) }
+    ensures printed { IfOk result (λ ending. HasWhole
+        (IsFindSaid (label_parts asking.entry.labels.now) (search_of asking.entry.search)
+        asking.entry.format condition.now) ending
+        (S.written sink.old) (S.written sink.new)) }
     ensures failed { IfErr result (λ fault. FailsBy (failure_of fault)
-        (IsFindSaid search.entry.image.now condition.now search.entry.sweeps.now
-        search.entry.every_step search.entry.states search.entry.format) fault
-        (O.contents out.old) (O.contents out.new)) }
+        (IsFindSaid (label_parts asking.entry.labels.now) (search_of asking.entry.search)
+        asking.entry.format condition.now) fault
+        (S.written sink.old) (S.written sink.new)) }
+    ensures identity { S.identity sink.new ≡ S.identity sink.old }
 {
-    let condition = read_condition(alloc, search.image, condition)?;
+    let Asking {
+        labels,
+        search,
+        format,
+    } = asking;
+    let condition = match read_condition(alloc, labels, search.image, condition) {
+        Ok(condition) => condition,
+        Err(refused) => return Err(text_fault(refused)),
+    };
     let question = Find {
         search,
+        format,
         condition: &condition,
     };
-    ask(alloc, &question, progress, out)
-}
-
-/// `authority LISTING`.
-pub fn answer_authority<P: Progress, O: Write>(
-    alloc: Global,
-    search: Search<'_>,
-    progress: &mut P,
-    out: &mut O,
-) -> Result<Ending, Fault>
-    requires { IsSearchable search }
-    ensures printed { IfOk result (λ ending. HasWhole (IsAuthoritySaid search.entry.image.now
-        search.entry.sweeps.now search.entry.every_step search.entry.states search.entry.format) ending
-        (O.contents out.old) (O.contents out.new)) }
-    ensures failed { IfErr result (λ fault. FailsBy (failure_of fault)
-        (IsAuthoritySaid search.entry.image.now search.entry.sweeps.now
-        search.entry.every_step search.entry.states search.entry.format) fault
-        (O.contents out.old) (O.contents out.new)) }
-{
-    ask(alloc, &Authority { search }, progress, out)
+    ask(alloc, &question, progress, sink)
 }
 
 /// `outcomes LISTING --show ITEM[,ITEM]..`.
-fn answer_shown<P: Progress, O: Write>(
+fn answer_shown<P: Progress, S: Sink>(
     alloc: Global,
     search: Search<'_>,
+    format: Format,
     items: &str,
     progress: &mut P,
-    out: &mut O,
+    sink: &mut S,
 ) -> Result<Ending, Fault>
-    requires { IsSearchable search }
-    ensures printed { IfOk result (λ ending. HasWhole (IsOutcomesSaid search.entry.image.now
-        (Some items.now) search.entry.sweeps.now search.entry.every_step search.entry.states search.entry.format) ending
-        (O.contents out.old) (O.contents out.new)) }
+    requires { IsSearchable (search_of search) }
+    ensures printed { IfOk result (λ ending. HasWhole
+        (IsShownSaid (search_of search.entry) format items.now) ending
+        (S.written sink.old) (S.written sink.new)) }
     ensures failed { IfErr result (λ fault. FailsBy (failure_of fault)
-        (IsOutcomesSaid search.entry.image.now (Some items.now) search.entry.sweeps.now
-        search.entry.every_step search.entry.states search.entry.format) fault
-        (O.contents out.old) (O.contents out.new)) }
+        (IsShownSaid (search_of search.entry) format items.now) fault
+        (S.written sink.old) (S.written sink.new)) }
+    ensures identity { S.identity sink.new ≡ S.identity sink.old }
 {
-    let items = read_items(alloc, search.image, items)?;
+    let items = match read_items(alloc, search.image, items) {
+        Ok(items) => items,
+        Err(refused) => return Err(text_fault(refused)),
+    };
     let question = ShownOutcomes {
         search,
+        format,
         items: &items,
     };
-    ask(alloc, &question, progress, out)
+    ask(alloc, &question, progress, sink)
 }
 
-/// `outcomes LISTING`, with items to show or without.
-pub fn answer_outcomes<P: Progress, O: Write>(
+/// Answers a question of the command line in a format.
+pub fn answer_question<P: Progress, S: Sink>(
     alloc: Global,
-    search: Search<'_>,
-    show: Option<&str>,
+    question: Question<'_>,
+    asking: Asking<'_>,
     progress: &mut P,
-    out: &mut O,
+    sink: &mut S,
 ) -> Result<Ending, Fault>
-    requires { IsSearchable search }
-    ensures printed { IfOk result (λ ending. HasWhole (IsOutcomesSaid search.entry.image.now
-        (option_map (λ items. items.now) show.entry) search.entry.sweeps.now
-        search.entry.every_step search.entry.states search.entry.format) ending
-        (O.contents out.old) (O.contents out.new)) }
+    requires { IsSearchable (search_of asking.search) }
+    ensures printed { IfOk result (λ ending. HasWhole
+        (IsSaidTo (question_asked_by question.entry) (label_parts asking.entry.labels.now)
+        (search_of asking.entry.search) asking.entry.format) ending
+        (S.written sink.old) (S.written sink.new)) }
     ensures failed { IfErr result (λ fault. FailsBy (failure_of fault)
-        (IsOutcomesSaid search.entry.image.now (option_map (λ items. items.now) show.entry)
-        search.entry.sweeps.now search.entry.every_step search.entry.states search.entry.format) fault
-        (O.contents out.old) (O.contents out.new)) }
+        (IsSaidTo (question_asked_by question.entry) (label_parts asking.entry.labels.now)
+        (search_of asking.entry.search) asking.entry.format) fault
+        (S.written sink.old) (S.written sink.new)) }
+    ensures identity { S.identity sink.new ≡ S.identity sink.old }
 {
-    match show {
-        Some(items) => answer_shown(alloc, search, items, progress, out),
-        None => ask(alloc, &Outcomes { search }, progress, out),
+    let Asking { search, format, .. } = asking;
+    match question {
+        Question::Find { condition } => answer_find(alloc, asking, condition, progress, sink),
+        Question::Authority => ask(alloc, &Authority { search, format }, progress, sink),
+        Question::Outcomes { show } => match show {
+            Some(items) => answer_shown(alloc, search, format, items, progress, sink),
+            None => ask(alloc, &Outcomes { search, format }, progress, sink),
+        },
     }
 }

@@ -3,10 +3,12 @@
 
 mod answers;
 mod faults;
+mod listing;
 mod program;
 mod progress;
 mod questions;
 
-pub use faults::Fault;
-pub use program::{perform, report_fault};
+pub use faults::{Fault, OwnFault};
+pub use program::perform;
+pub use program_io::report_fault;
 pub use progress::TerminalProgress;

@@ -3,21 +3,23 @@
 ghost use Rattle.std.specs.Prelude.{◌≡◌, ◌≤◌, length, None, Some, IfOk, IfErr};
 ghost use Rattle.explore_line.specs.Requests.{explore_asked, explore_asked_by};
 ghost use Rattle.printing.specs.Endings.{HasWhole, FailsBy};
-ghost use Rattle.report_lines.specs.Texts.{line};
-ghost use Rattle.sinks.specs.Sinks.{TakesPrefix};
-ghost use Rattle.explore_program.specs.Faults.{failure_of, fault_text, status_of};
-ghost use Rattle.explore_program.specs.Program.{Ends, IsAnswer, command_line, format_of};
+ghost use Rattle.explore_program.specs.Faults.{failure_of};
+ghost use Rattle.explore_program.specs.Program.{Concludes, Ends, IsAnswer, command_line, format_of};
 
-use crate::answers::{answer_authority, answer_find, answer_outcomes};
+use crate::answers::{Asking, answer_question};
 use crate::faults::Fault;
+use crate::listing::read_listed;
 use crate::progress::TerminalProgress;
 use crate::questions::ranges_of;
-use explore_line::{ExploreRequest, Question, explore_request};
+use explore_line::{ExploreRequest, explore_request};
 use graph_search::{NoProgress, Progress};
-use inputs::{Files, command_args, read_image};
-use printing::write_line;
-use shown_states::{Ending, Format, Search};
-use states::MAX_SWEEPS;
+use inputs::{Files, command_args};
+use listing_labels::labels_of;
+use printing::give_back;
+use program_io::{finish, report_fault};
+use shown_states::{Ending, Format};
+use sinks::{Sink, ToWrite};
+use states::{MAX_SWEEPS, Search};
 use std::alloc::Global;
 use std::io::Write;
 use std::time::Clock;
@@ -33,92 +35,97 @@ fn format_of(asked: command_line::Format) -> Format
 }
 
 /// Answers a request.
-fn answer_request<F: Files, O: Write, P: Progress>(
+fn answer_request<F: Files, S: Sink, P: Progress>(
     alloc: Global,
     request: &ExploreRequest<'_>,
     files: &mut F,
     progress: &mut P,
-    out: &mut O,
+    sink: &mut S,
 ) -> Result<Ending, Fault>
     requires some { 1 ≤ request.now.states }
     requires few { length request.now.sweeps.items ≤ MAX_SWEEPS }
     ensures printed { IfOk result (λ ending. HasWhole
         (IsAnswer (F.bytes_of files.old) (Some (explore_asked_by request.now))) ending
-        (O.contents out.old) (O.contents out.new)) }
+        (S.written sink.old) (S.written sink.new)) }
     ensures failed { IfErr result (λ fault. FailsBy (failure_of fault)
         (IsAnswer (F.bytes_of files.old) (Some (explore_asked_by request.now))) fault
-        (O.contents out.old) (O.contents out.new)) }
+        (S.written sink.old) (S.written sink.new)) }
+    ensures identity { S.identity sink.new ≡ S.identity sink.old }
 {
-    let image = read_image(alloc, files, request.listing)?;
+    let listed = read_listed(alloc, files, request.listing)?;
+    let labels = labels_of(alloc, &listed.image, listed.text.as_slice())?;
     let sweeps = ranges_of(alloc, request.sweeps.as_slice())?;
     let search = Search {
-        image: &image,
+        image: &listed.image,
         sweeps: sweeps.as_slice(),
         every_step: request.every_step,
-        states: request.states,
+        limit: request.states,
+    };
+    let asking = Asking {
+        labels: &labels,
+        search,
         format: format_of(request.form),
     };
-    match request.question {
-        Question::Find { condition } => answer_find(alloc, search, condition, progress, out),
-        Question::Authority => answer_authority(alloc, search, progress, out),
-        Question::Outcomes { show } => answer_outcomes(alloc, search, show, progress, out),
-    }
+    answer_question(alloc, request.question, asking, progress, sink)
 }
 
 /// Answers what the arguments ask for. The command line is judged first.
-fn answer<F: Files, O: Write, P: Progress>(
+fn answer<F: Files, S: Sink, P: Progress>(
     alloc: Global,
     args: &[String],
     files: &mut F,
     progress: &mut P,
-    out: &mut O,
+    sink: &mut S,
 ) -> Result<Ending, Fault>
     ensures printed { IfOk result (λ ending. HasWhole
         (IsAnswer (F.bytes_of files.old) (explore_asked (command_line args.now))) ending
-        (O.contents out.old) (O.contents out.new)) }
+        (S.written sink.old) (S.written sink.new)) }
     ensures failed { IfErr result (λ fault. FailsBy (failure_of fault)
         (IsAnswer (F.bytes_of files.old) (explore_asked (command_line args.now))) fault
-        (O.contents out.old) (O.contents out.new)) }
+        (S.written sink.old) (S.written sink.new)) }
+    ensures identity { S.identity sink.new ≡ S.identity sink.old }
 {
     let args = command_args(alloc, "cheri_explore", args)?;
     let request = explore_request(alloc, args.as_slice())?;
-    answer_request(alloc, &request, files, progress, out)
-}
-
-/// Reports a fault in one line, and gives its status, whether the line was taken or not.
-pub fn report_fault<E: Write>(err: &mut E, fault: Fault) -> u8
-    ensures status { result ≡ status_of fault }
-    ensures told { TakesPrefix (E.contents err.old) (E.contents err.new)
-        (line (fault_text fault)) }
-{
-    let _ = write_line(err, fault);
-    fault.status()
+    answer_request(alloc, &request, files, progress, sink)
 }
 
 /// Answers what the arguments ask for. In a terminal, which is given by its clock, a long search is
 /// reported on `err`; elsewhere nothing is.
-fn answer_at<F: Files, O: Write, E: Write, C: Clock>(
+fn answer_at<F: Files, S: Sink, E: Write, C: Clock>(
     alloc: Global,
     args: &[String],
     files: &mut F,
     terminal: Option<&C>,
-    out: &mut O,
+    sink: &mut S,
     err: &mut E,
 ) -> Result<Ending, Fault>
     ensures printed { IfOk result (λ ending. HasWhole
         (IsAnswer (F.bytes_of files.old) (explore_asked (command_line args.now))) ending
-        (O.contents out.old) (O.contents out.new)) }
+        (S.written sink.old) (S.written sink.new)) }
     ensures failed { IfErr result (λ fault. FailsBy (failure_of fault)
         (IsAnswer (F.bytes_of files.old) (explore_asked (command_line args.now))) fault
-        (O.contents out.old) (O.contents out.new)) }
+        (S.written sink.old) (S.written sink.new)) }
     ensures silent { terminal.entry ≡ None → E.contents err.new ≡ E.contents err.old }
+    ensures identity { S.identity sink.new ≡ S.identity sink.old }
 {
     match terminal {
         Some(clock) => {
             let mut progress = TerminalProgress::new(clock, err);
-            answer(alloc, args, files, &mut progress, out)
+            answer(alloc, args, files, &mut progress, sink)
         }
-        None => answer(alloc, args, files, &mut NoProgress, out),
+        None => answer(alloc, args, files, &mut NoProgress, sink),
+    }
+}
+
+/// The exit status of a command that ended so: that of its ending, or of the fault, which is
+/// reported.
+fn conclude<E: Write>(err: &mut E, ended: Result<Ending, Fault>) -> u8
+    ensures { Concludes ended result (E.contents err.old) (E.contents err.new) }
+{
+    match ended {
+        Ok(ending) => ending.status(),
+        Err(fault) => report_fault(err, fault),
     }
 }
 
@@ -140,8 +147,9 @@ pub fn perform<F: Files, O: Write, E: Write, C: Clock>(
         result (O.contents out.old) (O.contents out.new)
         (E.contents err.old) (E.contents err.new) }
 {
-    match answer_at(alloc, args, files, terminal, out, err) {
-        Ok(ending) => ending.status(),
-        Err(fault) => report_fault(err, fault),
-    }
+    let mut sink = ToWrite::new(out);
+    let answered = answer_at(alloc, args, files, terminal, &mut sink, err);
+    let ended = finish(&mut sink, answered);
+    give_back(sink);
+    conclude(err, ended)
 }

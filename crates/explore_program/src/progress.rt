@@ -58,7 +58,8 @@ impl<'a, C: Clock, E: Write> TerminalProgress<'a, C, E> {
 
 impl<C: Clock, E: Write> Progress for TerminalProgress<'_, C, E> {
     fn report(&mut self, found: u32)
-        ensures { IsQuiet self.old.last self.new.last (E.contents self.old.err) (E.contents self.new.err)
+        ensures { IsQuiet self.old.last self.new.last
+            (E.contents self.old.err) (E.contents self.new.err)
             ⊎ IsTold found self.old.last self.new.last
             (E.contents self.old.err) (E.contents self.new.err) }
     {

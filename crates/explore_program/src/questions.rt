@@ -8,9 +8,7 @@ ghost use Rattle.outcome_texts.specs.Answers.{IsListedAnswer, IsShownAnswer};
 ghost use Rattle.shown_states.specs.Endings.{failures_of, IsUnwritten, IsWritten};
 ghost use Rattle.shown_states.specs.declared.form.Ending.{Ending};
 ghost use Rattle.explore_program.specs.Questions.{range_of};
-ghost use Rattle.explore_sights.specs.declared.sights.Sight.TheVariants.{NoStep, Rights};
-ghost use Rattle.explore_sights.specs.Sights.{sight_of};
-ghost use Rattle.shown_states.specs.Searches.{IsSearchable};
+ghost use Rattle.states.specs.Searches.{IsSearchable, search_of};
 
 use authority_texts::authority;
 use cheri_model::NoMemory;
@@ -20,8 +18,9 @@ use found_texts::find;
 use graph_search::Progress;
 use outcome_texts::{list_outcomes, show_outcomes};
 use schedules::SweepRange;
-use shown_states::{Ending, Search};
+use shown_states::{Ending, Format};
 use sinks::{Sink, WriteFault};
+use states::Search;
 use std::alloc::Global;
 
 /// The ranges of sweeps.
@@ -39,7 +38,7 @@ pub fn ranges_of(alloc: Global, sweeps: &[Sweep]) -> Result<Vec<SweepRange>, NoM
 }
 
 /// A question about the states that a search keeps.
-pub trait Question {
+pub trait SearchQuestion {
     /// Whether it can be asked.
     ghost is_askable: { Self → Type 0 };
 
@@ -68,14 +67,14 @@ pub trait Question {
 #[derive(Clone, Copy)]
 pub struct Find<'a, 'b> {
     pub search: Search<'a>,
+    pub format: Format,
     pub condition: &'b Condition,
 }
 
-impl<'a, 'b> Question for Find<'a, 'b> {
-    ghost is_askable = { λ q. IsSearchable q.search };
+impl<'a, 'b> SearchQuestion for Find<'a, 'b> {
+    ghost is_askable = { λ q. IsSearchable (search_of q.search) };
 
-    ghost answers = { λ q. IsFindAnswer q.search.image.now q.condition.now q.search.sweeps.now
-        q.search.every_step q.search.states q.search.format };
+    ghost answers = { λ q. IsFindAnswer (search_of q.search) q.condition.now q.format };
 
     fn write<P: Progress, S: Sink>(
         &self,
@@ -83,7 +82,14 @@ impl<'a, 'b> Question for Find<'a, 'b> {
         progress: &mut P,
         sink: &mut S,
     ) -> Result<Ending, WriteFault> {
-        find(alloc, &self.search, self.condition, progress, sink)
+        find(
+            alloc,
+            &self.search,
+            self.condition,
+            self.format,
+            progress,
+            sink,
+        )
     }
 }
 
@@ -91,13 +97,13 @@ impl<'a, 'b> Question for Find<'a, 'b> {
 #[derive(Clone, Copy)]
 pub struct Authority<'a> {
     pub search: Search<'a>,
+    pub format: Format,
 }
 
-impl<'a> Question for Authority<'a> {
-    ghost is_askable = { λ q. IsSearchable q.search };
+impl<'a> SearchQuestion for Authority<'a> {
+    ghost is_askable = { λ q. IsSearchable (search_of q.search) };
 
-    ghost answers = { λ q. IsAuthorityAnswer q.search.image.now q.search.sweeps.now
-        (sight_of q.search.every_step Rights) q.search.states q.search.format };
+    ghost answers = { λ q. IsAuthorityAnswer (search_of q.search) q.format };
 
     fn write<P: Progress, S: Sink>(
         &self,
@@ -105,7 +111,7 @@ impl<'a> Question for Authority<'a> {
         progress: &mut P,
         sink: &mut S,
     ) -> Result<Ending, WriteFault> {
-        authority(alloc, &self.search, progress, sink)
+        authority(alloc, &self.search, self.format, progress, sink)
     }
 }
 
@@ -113,13 +119,13 @@ impl<'a> Question for Authority<'a> {
 #[derive(Clone, Copy)]
 pub struct Outcomes<'a> {
     pub search: Search<'a>,
+    pub format: Format,
 }
 
-impl<'a> Question for Outcomes<'a> {
-    ghost is_askable = { λ q. IsSearchable q.search };
+impl<'a> SearchQuestion for Outcomes<'a> {
+    ghost is_askable = { λ q. IsSearchable (search_of q.search) };
 
-    ghost answers = { λ q. IsListedAnswer q.search.image.now q.search.sweeps.now
-        (sight_of q.search.every_step NoStep) q.search.states q.search.format };
+    ghost answers = { λ q. IsListedAnswer (search_of q.search) q.format };
 
     fn write<P: Progress, S: Sink>(
         &self,
@@ -127,7 +133,7 @@ impl<'a> Question for Outcomes<'a> {
         progress: &mut P,
         sink: &mut S,
     ) -> Result<Ending, WriteFault> {
-        list_outcomes(alloc, &self.search, progress, sink)
+        list_outcomes(alloc, &self.search, self.format, progress, sink)
     }
 }
 
@@ -135,14 +141,14 @@ impl<'a> Question for Outcomes<'a> {
 #[derive(Clone, Copy)]
 pub struct ShownOutcomes<'a, 'b, 'c> {
     pub search: Search<'a>,
+    pub format: Format,
     pub items: &'b Items<'c>,
 }
 
-impl<'a, 'b, 'c> Question for ShownOutcomes<'a, 'b, 'c> {
-    ghost is_askable = { λ q. IsSearchable q.search };
+impl<'a, 'b, 'c> SearchQuestion for ShownOutcomes<'a, 'b, 'c> {
+    ghost is_askable = { λ q. IsSearchable (search_of q.search) };
 
-    ghost answers = { λ q. IsShownAnswer q.search.image.now (list_of q.items.now)
-        q.search.sweeps.now (sight_of q.search.every_step NoStep) q.search.states q.search.format };
+    ghost answers = { λ q. IsShownAnswer (search_of q.search) (list_of q.items.now) q.format };
 
     fn write<P: Progress, S: Sink>(
         &self,
@@ -150,6 +156,6 @@ impl<'a, 'b, 'c> Question for ShownOutcomes<'a, 'b, 'c> {
         progress: &mut P,
         sink: &mut S,
     ) -> Result<Ending, WriteFault> {
-        show_outcomes(alloc, &self.search, self.items, progress, sink)
+        show_outcomes(alloc, &self.search, self.items, self.format, progress, sink)
     }
 }

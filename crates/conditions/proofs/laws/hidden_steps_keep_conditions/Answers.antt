@@ -1,4 +1,4 @@
-use Rattle.conditions.proofs.HidingLemmas.{hidden_keeps}
+use Rattle.conditions.proofs.HiddenLemmas.{hidden_keeps}
 use Rattle.conditions.proofs.laws.hidden_steps_keep_conditions.Goals as goal
 
 pub returns : goal.returns

@@ -1,36 +1,33 @@
-use Rattle.std.proofs.Common.{refl, ℕ, List}
-use Rattle.std.proofs.lemmas.Result.{err_from_is_err_and}
+use Rattle.std.proofs.Common.{false, refl, ℕ, List}
+use Rattle.program_io.proofs.EndingLemmas.{all_fail, all_whole}
 use Rattle.conditions.specs.Conditions.{condition_of}
-use Rattle.conditions.specs.declared.parts.Atom.{Atom}
-use Rattle.shown_states.specs.declared.form.Ending.{Ending}
+use Rattle.conditions.specs.declared.parts.Node.{Node}
 use Rattle.conditions.specs.declared.fault.TextFault.TheVariants.{Condition}
 use Rattle.found_texts.specs.Find.{IsFindAnswer}
+use Rattle.grammar.specs.LabelMap.{label_parts}
+use Rattle.shown_states.specs.declared.form.Ending.{Ending}
+use Rattle.states.specs.Searches.{search_of}
+use Rattle.explore_program.specs.Faults.{own_failure}
 use Rattle.explore_program.specs.Questions.{IsFindSaid, IsSaid}
-use Rattle.explore_program.proofs.QuestionLemmas.{condition_fails, said_of, printed_as, failed_as}
+use Rattle.explore_program.proofs.QuestionLemmas.{condition_fails, said_of}
 use Rattle.explore_program.proofs.answers.answer_find.Goals as goal
 
-pub returns-in_err-condition-clause-failed : goal.returns-in_err-condition-clause-failed
-returns-in_err-condition-clause-failed g c =
-    let p = err_from_is_err_and c.from_residual.result c.from_residual.ensures.1 in
-    let search = c.args.search in
-    rw (p.1, p.2)
-    (condition_fails (λ atoms. IsFindAnswer search.image.now atoms search.sweeps.now search.every_step search.states search.format)
-    (condition_of search.image.now c.args.condition.now) c.in_err-condition.field-0.0 _ _ c.in_err-condition.ensures refl)
+pub returns-in-Err-clause-failed : goal.returns-in-Err-clause-failed
+returns-in-Err-clause-failed g c =
+    let search = search_of c.args.asking.search in
+    rw c.text_fault.ensures
+    (condition_fails (λ atoms. IsFindAnswer search atoms c.args.asking.format) (condition_of (label_parts c.args.asking.labels.now) search.image c.args.condition.now) c.in-Err.refused _ _ c.in-Err.ensures refl)
 
 pub returns-clause-printed : goal.returns-clause-printed
 returns-clause-printed g c =
-    let search = c.args.search in
-    let answers : List Atom → List ℕ → Ending → Type 0 = λ atoms. IsFindAnswer search.image.now atoms search.sweeps.now search.every_step search.states search.format in
-    printed_as (IsSaid (answers c.in_ok-condition.condition))
-    (IsFindSaid search.image.now c.args.condition.now search.sweeps.now search.every_step search.states search.format) c.ask.result _ _
-    (said_of Condition answers (condition_of search.image.now c.args.condition.now) c.in_ok-condition.condition
-    c.in_ok-condition.ensures) c.ask.ensures.printed
+    let search = search_of c.args.asking.search in
+    let answers : List Node → List ℕ → Ending → Type 0 = λ atoms. IsFindAnswer search atoms c.args.asking.format in
+    all_whole (λ ending. ending) own_failure false (IsSaid (answers c.in-Ok.condition)) (IsFindSaid (label_parts c.args.asking.labels.now) search c.args.asking.format c.args.condition.now)
+    (said_of Condition answers (condition_of (label_parts c.args.asking.labels.now) search.image c.args.condition.now) c.in-Ok.condition c.in-Ok.ensures) _ _ c.ask.result c.ask.ensures.printed
 
 pub returns-clause-failed : goal.returns-clause-failed
 returns-clause-failed g c =
-    let search = c.args.search in
-    let answers : List Atom → List ℕ → Ending → Type 0 = λ atoms. IsFindAnswer search.image.now atoms search.sweeps.now search.every_step search.states search.format in
-    failed_as (IsSaid (answers c.in_ok-condition.condition))
-    (IsFindSaid search.image.now c.args.condition.now search.sweeps.now search.every_step search.states search.format) c.ask.result _ _
-    (said_of Condition answers (condition_of search.image.now c.args.condition.now) c.in_ok-condition.condition
-    c.in_ok-condition.ensures) c.ask.ensures.failed
+    let search = search_of c.args.asking.search in
+    let answers : List Node → List ℕ → Ending → Type 0 = λ atoms. IsFindAnswer search atoms c.args.asking.format in
+    all_fail (λ ending. ending) own_failure false (IsSaid (answers c.in-Ok.condition)) (IsFindSaid (label_parts c.args.asking.labels.now) search c.args.asking.format c.args.condition.now)
+    (said_of Condition answers (condition_of (label_parts c.args.asking.labels.now) search.image c.args.condition.now) c.in-Ok.condition c.in-Ok.ensures) _ _ c.ask.result c.ask.ensures.failed

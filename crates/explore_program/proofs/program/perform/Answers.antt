@@ -1,28 +1,23 @@
-use Rattle.std.proofs.Common.{refl, inl, inr}
+-- What the answer was, flushed and reported.
+use Rattle.std.proofs.Common.{false, rules, subst}
+use Rattle.explore_line.specs.Requests.{explore_asked}
+use Rattle.program_io.proofs.EndingLemmas.{flushed_fails, flushed_whole}
+use Rattle.explore_program.specs.Faults.{own_failure}
+use Rattle.explore_program.specs.Program.{Ends, IsAnswer, command_line}
+use Rattle.explore_program.proofs.ProgramLemmas.{ends}
 use Rattle.explore_program.proofs.program.perform.Goals as goal
 
-pub returns-in-Ok : goal.returns-in-Ok
-returns-in-Ok g c = record {
-  err_now = g.E.Write.contents c.answer_at.new.err;
-  silent = c.answer_at.ensures.silent;
-  ends =
-      inl (record {
-        ending = c.in-Ok.ending;
-        status_is = c.status.ensures;
-        printed = c.in-Ok.ensures.printed;
-        stderr = refl;
-      });
-}
-
-pub returns-in-Err : goal.returns-in-Err
-returns-in-Err g c = record {
-  err_now = g.E.Write.contents c.answer_at.new.err;
-  silent = c.answer_at.ensures.silent;
-  ends =
-      inr (record {
-        fault = c.in-Err.fault;
-        status_is = c.report_fault.ensures.status;
-        fails = c.in-Err.ensures.failed;
-        told = c.report_fault.ensures.told;
-      });
-}
+pub returns : goal.returns
+returns g c =
+    let files = g.F.Files.bytes_of c.args.files.now in
+    let request = explore_asked (command_line c.args.args.now) in
+    let answered = rw c.new-sink.ensures.writer at c.answer_at-answered.ensures.printed in
+    let refused = rw c.new-sink.ensures.writer at c.answer_at-answered.ensures.failed in
+    let so = ends c.args.terminal files request c.conclude.result (g.O.Write.contents c.args.out.now) _ (g.E.Write.contents c.args.err.now) _
+    (g.E.Write.contents c.conclude.new.err) c.finish-ended.result c.conclude.ensures c.answer_at-answered.ensures.silent
+    (flushed_whole (λ ending. ending) own_failure false (IsAnswer files request) _ _ _ c.answer_at-answered.result c.finish-ended.result
+    c.finish-ended.ensures.flushed answered)
+    (flushed_fails (λ ending. ending) own_failure false (IsAnswer files request) _ _ _ c.answer_at-answered.result c.finish-ended.result
+    c.finish-ended.ensures.flushed answered refused) in
+    subst (λ w. Ends c.args.terminal files request c.conclude.result (g.O.Write.contents c.args.out.now) (g.O.Write.contents w)
+    (g.E.Write.contents c.args.err.now) (g.E.Write.contents c.conclude.new.err)) (search rules) so
