@@ -251,16 +251,26 @@ fn refuses_items(rt: &impl Abort, alloc: Global, image: &Image, text: &str, byte
     }
 }
 
+fn takes_condition(rt: &impl Abort, alloc: Global, labels: &Labels<'_>, image: &Image, text: &str) {
+    if read_condition(alloc, labels, image, text).is_err() {
+        panic!(rt; "{text:?} is refused");
+    }
+}
+
+fn conditions_are_judged(rt: &impl Abort, alloc: Global, labels: &Labels<'_>, image: &Image) {
+    for text in GOOD {
+        takes_condition(rt, alloc, labels, image, text);
+    }
+    for (text, byte) in BAD {
+        refuses_condition(rt, alloc, labels, image, text, *byte);
+    }
+}
+
 #[test]
 fn conditions_are_read_or_refused_at_their_first_faulty_word(rt: HostRuntime) -> Result<(), Fail> {
     let image = image(rt.alloc())?;
     let labels = labels_of(rt.alloc(), LISTING)?;
-    for text in GOOD {
-        let _ = read_condition(rt.alloc(), &labels, &image, text)?;
-    }
-    for (text, byte) in BAD {
-        refuses_condition(&rt, rt.alloc(), &labels, &image, text, *byte);
-    }
+    conditions_are_judged(&rt, rt.alloc(), &labels, &image);
     Ok(())
 }
 

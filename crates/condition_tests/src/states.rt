@@ -3,11 +3,13 @@
 
 use bitflags::Flags;
 use cap_ops::Cap;
-use cheri_model::{Perms, RAM_BASE, Reg, Status, Trap};
+use cheri_model::{Image, Perms, RAM_BASE, Reg, Status, Trap};
 use conditions::{StateView, read_condition};
-use grammar::labels::labels_of;
+use grammar::labels::{Labels, labels_of};
 use hart::Hart;
 use listings::read_listing;
+use std::alloc::Global;
+use std::process::Abort;
 use std::test::Fail;
 use tagged_mem::Ram;
 
@@ -129,14 +131,9 @@ const ANSWERS: &[(&str, bool)] = &[
     ("all harts (not h at there)", true),
 ];
 
-#[test]
-fn conditions_hold_as_the_model_says(rt: HostRuntime) -> Result<(), Fail> {
-    let image = read_listing(rt.alloc(), LISTING)?;
-    let labels = labels_of(rt.alloc(), LISTING)?;
-    let held = Cap::make(RAM_BASE, 64, RAM_BASE + 16, Perms::LOAD.union(Perms::STORE))?;
-    let Some(opening) = image.harts().first() else {
-        return Err(Fail::from("the image has a hart"));
-    };
+/// The first hart of the image, trapped, with this capability as PCC and in c1.
+fn trapped_hart(image: &Image, held: Cap) -> Option<Hart> {
+    let opening = image.harts().first()?;
     let mut hart = Hart::open(opening);
     hart.put(Reg::new(1), held);
     hart.set_pcc(held);
@@ -144,17 +141,58 @@ fn conditions_hold_as_the_model_says(rt: HostRuntime) -> Result<(), Fail> {
         cause: Trap::LENGTH,
         reg: 1,
     }));
-    let mut ram = Ram::new(rt.alloc(), 16)?;
+    Some(hart)
+}
+
+/// Memory of one granule that has a value.
+fn filled_ram(alloc: Global) -> Result<Ram, Fail> {
+    let mut ram = Ram::new(alloc, 16)?;
     let granule = Cap::from_word(0x1122_3344_5566_7788_99AA_BBCC_DDEE_FF00);
     ram.store_cap(RAM_BASE, granule);
+    Ok(ram)
+}
+
+/// Whether a condition holds in a state, or nothing of a text that is none.
+fn answer(
+    alloc: Global,
+    labels: &Labels<'_>,
+    image: &Image,
+    shown: &Shown<'_>,
+    text: &str,
+) -> Option<bool> {
+    let condition = read_condition(alloc, labels, image, text).ok()?;
+    Some(condition.holds(shown))
+}
+
+fn conditions_are_asked(
+    rt: &impl Abort,
+    alloc: Global,
+    labels: &Labels<'_>,
+    image: &Image,
+    shown: &Shown<'_>,
+) {
+    for (text, holds) in ANSWERS {
+        assert!(rt;
+            answer(alloc, labels, image, shown, text) == Some(*holds),
+            "{text:?}"
+        );
+    }
+}
+
+#[test]
+fn conditions_hold_as_the_model_says(rt: HostRuntime) -> Result<(), Fail> {
+    let image = read_listing(rt.alloc(), LISTING)?;
+    let held = Cap::make(RAM_BASE, 64, RAM_BASE + 16, Perms::LOAD.union(Perms::STORE))?;
+    let Some(hart) = trapped_hart(&image, held) else {
+        return Err(Fail::from("the image has a hart"));
+    };
+    let ram = filled_ram(rt.alloc())?;
     let harts = [hart];
     let shown = Shown {
         harts: &harts,
         ram: &ram,
     };
-    for (text, holds) in ANSWERS {
-        let condition = read_condition(rt.alloc(), &labels, &image, text)?;
-        assert!(rt; condition.holds(&shown) == *holds, "{text:?}");
-    }
+    let labels = labels_of(rt.alloc(), LISTING)?;
+    conditions_are_asked(&rt, rt.alloc(), &labels, &image, &shown);
     Ok(())
 }

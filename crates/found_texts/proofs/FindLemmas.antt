@@ -6,7 +6,7 @@ use Rattle.cheri_model.specs.runs.Machine.{MachineState}
 use Rattle.conditions.specs.declared.parts.Node.{Node}
 use Rattle.conditions.specs.Holding.{holds}
 use Rattle.schedules.specs.declared.ranges.SweepRange.{SweepRange}
-use Rattle.conditions.proofs.HidingLemmas.{hidden_keeps}
+use Rattle.conditions.proofs.HiddenLemmas.{hidden_keeps}
 use Rattle.explore_sights.specs.Sights.{hides, sight_of}
 use Rattle.explore_sights.specs.declared.sights.Sight.TheVariants as sights
 use Rattle.explore_turns.specs.Turns.{KeepsPassing}
