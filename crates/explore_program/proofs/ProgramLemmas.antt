@@ -25,7 +25,7 @@ use Rattle.report_lines.specs.Texts.{line}
 use Rattle.sinks.specs.Sinks.{TakesPrefix}
 use Rattle.shown_states.specs.declared.form.Ending.{Ending}
 use Rattle.explore_program.specs.Faults.{Fault, failure_of, fault_text, is_refusal, own_failure, own_text, status_of}
-use Rattle.explore_program.specs.Program.{Concludes, Ends, IsAnswer, format_of, search_asked}
+use Rattle.explore_program.specs.Program.{Concludes, Ends, IsAnswer, IsRequestAnswer, format_of, search_asked}
 
 -- a listing that was refused
 pub listing_fails : (files : KnownFiles) (asked : ExploreAsked) (refused : InputFault) (old new : Option (List ℕ))
@@ -41,48 +41,79 @@ listing_fails files asked (faults.Listing listed) old new is same =
       is.0,
       is.1,
       subst (λ (r : Result ImageParts InputFault). OfMeant {A = Answer Ending Fault} r (λ refused. Err (Input refused))
-          (λ image. IsSaidTo asked.question (labels_of is.0) (search_asked image asked) (format_of asked.form) (Err (Input (faults.Listing listed))))
+          (λ image. IsRequestAnswer (labels_of is.0) image asked (Err (Input (faults.Listing listed))))
           (Err (Input (faults.Listing listed)))) (sym is.2) refl,
     )) same
 listing_fails files asked faults.CannotReadOrder old new is same = absurd is
 listing_fails files asked (faults.Order ordered) old new is same = absurd is
 
--- what is answered to the question of the image is an answer
-module _ (files : KnownFiles) (asked : ExploreAsked) (bytes : List ℕ) (image : ImageParts) (question : AskedQuestion) (labels : LabelParts)
-    (sweeps : List SweepRange) (format : Format) (are : AreBytesOf (files asked.listing) bytes) (means : listing_meaning bytes ≡ Ok image)
-    (question_is : question ≡ asked.question) (labels_are : labels ≡ labels_of bytes) (sweeps_are : sweeps ≡ map range_of asked.sweeps)
-    (format_is : format ≡ format_of asked.form) where
+-- what is answered to the question is answered to the request
+module _ (asked : ExploreAsked) (image : ImageParts) (question : AskedQuestion) (labels : LabelParts)
+    (sweeps : List SweepRange) (format : Format) (question_is : question ≡ asked.question)
+    (sweeps_are : sweeps ≡ map range_of asked.sweeps) (format_is : format ≡ format_of asked.form) where
   -- the search, with these sweeps
   abbrev searched : SearchParts
   searched = record { image = image; sweeps = sweeps; every_step = asked.every_step; limit = asked.states }
 
-  of_question : (answer : Answer Ending Fault) → IsSaidTo question labels searched format answer → IsAnswer files (Some asked) answer
+  of_question : (answer : Answer Ending Fault) → IsSaidTo question labels searched format answer → IsRequestAnswer labels image asked answer
   of_question answer said =
+      subst (λ (q : AskedQuestion). IsSaidTo q labels (search_asked image asked) (format_of asked.form) answer) question_is
+      (subst (λ (f : Format). IsSaidTo question labels (search_asked image asked) f answer) format_is
+      (subst (λ (ss : List SweepRange). IsSaidTo question labels
+      (record { image = image; sweeps = ss; every_step = asked.every_step; limit = asked.states }) format answer) sweeps_are said))
+
+  pub question_printed : {E : Type 0} (result : Result Ending E) (old new : Option (List ℕ))
+      → IfOk result (λ ending. HasWhole (IsSaidTo question labels searched format) ending old new)
+      → IfOk result (λ ending. HasWhole (IsRequestAnswer labels image asked) ending old new)
+  question_printed result old new printed =
+      all_whole (λ ending. ending) own_failure false (IsSaidTo question labels searched format) (IsRequestAnswer labels image asked)
+      of_question old new result printed
+
+  pub question_fails : {T : Type 0} (result : Result T Fault) (old new : Option (List ℕ))
+      → IfErr result (λ f. FailsBy (failure_of f) (IsSaidTo question labels searched format) f old new)
+      → IfErr result (λ f. FailsBy (failure_of f) (IsRequestAnswer labels image asked) f old new)
+  question_fails result old new fails =
+      all_fail (λ ending. ending) own_failure false (IsSaidTo question labels searched format) (IsRequestAnswer labels image asked)
+      of_question old new result fails
+
+-- the same, of labels that are these
+module _ (asked : ExploreAsked) (image : ImageParts) (labels known : LabelParts) (are : labels ≡ known) where
+  pub known_printed : {E : Type 0} (result : Result Ending E) (old new : Option (List ℕ))
+      → IfOk result (λ ending. HasWhole (IsRequestAnswer labels image asked) ending old new)
+      → IfOk result (λ ending. HasWhole (IsRequestAnswer known image asked) ending old new)
+  known_printed result old new printed =
+      subst (λ (ls : LabelParts). IfOk result (λ ending. HasWhole (IsRequestAnswer ls image asked) ending old new)) are printed
+
+  pub known_fails : {T : Type 0} (result : Result T Fault) (old new : Option (List ℕ))
+      → IfErr result (λ f. FailsBy (failure_of f) (IsRequestAnswer labels image asked) f old new)
+      → IfErr result (λ f. FailsBy (failure_of f) (IsRequestAnswer known image asked) f old new)
+  known_fails result old new fails =
+      subst (λ (ls : LabelParts). IfErr result (λ f. FailsBy (failure_of f) (IsRequestAnswer ls image asked) f old new)) are fails
+
+-- what is answered to a request about the listing is an answer
+module _ (files : KnownFiles) (asked : ExploreAsked) (bytes : List ℕ) (image : ImageParts) (are : AreBytesOf (files asked.listing) bytes)
+    (means : listing_meaning bytes ≡ Ok image) where
+  of_request : (answer : Answer Ending Fault) → IsRequestAnswer (labels_of bytes) image asked answer → IsAnswer files (Some asked) answer
+  of_request answer said =
       inr (
         bytes,
         are,
         subst (λ (r : Result ImageParts InputFault). OfMeant {A = Answer Ending Fault} r (λ refused. Err (Input refused))
-            (λ i. IsSaidTo asked.question (labels_of bytes) (search_asked i asked) (format_of asked.form) answer) answer)
-            (sym (ap image_of_meaning means))
-            (subst (λ (q : AskedQuestion). IsSaidTo q (labels_of bytes) (search_asked image asked) (format_of asked.form) answer) question_is
-            (subst (λ (ls : LabelParts). IsSaidTo question ls (search_asked image asked) (format_of asked.form) answer) labels_are
-            (subst (λ (f : Format). IsSaidTo question labels (search_asked image asked) f answer) format_is
-            (subst (λ (ss : List SweepRange). IsSaidTo question labels
-            (record { image = image; sweeps = ss; every_step = asked.every_step; limit = asked.states }) format answer) sweeps_are said)))),
+            (λ i. IsRequestAnswer (labels_of bytes) i asked answer) answer) (sym (ap image_of_meaning means)) said,
       )
 
-  pub question_printed : {E : Type 0} (result : Result Ending E) (old new : Option (List ℕ))
-      → IfOk result (λ ending. HasWhole (IsSaidTo question labels searched format) ending old new)
+  pub request_printed : {E : Type 0} (result : Result Ending E) (old new : Option (List ℕ))
+      → IfOk result (λ ending. HasWhole (IsRequestAnswer (labels_of bytes) image asked) ending old new)
       → IfOk result (λ ending. HasWhole (IsAnswer files (Some asked)) ending old new)
-  question_printed result old new printed =
-      all_whole (λ ending. ending) own_failure false (IsSaidTo question labels searched format) (IsAnswer files (Some asked)) of_question old new
+  request_printed result old new printed =
+      all_whole (λ ending. ending) own_failure false (IsRequestAnswer (labels_of bytes) image asked) (IsAnswer files (Some asked)) of_request old new
       result printed
 
-  pub question_fails : {T : Type 0} (result : Result T Fault) (old new : Option (List ℕ))
-      → IfErr result (λ f. FailsBy (failure_of f) (IsSaidTo question labels searched format) f old new)
+  pub request_fails : {T : Type 0} (result : Result T Fault) (old new : Option (List ℕ))
+      → IfErr result (λ f. FailsBy (failure_of f) (IsRequestAnswer (labels_of bytes) image asked) f old new)
       → IfErr result (λ f. FailsBy (failure_of f) (IsAnswer files (Some asked)) f old new)
-  question_fails result old new fails =
-      all_fail (λ ending. ending) own_failure false (IsSaidTo question labels searched format) (IsAnswer files (Some asked)) of_question old new
+  request_fails result old new fails =
+      all_fail (λ ending. ending) own_failure false (IsRequestAnswer (labels_of bytes) image asked) (IsAnswer files (Some asked)) of_request old new
       result fails
 
 -- arguments that ask for nothing

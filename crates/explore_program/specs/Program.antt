@@ -8,7 +8,7 @@ use Rattle.command_line.specs.declared.found.Format as found
 use Rattle.command_line.specs.declared.found.Format.TheVariants as forms
 use Rattle.inputs.specs.Arguments.{command_args}
 use Rattle.inputs.specs.Files.{KnownFiles}
-use Rattle.grammar.specs.Labels.{labels_of}
+use Rattle.grammar.specs.Labels.{LabelParts, labels_of}
 use Rattle.inputs.specs.Reading.{OfFile, OfMeant, image_meant}
 use Rattle.inputs.specs.declared.fault.InputFault.TheVariants.{CannotReadListing}
 use Rattle.printing.specs.Endings.{Answer, EndsBy, FailsBy, HasWhole}
@@ -39,14 +39,18 @@ search_asked image asked = record {
   limit = asked.states;
 }
 
+-- the answers to a request about a listing with these labels and this image
+abbrev pub IsRequestAnswer : LabelParts → ImageParts → ExploreAsked → Answer Ending Fault → Type 0
+IsRequestAnswer labels image asked answer =
+    IsSaidTo asked.question labels (search_asked image asked) (format_of asked.form) answer
+
 -- the answers to a request; `usage` where the arguments ask for nothing
 abbrev pub IsAnswer : KnownFiles → Option ExploreAsked → Answer Ending Fault → Type 0
 IsAnswer files None answer = answer ≡ Err Usage
 IsAnswer files (Some asked) answer =
     OfFile (files asked.listing) (Err (Input CannotReadListing))
     (λ bytes. OfMeant (image_meant bytes) (λ refused. Err (Input refused))
-    (λ image. IsSaidTo asked.question (labels_of bytes) (search_asked image asked)
-    (format_of asked.form) answer) answer) answer
+    (λ image. IsRequestAnswer (labels_of bytes) image asked answer) answer) answer
 
 -- it ends with an answer that was printed whole, and says nothing else
 pub record Done (files : KnownFiles) (request : Option ExploreAsked) (status : ℕ)

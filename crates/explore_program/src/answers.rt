@@ -22,9 +22,9 @@ use std::alloc::Global;
 
 /// What a question is asked of: a search, the labels of its listing, and how the answer is written.
 #[derive(Clone, Copy)]
-pub struct Asking<'a> {
-    pub labels: &'a Labels<'a>,
-    pub search: Search<'a>,
+pub struct Asking<'l, 's> {
+    pub labels: &'l Labels<'l>,
+    pub search: Search<'s>,
     pub format: Format,
 }
 
@@ -49,7 +49,7 @@ fn ask<Q: SearchQuestion, P: Progress, S: Sink>(
 /// `find LISTING CONDITION`.
 fn answer_find<P: Progress, S: Sink>(
     alloc: Global,
-    asking: Asking<'_>,
+    asking: Asking<'_, '_>,
     condition: &str,
     progress: &mut P,
     sink: &mut S,
@@ -116,7 +116,7 @@ fn answer_shown<P: Progress, S: Sink>(
 pub fn answer_question<P: Progress, S: Sink>(
     alloc: Global,
     question: Question<'_>,
-    asking: Asking<'_>,
+    asking: Asking<'_, '_>,
     progress: &mut P,
     sink: &mut S,
 ) -> Result<Ending, Fault>

@@ -1,17 +1,23 @@
 //! The program: answers one question, or reports why it cannot.
 
-ghost use Rattle.std.specs.Prelude.{◌≡◌, ◌≤◌, length, None, Some, IfOk, IfErr};
+ghost use Rattle.std.specs.Prelude.{◌≡◌, ◌≤◌, length, None, Ok, Some, IfOk, IfErr};
 ghost use Rattle.explore_line.specs.Requests.{explore_asked, explore_asked_by};
+ghost use Rattle.grammar.specs.LabelMap.{label_parts};
+ghost use Rattle.grammar.specs.Labels.{labels_of};
+ghost use Rattle.listings.specs.Meaning.{listing_meaning};
 ghost use Rattle.printing.specs.Endings.{HasWhole, FailsBy};
 ghost use Rattle.explore_program.specs.Faults.{failure_of};
-ghost use Rattle.explore_program.specs.Program.{Concludes, Ends, IsAnswer, command_line, format_of};
+ghost use Rattle.explore_program.specs.Program.{Concludes, Ends, IsAnswer, IsRequestAnswer};
+ghost use Rattle.explore_program.specs.Program.{command_line, format_of};
 
 use crate::answers::{Asking, answer_question};
 use crate::faults::Fault;
 use crate::listing::read_listed;
 use crate::progress::TerminalProgress;
 use crate::questions::ranges_of;
+use cheri_model::Image;
 use explore_line::{ExploreRequest, explore_request};
+use grammar::labels::Labels;
 use graph_search::{NoProgress, Progress};
 use inputs::{Files, command_args};
 use listing_labels::labels_of;
@@ -34,6 +40,64 @@ fn format_of(asked: command_line::Format) -> Format
     }
 }
 
+/// Answers a request about the image of a listing, with the listing's labels.
+fn answer_labelled<S: Sink, P: Progress>(
+    alloc: Global,
+    request: &ExploreRequest<'_>,
+    image: &Image,
+    labels: &Labels<'_>,
+    progress: &mut P,
+    sink: &mut S,
+) -> Result<Ending, Fault>
+    requires some { 1 ≤ request.now.states }
+    requires few { length request.now.sweeps.items ≤ MAX_SWEEPS }
+    ensures printed { IfOk result (λ ending. HasWhole
+        (IsRequestAnswer (label_parts labels.now) image.now (explore_asked_by request.now)) ending
+        (S.written sink.old) (S.written sink.new)) }
+    ensures failed { IfErr result (λ fault. FailsBy (failure_of fault)
+        (IsRequestAnswer (label_parts labels.now) image.now (explore_asked_by request.now)) fault
+        (S.written sink.old) (S.written sink.new)) }
+    ensures identity { S.identity sink.new ≡ S.identity sink.old }
+{
+    let sweeps = ranges_of(alloc, request.sweeps.as_slice())?;
+    let search = Search {
+        image,
+        sweeps: sweeps.as_slice(),
+        every_step: request.every_step,
+        limit: request.states,
+    };
+    let asking = Asking {
+        labels,
+        search,
+        format: format_of(request.form),
+    };
+    answer_question(alloc, request.question, asking, progress, sink)
+}
+
+/// Answers a request about a good listing, of which this is the text and the image.
+fn answer_listed<S: Sink, P: Progress>(
+    alloc: Global,
+    request: &ExploreRequest<'_>,
+    image: &Image,
+    text: &[u8],
+    progress: &mut P,
+    sink: &mut S,
+) -> Result<Ending, Fault>
+    requires meaning { listing_meaning text.now ≡ Ok image.now }
+    requires some { 1 ≤ request.now.states }
+    requires few { length request.now.sweeps.items ≤ MAX_SWEEPS }
+    ensures printed { IfOk result (λ ending. HasWhole
+        (IsRequestAnswer (labels_of text.now) image.now (explore_asked_by request.now)) ending
+        (S.written sink.old) (S.written sink.new)) }
+    ensures failed { IfErr result (λ fault. FailsBy (failure_of fault)
+        (IsRequestAnswer (labels_of text.now) image.now (explore_asked_by request.now)) fault
+        (S.written sink.old) (S.written sink.new)) }
+    ensures identity { S.identity sink.new ≡ S.identity sink.old }
+{
+    let labels = labels_of(alloc, image, text)?;
+    answer_labelled(alloc, request, image, &labels, progress, sink)
+}
+
 /// Answers a request.
 fn answer_request<F: Files, S: Sink, P: Progress>(
     alloc: Global,
@@ -53,20 +117,8 @@ fn answer_request<F: Files, S: Sink, P: Progress>(
     ensures identity { S.identity sink.new ≡ S.identity sink.old }
 {
     let listed = read_listed(alloc, files, request.listing)?;
-    let labels = labels_of(alloc, &listed.image, listed.text.as_slice())?;
-    let sweeps = ranges_of(alloc, request.sweeps.as_slice())?;
-    let search = Search {
-        image: &listed.image,
-        sweeps: sweeps.as_slice(),
-        every_step: request.every_step,
-        limit: request.states,
-    };
-    let asking = Asking {
-        labels: &labels,
-        search,
-        format: format_of(request.form),
-    };
-    answer_question(alloc, request.question, asking, progress, sink)
+    let text = listed.text.as_slice();
+    answer_listed(alloc, request, &listed.image, text, progress, sink)
 }
 
 /// Answers what the arguments ask for. The command line is judged first.

@@ -1,8 +1,9 @@
-use Rattle.std.proofs.Common.{refl, ◌∙◌, ap, map}
+use Rattle.std.proofs.Common.{◌≡◌, ℕ, List, Ok, sym, subst, refl}
 use Rattle.std.proofs.lemmas.Result.{err_from_is_err_and}
 use Rattle.explore_line.specs.Requests.{explore_asked_by}
-use Rattle.explore_program.specs.Questions.{range_of}
-use Rattle.explore_program.proofs.ProgramLemmas.{listing_fails, question_printed, question_fails}
+use Rattle.inputs.specs.Files.{AreBytesOf}
+use Rattle.listings.specs.Meaning.{listing_meaning}
+use Rattle.explore_program.proofs.ProgramLemmas.{listing_fails, request_printed, request_fails}
 use Rattle.explore_program.proofs.program.answer_request.Goals as goal
 
 pub returns-in_err-listed-clause-failed : goal.returns-in_err-listed-clause-failed
@@ -14,14 +15,18 @@ returns-in_err-listed-clause-failed g c =
 
 pub returns-clause-printed : goal.returns-clause-printed
 returns-clause-printed g c =
-    question_printed (g.F.Files.bytes_of c.args.files.now) (explore_asked_by c.args.request.now) c.in_ok-listed.listed.text.items c.in_ok-listed.listed.image _ _
-    c.as_slice-2.result.now c.format_of.result c.in_ok-listed.ensures.bytes c.in_ok-listed.ensures.meaning refl c.in_ok-labels.ensures
-    (c.as_slice-2.ensures.value ∙ (c.in_ok-sweeps.ensures ∙ ap (map range_of) c.as_slice.ensures.value)) c.format_of.ensures
-    c.answer_question.result _ _ c.answer_question.ensures.printed
+    request_printed (g.F.Files.bytes_of c.args.files.now) (explore_asked_by c.args.request.now) c.as_slice-text.result.now
+    c.in_ok-listed.listed.image
+    (subst (λ (bytes : List ℕ). AreBytesOf (g.F.Files.bytes_of c.args.files.now c.args.request.now.listing.now) bytes)
+    (sym c.as_slice-text.ensures.value) c.in_ok-listed.ensures.bytes)
+    (subst (λ (bytes : List ℕ). listing_meaning bytes ≡ Ok c.in_ok-listed.listed.image) (sym c.as_slice-text.ensures.value)
+    c.in_ok-listed.ensures.meaning) c.answer_listed.result _ _ c.answer_listed.ensures.printed
 
 pub returns-clause-failed : goal.returns-clause-failed
 returns-clause-failed g c =
-    question_fails (g.F.Files.bytes_of c.args.files.now) (explore_asked_by c.args.request.now) c.in_ok-listed.listed.text.items c.in_ok-listed.listed.image _ _
-    c.as_slice-2.result.now c.format_of.result c.in_ok-listed.ensures.bytes c.in_ok-listed.ensures.meaning refl c.in_ok-labels.ensures
-    (c.as_slice-2.ensures.value ∙ (c.in_ok-sweeps.ensures ∙ ap (map range_of) c.as_slice.ensures.value)) c.format_of.ensures
-    c.answer_question.result _ _ c.answer_question.ensures.failed
+    request_fails (g.F.Files.bytes_of c.args.files.now) (explore_asked_by c.args.request.now) c.as_slice-text.result.now
+    c.in_ok-listed.listed.image
+    (subst (λ (bytes : List ℕ). AreBytesOf (g.F.Files.bytes_of c.args.files.now c.args.request.now.listing.now) bytes)
+    (sym c.as_slice-text.ensures.value) c.in_ok-listed.ensures.bytes)
+    (subst (λ (bytes : List ℕ). listing_meaning bytes ≡ Ok c.in_ok-listed.listed.image) (sym c.as_slice-text.ensures.value)
+    c.in_ok-listed.ensures.meaning) c.answer_listed.result _ _ c.answer_listed.ensures.failed
