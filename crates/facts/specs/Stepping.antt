@@ -4,6 +4,7 @@ use Rattle.std.specs.Option.{option_map}
 use Rattle.cap_model.specs.values.CapValue.{CapValue}
 use Rattle.cap_model.specs.results.Addresses.{address_of}
 use Rattle.cheri_model.specs.steps.Hart.{HartState}
+use Rattle.cheri_model.specs.steps.HartStep.{Stepped}
 use Rattle.cheri_model.specs.steps.Memory.{fits}
 use Rattle.cheri_model.specs.steps.Actions.{action}
 use Rattle.cheri_model.specs.declared.instr.Instr.{Instr}
@@ -16,6 +17,7 @@ use Rattle.origins.specs.Origins.{Origins}
 use Rattle.origins.specs.Table.{Table, IsPlace, origin_in}
 use Rattle.facts.specs.declared.step_facts.Extent.{Extent}
 use Rattle.facts.specs.declared.step_facts.StepFacts.{StepFacts}
+use Rattle.facts.specs.declared.stepping.Moment.{Moment}
 use Rattle.facts.specs.declared.stepping.Seen.{Seen}
 use Rattle.facts.specs.Names.{each_of, reads_of, access_of}
 use Rattle.facts.specs.Losses.{clears_of}
@@ -25,6 +27,15 @@ use Rattle.facts.specs.StepFacts.{named_at, fetched_of, granule_accessed}
 pub record IsTableFor (table : Table) (number granules : ℕ) : Type 0 where
   pub hart : number < table.harts
   pub size : length table.slots ≡ 33 * table.harts + granules
+
+-- of a hart at one moment, and its memory
+abbrev pub HasTable : Moment → Type 0
+HasTable now = IsTableFor now.origins.now now.number (length now.ram.now)
+
+-- how a step ended that left a hart so, and its memory
+abbrev pub stepped_to : Moment → Outcome → Stepped
+stepped_to after outcome =
+    record { hart = after.hart.now; memory = after.ram.now; outcome = outcome }
 
 -- a table says where each value is from
 abbrev pub Tells : Table → Origins → Type 0

@@ -12,7 +12,7 @@ ghost use Rattle.origins.specs.Origins.{Origins};
 ghost use Rattle.origins.specs.Flows.{AreSpots, flows_at, step_flows};
 ghost use Rattle.origins.specs.Table.{list_of};
 ghost use Rattle.facts.specs.Stepping.{
-  IsTableFor,
+  HasTable,
   Tells,
   IsPlaced,
   IsSeen,
@@ -20,6 +20,7 @@ ghost use Rattle.facts.specs.Stepping.{
   IsStopped,
   IsNotTrap,
   address_accessed,
+  stepped_to,
 };
 ghost use Rattle.facts.specs.declared.step_facts.StepFacts.{StepFacts};
 ghost use Rattle.facts.specs.StepFacts.{
@@ -36,11 +37,11 @@ ghost use Rattle.facts.specs.StepFacts.{
 
 use crate::names::{is_store, sets_of};
 use crate::step_facts::{Extent, StepFacts, Trapped, UpToTwo};
-use crate::stepping::{Seen, each_named, found_at};
+use crate::stepping::{Moment, Seen, each_named, found_at};
 use crate::trapping::trap_why;
 use cheri_model::{Entry, Instr, Outcome, Trap};
 use hart::Hart;
-use origins::{OriginTable, StepFlows, flows};
+use origins::{StepFlows, flows};
 use tagged_mem::Ram;
 
 /// A trap of a step of this hart, and why.
@@ -105,24 +106,17 @@ fn trapped_facts(seen: &Seen, number: u8, trap: Trap, after: &Hart, facts: &mut 
 }
 
 /// The facts of an instruction that was done, with the hart, the memory and the origins after it.
-fn done_facts(
-    seen: &Seen,
-    number: u8,
-    outcome: Outcome,
-    after: &Hart,
-    ram: &Ram,
-    origins: &OriginTable,
-    facts: &mut StepFacts,
-)
-    requires { IsTableFor origins.now number (length ram.now) }
+fn done_facts(seen: &Seen, outcome: Outcome, after: Moment<'_>, facts: &mut StepFacts)
+    requires { HasTable after }
     ensures { (hart : HartState) (memory : List CapValue) (from later : Origins) →
-        IsSeen seen.now facts.old number hart memory from → Tells origins.now later →
-        IsPlaced memory seen.now.at → IsPlaced ram.now seen.now.at →
-        facts.new ≡ done_facts number hart memory from seen.now.fetched
-        (record { hart = after.now; memory = ram.now; outcome = outcome }) later }
+        IsSeen seen.now facts.old after.entry.number hart memory from →
+        Tells after.entry.origins.now later → IsPlaced memory seen.now.at →
+        IsPlaced after.entry.ram.now seen.now.at →
+        facts.new ≡ done_facts after.entry.number hart memory from seen.now.fetched
+        (stepped_to after.entry outcome) later }
 {
     facts.entry = Entry {
-        hart: number,
+        hart: after.number,
         pc: seen.pc,
         outcome,
     };
@@ -130,11 +124,11 @@ fn done_facts(
     facts.at = seen.at;
     facts.traps = None;
     facts.leaves = if is_store(&seen.action) {
-        found_at(seen.at, number, after, ram, origins)
+        found_at(seen.at, after)
     } else {
         None
     };
-    facts.sets = each_named(sets_of(&seen.action), number, after, ram, origins);
+    facts.sets = each_named(sets_of(&seen.action), after);
 }
 
 /// The address of an access, where it is aligned and in RAM; else that of the first byte of RAM.
@@ -185,54 +179,39 @@ pub fn flows_of_step(seen: &Option<Seen>, outcome: Outcome, ram: &Ram) -> StepFl
 
 /// The facts of an instruction, by its outcome.
 #[tactic(auto)]
-fn instruction_facts(
-    seen: &Seen,
-    number: u8,
-    outcome: Outcome,
-    after: &Hart,
-    ram: &Ram,
-    origins: &OriginTable,
-    facts: &mut StepFacts,
-)
-    requires { IsTableFor origins.now number (length ram.now) }
+fn instruction_facts(seen: &Seen, outcome: Outcome, after: Moment<'_>, facts: &mut StepFacts)
+    requires { HasTable after }
     ensures { (hart : HartState) (memory : List CapValue) (from later : Origins) →
-        IsSeen seen.now facts.old number hart memory from → Tells origins.now later →
+        IsSeen seen.now facts.old after.entry.number hart memory from →
+        Tells after.entry.origins.now later →
         (IsNotTrap outcome → IsPlaced memory seen.now.at) →
-        (IsNotTrap outcome → IsPlaced ram.now seen.now.at) →
-        ((trap : Trap) → outcome ≡ Outcome.Trap trap → IsStopped hart after.now) →
-        facts.new ≡ instruction_facts outcome number hart memory from seen.now.fetched
-        (record { hart = after.now; memory = ram.now; outcome = outcome }) later }
+        (IsNotTrap outcome → IsPlaced after.entry.ram.now seen.now.at) →
+        ((trap : Trap) → outcome ≡ Outcome.Trap trap → IsStopped hart after.entry.hart.now) →
+        facts.new ≡ instruction_facts outcome after.entry.number hart memory from
+        seen.now.fetched (stepped_to after.entry outcome) later }
 {
     match outcome {
-        Outcome::Done => done_facts(seen, number, Outcome::Done, after, ram, origins, facts),
-        Outcome::Halt => done_facts(seen, number, Outcome::Halt, after, ram, origins, facts),
-        Outcome::Trap(trap) => trapped_facts(seen, number, trap, after, facts),
+        Outcome::Done => done_facts(seen, Outcome::Done, after, facts),
+        Outcome::Halt => done_facts(seen, Outcome::Halt, after, facts),
+        Outcome::Trap(trap) => trapped_facts(seen, after.number, trap, after.hart, facts),
     }
 }
 
 /// Fills in the facts of a step, by what was seen before it and what is there after it.
 #[tactic(auto)]
-pub fn after_step(
-    seen: &Option<Seen>,
-    number: u8,
-    outcome: Outcome,
-    after: &Hart,
-    ram: &Ram,
-    origins: &OriginTable,
-    facts: &mut StepFacts,
-)
-    requires { IsTableFor origins.now number (length ram.now) }
+pub fn after_step(seen: &Option<Seen>, outcome: Outcome, after: Moment<'_>, facts: &mut StepFacts)
+    requires { HasTable after }
     ensures { (program : List Instr) (hart : HartState) (memory : List CapValue)
         (from later : Origins) →
-        IsSeenBefore seen.now facts.old program number hart memory from → Tells origins.now later →
-        hart_step program hart memory
-        ≡ record { hart = after.now; memory = ram.now; outcome = outcome } →
-        facts.new ≡ facts_by (fetched_of program hart.pcc) number hart memory from
-        (record { hart = after.now; memory = ram.now; outcome = outcome }) later }
+        IsSeenBefore seen.now facts.old program after.entry.number hart memory from →
+        Tells after.entry.origins.now later →
+        hart_step program hart memory ≡ stepped_to after.entry outcome →
+        facts.new ≡ facts_by (fetched_of program hart.pcc) after.entry.number hart memory from
+        (stepped_to after.entry outcome) later }
 {
     match seen {
-        None => fetch_facts(number, outcome, after, facts),
-        Some(seen) => instruction_facts(seen, number, outcome, after, ram, origins, facts),
+        None => fetch_facts(after.number, outcome, after.hart, facts),
+        Some(seen) => instruction_facts(seen, outcome, after, facts),
     }
 }
 

@@ -16,6 +16,6 @@ mod why;
 
 pub use finishing::{after_step, flows_of_step};
 pub use step_facts::{Cleared, Extent, Fetched, NamedValue, StepFacts, Trapped, UpToTwo};
-pub use stepping::{Seen, before_step};
+pub use stepping::{Moment, Seen, before_step};
 pub use sweeping::swept_places;
 pub use why::{TrapWhy, Why};

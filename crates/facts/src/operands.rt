@@ -23,7 +23,7 @@ use origins::Spot;
 
 /// An instruction that makes a capability from one that it reads; an immediate form is the form on
 /// registers, with the immediate as an integer in place of c2.
-#[derive(Clone, Copy, Debug, PartialEq, Eq)]
+#[derive(Clone, Copy)]
 pub enum CapOp {
     CMove,
     CClearTag,

@@ -7,7 +7,7 @@ use origins::{Place, Spot};
 
 /// A value, the place of the stepped hart that has it, and where it is tagged its origin: the place
 /// of the opening state whose capability it came from.
-#[derive(Clone, Copy, Debug, PartialEq, Eq)]
+#[derive(Clone, Copy, PartialEq, Eq)]
 pub struct NamedValue {
     pub name: Spot,
     pub value: Cap,
@@ -15,7 +15,7 @@ pub struct NamedValue {
 }
 
 /// None, one or two, in this order.
-#[derive(Clone, Copy, Debug, PartialEq, Eq)]
+#[derive(Clone, Copy, PartialEq, Eq)]
 pub enum UpToTwo<T> {
     Zero,
     One(T),
@@ -23,28 +23,28 @@ pub enum UpToTwo<T> {
 }
 
 /// The bytes that an access moves: their first address, and how many they are.
-#[derive(Clone, Copy, Debug, PartialEq, Eq)]
+#[derive(Clone, Copy, PartialEq, Eq)]
 pub struct Extent {
     pub address: u64,
     pub bytes: u64,
 }
 
 /// An instruction whose fetch passed, and its number in the program.
-#[derive(Clone, Copy, Debug, PartialEq, Eq)]
+#[derive(Clone, Copy, PartialEq, Eq)]
 pub struct Fetched {
     pub number: usize,
     pub instr: Instr,
 }
 
 /// A trap, and why.
-#[derive(Clone, Copy, Debug, PartialEq, Eq)]
+#[derive(Clone, Copy, PartialEq, Eq)]
 pub struct Trapped {
     pub trap: Trap,
     pub why: TrapWhy,
 }
 
 /// A register or a granule that lost its tag, and why.
-#[derive(Clone, Copy, Debug, PartialEq, Eq)]
+#[derive(Clone, Copy, PartialEq, Eq)]
 pub struct Cleared {
     pub name: Spot,
     pub why: Why,
@@ -52,7 +52,7 @@ pub struct Cleared {
 
 /// What is said of one step. A step that trapped has at most `reads` and `at` beside its trap, and
 /// one whose fetch trapped has neither.
-#[derive(Clone, Copy, Debug, PartialEq, Eq)]
+#[derive(Clone, Copy)]
 pub struct StepFacts {
     /// The step's entry in the trace.
     pub entry: Entry,

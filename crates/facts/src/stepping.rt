@@ -7,7 +7,7 @@ ghost use Rattle.origins.specs.Places.{value_at_spot, place_of};
 ghost use Rattle.origins.specs.Flows.{IsSpot};
 ghost use Rattle.origins.specs.Origins.{Origins};
 ghost use Rattle.facts.specs.Names.{EachIs, each_of, reads_of};
-ghost use Rattle.facts.specs.Stepping.{IsTableFor, Tells, IsPlaced, IsSeen, IsSeenBefore};
+ghost use Rattle.facts.specs.Stepping.{HasTable, IsTableFor, Tells, IsPlaced, IsSeen, IsSeenBefore};
 ghost use Rattle.facts.specs.TrapsLaw.{ReadsRegisters};
 ghost use Rattle.cheri_model.specs.instructions.Form.{form_of};
 ghost use Rattle.facts.specs.StepFacts.{
@@ -61,15 +61,24 @@ fn origin_at(spot: Spot, number: u8, granules: usize, origins: &OriginTable) -> 
     origins.origin(spot.of(number))
 }
 
-/// What the hart with this number names so, with its origin where it is tagged.
-fn named_at(spot: Spot, number: u8, hart: &Hart, ram: &Ram, origins: &OriginTable) -> NamedValue
-    requires spot { IsSpot (length ram.now) spot }
-    requires table { IsTableFor origins.now number (length ram.now) }
-    ensures { (from : Origins) → Tells origins.now from →
-        result ≡ named_at hart.now ram.now from number spot }
+/// A hart at one moment, with its number, its memory, and the table of where all values are from.
+#[derive(Clone, Copy)]
+pub struct Moment<'a> {
+    pub number: u8,
+    pub hart: &'a Hart,
+    pub ram: &'a Ram,
+    pub origins: &'a OriginTable,
+}
+
+/// What a hart names so, with its origin where it is tagged.
+fn named_at(spot: Spot, now: Moment<'_>) -> NamedValue
+    requires spot { IsSpot (length now.ram.now) spot }
+    requires table { HasTable now }
+    ensures { (from : Origins) → Tells now.entry.origins.now from → result
+        ≡ named_at now.entry.hart.now now.entry.ram.now from now.entry.number spot }
 {
-    let value = value_at(spot, hart, ram);
-    let place = origin_at(spot, number, ram.granule_count(), origins);
+    let value = value_at(spot, now.hart, now.ram);
+    let place = origin_at(spot, now.number, now.ram.granule_count(), now.origins);
     let origin = if value.tag() { Some(place) } else { None };
     NamedValue {
         name: spot,
@@ -79,25 +88,16 @@ fn named_at(spot: Spot, number: u8, hart: &Hart, ram: &Ram, origins: &OriginTabl
 }
 
 /// The same of up to two.
-pub fn each_named(
-    spots: UpToTwo<Spot>,
-    number: u8,
-    hart: &Hart,
-    ram: &Ram,
-    origins: &OriginTable,
-) -> UpToTwo<NamedValue>
-    requires spots { EachIs (IsSpot (length ram.now)) spots }
-    requires table { IsTableFor origins.now number (length ram.now) }
-    ensures { (from : Origins) → Tells origins.now from →
-        result ≡ each_of (named_at hart.now ram.now from number) spots }
+pub fn each_named(spots: UpToTwo<Spot>, now: Moment<'_>) -> UpToTwo<NamedValue>
+    requires spots { EachIs (IsSpot (length now.ram.now)) spots }
+    requires table { HasTable now }
+    ensures { (from : Origins) → Tells now.entry.origins.now from → result
+        ≡ each_of (named_at now.entry.hart.now now.entry.ram.now from now.entry.number) spots }
 {
     match spots {
         UpToTwo::Zero => UpToTwo::Zero,
-        UpToTwo::One(only) => UpToTwo::One(named_at(only, number, hart, ram, origins)),
-        UpToTwo::Two(first, second) => UpToTwo::Two(
-            named_at(first, number, hart, ram, origins),
-            named_at(second, number, hart, ram, origins),
-        ),
+        UpToTwo::One(only) => UpToTwo::One(named_at(only, now)),
+        UpToTwo::Two(first, second) => { UpToTwo::Two(named_at(first, now), named_at(second, now)) }
     }
 }
 
@@ -116,19 +116,15 @@ fn granule_in(at: Option<Extent>, ram: &Ram) -> Option<Spot>
 }
 
 /// The same as a hart finds it.
-pub fn found_at(
-    at: Option<Extent>,
-    number: u8,
-    hart: &Hart,
-    ram: &Ram,
-    origins: &OriginTable,
-) -> Option<NamedValue>
-    requires { IsTableFor origins.now number (length ram.now) }
-    ensures { (from : Origins) → Tells origins.now from → IsPlaced ram.now at →
-        result ≡ option_map (named_at hart.now ram.now from number) (granule_accessed at) }
+pub fn found_at(at: Option<Extent>, now: Moment<'_>) -> Option<NamedValue>
+    requires { HasTable now }
+    ensures { (from : Origins) → Tells now.entry.origins.now from →
+        IsPlaced now.entry.ram.now at → result
+        ≡ option_map (named_at now.entry.hart.now now.entry.ram.now from now.entry.number)
+        (granule_accessed at) }
 {
-    match granule_in(at, ram) {
-        Some(granule) => Some(named_at(granule, number, hart, ram, origins)),
+    match granule_in(at, now.ram) {
+        Some(granule) => Some(named_at(granule, now)),
         None => None,
     }
 }
@@ -143,51 +139,38 @@ pub struct Seen {
 }
 
 /// The first half of a step's facts, before it: what is read, found and cleared.
-fn seen_before(
-    fetched: &Fetched,
-    number: u8,
-    hart: &Hart,
-    ram: &Ram,
-    origins: &OriginTable,
-    facts: &mut StepFacts,
-) -> Seen
-    requires { IsTableFor origins.now number (length ram.now) }
+fn seen_before(fetched: &Fetched, now: Moment<'_>, facts: &mut StepFacts) -> Seen
+    requires { HasTable now }
     ensures same { result.fetched ≡ fetched.now }
     ensures registers { EachIs (IsSpot 0) (reads_of (form_of fetched.now.instr)) }
-    ensures seen { (from : Origins) → Tells origins.now from →
-        IsSeen result facts.new number hart.now ram.now from }
+    ensures seen { (from : Origins) → Tells now.entry.origins.now from →
+        IsSeen result facts.new now.entry.number now.entry.hart.now now.entry.ram.now from }
 {
-    let action = instr_action(fetched.instr, hart);
+    let action = instr_action(fetched.instr, now.hart);
     let at = access_of(&action);
-    facts.reads = each_named(reads_of(&fetched.instr.form()), number, hart, ram, origins);
-    facts.finds = found_at(at, number, hart, ram, origins);
-    facts.clears = clears_of(&fetched.instr, &action, hart, &facts.finds);
+    facts.reads = each_named(reads_of(&fetched.instr.form()), now);
+    facts.finds = found_at(at, now);
+    facts.clears = clears_of(&fetched.instr, &action, now.hart, &facts.finds);
     Seen {
         fetched: *fetched,
-        pc: hart.pcc().addr(),
+        pc: now.hart.pcc().addr(),
         action,
         at,
     }
 }
 
-/// What is seen before a step of the hart with this number: nothing where its fetch traps. The
-/// registers that its instruction reads are registers, which the laws of traps ask.
+/// What is seen before a step of a hart: nothing where its fetch traps. The registers that its
+/// instruction reads are registers, which the laws of traps ask.
 #[tactic(auto)]
-pub fn before_step(
-    program: &[Instr],
-    number: u8,
-    hart: &Hart,
-    ram: &Ram,
-    origins: &OriginTable,
-    facts: &mut StepFacts,
-) -> Option<Seen>
-    requires { IsTableFor origins.now number (length ram.now) }
-    ensures seen { (from : Origins) → Tells origins.now from →
-        IsSeenBefore result facts.new program.now number hart.now ram.now from }
-    ensures registers { ReadsRegisters program.now hart.now }
+pub fn before_step(program: &[Instr], now: Moment<'_>, facts: &mut StepFacts) -> Option<Seen>
+    requires { HasTable now }
+    ensures seen { (from : Origins) → Tells now.entry.origins.now from →
+        IsSeenBefore result facts.new program.now now.entry.number now.entry.hart.now
+        now.entry.ram.now from }
+    ensures registers { ReadsRegisters program.now now.entry.hart.now }
 {
-    match fetched(program, hart.pcc()) {
-        Some(fetched) => Some(seen_before(&fetched, number, hart, ram, origins, facts)),
+    match fetched(program, now.hart.pcc()) {
+        Some(fetched) => Some(seen_before(&fetched, now, facts)),
         None => None,
     }
 }

@@ -6,7 +6,7 @@ use origins::Spot;
 /// Why the result of an instruction has no tag although its source had one, or why a granule lost
 /// its tag (CHERI ISA v9, the instructions' own pages). `source` is c1 and `authority` is c2; of
 /// AUIPCC the source is PCC.
-#[derive(Clone, Copy, Debug, PartialEq, Eq)]
+#[derive(Clone, Copy, PartialEq, Eq)]
 pub enum Why {
     /// The instruction clears the tag.
     AskedFor,
@@ -104,7 +104,7 @@ pub enum Why {
 
 /// Why a step trapped: the check that failed, with the numbers that it compared. `name` is the
 /// register that the trap names.
-#[derive(Clone, Copy, Debug, PartialEq, Eq)]
+#[derive(Clone, Copy, PartialEq, Eq)]
 pub enum TrapWhy {
     /// The register is untagged.
     Untagged {

@@ -29,7 +29,7 @@ ghost use Rattle.facts.specs.SweepLaw.{HaveRegisters, AreTagsLost};
 use crate::fault::SweepFault;
 use cheri_model::{Image, Instr, NoMemory, Op, Outcome};
 use cores::{BootFault, Core, StepFault};
-use facts::{StepFacts, after_step, before_step, flows_of_step, swept_places};
+use facts::{Moment, StepFacts, after_step, before_step, flows_of_step, swept_places};
 use hart::{Hart, View, hart_in};
 use origins::{OriginTable, Place};
 use std::alloc::Global;
@@ -37,7 +37,7 @@ use std::marker::Model;
 use tagged_mem::Ram;
 
 /// A core that is followed: each operation answers its facts. It holds no more than one event's.
-#[derive(Debug, Drop)]
+#[derive(Drop)]
 pub struct Follower {
     core: Core,
     origins: OriginTable,
@@ -104,12 +104,24 @@ fn follow_step(core: &mut Core, origins: &mut OriginTable, number: u8, facts: &m
 {
     let hart = hart_of(core, number);
     let memory = ram_of(core);
-    let seen = before_step(program_of(core), number, hart, memory, origins, facts);
+    let before = Moment {
+        number,
+        hart,
+        ram: memory,
+        origins,
+    };
+    let seen = before_step(program_of(core), before, facts);
     let outcome = stepped(core, number);
     let after = hart_of(core, number);
     let now = ram_of(core);
     origins.follow(number, flows_of_step(&seen, outcome, now));
-    after_step(&seen, number, outcome, after, now, origins, facts);
+    let later = Moment {
+        number,
+        hart: after,
+        ram: now,
+        origins,
+    };
+    after_step(&seen, outcome, later, facts);
 }
 
 /// The places whose tag a sweep clears.

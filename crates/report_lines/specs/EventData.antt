@@ -1,6 +1,6 @@
 -- Events and images in JSON.
 use Rattle.std.specs.Prelude.{ℕ, List, length, codes}
-use Rattle.serde_json.specs.Data.{Data, string, object, Members, no_members, member}
+use Rattle.serde_json.specs.Data.{Data, string, object, Members, no_members, member, put}
 use Rattle.cheri_model.specs.declared.operation.Event.{Event}
 use Rattle.cheri_model.specs.declared.operation.Event.TheVariants as event
 use Rattle.cheri_model.specs.declared.trace.Trap.{Trap}
@@ -25,6 +25,14 @@ trapped_members hart pc trap =
     (member (codes "outcome") (string (codes "trap"))
     (member (codes "pc") pc
     (member (codes "reg") (count trap.reg) no_members))))
+
+-- the members with how a step ended, and of one that trapped the trap
+abbrev pub put_outcome : Outcome → Members → Members
+put_outcome outcome.Done members = put (codes "outcome") (string (codes "done")) members
+put_outcome outcome.Halt members = put (codes "outcome") (string (codes "halt")) members
+put_outcome (outcome.Trap trap) members =
+    put (codes "outcome") (string (codes "trap"))
+    (put (codes "reg") (count trap.reg) (put (codes "cause") (count trap.cause) members))
 
 abbrev pub step_members : Data → Data → Outcome → Members
 step_members hart pc outcome.Done = ended_members hart pc (codes "done")

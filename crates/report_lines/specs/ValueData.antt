@@ -24,6 +24,14 @@ abbrev pub untagged_members : List ℕ → Members
 untagged_members word =
     member (codes "tag") (boolean false) (member (codes "word") (string word) no_members)
 
+-- the members with what a tagged capability is
+abbrev pub put_parts : CapValue → Members → Members
+put_parts v members =
+    put (codes "type") (string (type_text (parts_of v).otype))
+    (put (codes "top") (string (hex_text 17 (parts_of v).top))
+    (put (codes "perms") (string (hex_text 5 (parts_of v).perms))
+    (put (codes "base") (string (hex_text 16 (parts_of v).base)) members)))
+
 -- a value: its tag and word, and where it is tagged what the capability is
 unfoldable pub value_members : CapValue → Members
 value_members v =

@@ -2,76 +2,48 @@
 
 #![tactic(auto, unfolding(crate::proofs::Unfold::events))]
 
-ghost use Rattle.std.specs.Prelude.{◌≡◌, IfOk, string_bytes};
+ghost use Rattle.std.specs.Prelude.{◌≡◌, IfOk, OnOk};
 ghost use Rattle.cheri_model.specs.declared.operation.Event.TheVariants as event;
-ghost use Rattle.serde_json.specs.Data.{string};
 ghost use Rattle.serde_json.specs.View.{members_view, view as data_of};
-ghost use Rattle.report_lines.specs.EventData.{ended_members, event_data, event_members};
-ghost use Rattle.report_lines.specs.EventData.{image_data, trapped_members};
-ghost use Rattle.report_lines.specs.ValueData.{count};
+ghost use Rattle.report_lines.specs.EventData.{event_data, event_members, image_data};
+ghost use Rattle.report_lines.specs.EventData.{put_outcome};
 
 use crate::digits::Hex;
+use crate::members::{put_address, put_count, put_digits, put_text};
 use cheri_model::{Entry, Event, Image, NoMemory, Outcome, Trap};
-use serde_json::{Map, Value, json, put};
+use serde_json::{Map, Value};
 use std::alloc::Global;
-use text_numbers::Hex64;
 
-/// The members of a step without a trap, by the word for how it ended.
-fn ended_members(
+/// Puts how a step ended, and of a trap its cause and register.
+fn put_outcome(
     alloc: Global,
-    hart: u8,
-    pc: String,
-    word: &str,
-) -> Result<Map<String, Value>, NoMemory>
-    ensures { IfOk result (λ m. members_view m.entries
-        ≡ ended_members (count hart) (string (string_bytes pc)) word.now) }
+    members: &mut Map<String, Value>,
+    outcome: Outcome,
+) -> Result<(), NoMemory>
+    ensures { OnOk result (members_view members.new.entries
+        ≡ put_outcome outcome (members_view members.old.entries)) }
 {
-    let mut members = Map::new(alloc);
-    put(&mut members, alloc, "hart", Value::from(hart))?;
-    put(
-        &mut members,
-        alloc,
-        "outcome",
-        Value::try_from_str(alloc, word)?,
-    )?;
-    put(&mut members, alloc, "pc", Value::from(pc))?;
-    Ok(members)
-}
-
-/// The members of a step that trapped.
-fn trapped_members(
-    alloc: Global,
-    hart: u8,
-    pc: String,
-    trap: Trap,
-) -> Result<Map<String, Value>, NoMemory>
-    ensures { IfOk result (λ m. members_view m.entries
-        ≡ trapped_members (count hart) (string (string_bytes pc)) trap) }
-{
-    let mut members = Map::new(alloc);
-    put(&mut members, alloc, "cause", Value::from(trap.cause))?;
-    put(&mut members, alloc, "hart", Value::from(hart))?;
-    put(
-        &mut members,
-        alloc,
-        "outcome",
-        Value::try_from_str(alloc, "trap")?,
-    )?;
-    put(&mut members, alloc, "pc", Value::from(pc))?;
-    put(&mut members, alloc, "reg", Value::from(trap.reg))?;
-    Ok(members)
+    let word = match outcome {
+        Outcome::Done => "done",
+        Outcome::Halt => "halt",
+        Outcome::Trap(Trap { cause, reg }) => {
+            put_count(alloc, members, "cause", u64::from(cause))?;
+            put_count(alloc, members, "reg", u64::from(reg))?;
+            "trap"
+        }
+    };
+    put_text(alloc, members, "outcome", word)
 }
 
 /// The members of a step.
 fn step_members(alloc: Global, entry: &Entry) -> Result<Map<String, Value>, NoMemory>
     ensures { IfOk result (λ m. members_view m.entries ≡ event_members (event.Step entry.now)) }
 {
-    let pc = Hex64(entry.pc).to_string(alloc)?;
-    match entry.outcome {
-        Outcome::Done => ended_members(alloc, entry.hart, pc, "done"),
-        Outcome::Halt => ended_members(alloc, entry.hart, pc, "halt"),
-        Outcome::Trap(trap) => trapped_members(alloc, entry.hart, pc, trap),
-    }
+    let mut members = Map::new(alloc);
+    put_count(alloc, &mut members, "hart", u64::from(entry.hart))?;
+    put_address(alloc, &mut members, "pc", entry.pc)?;
+    put_outcome(alloc, &mut members, entry.outcome)?;
+    Ok(members)
 }
 
 /// The members of a sweep.
@@ -84,18 +56,11 @@ fn sweep_members(
     ensures { IfOk result (λ m. members_view m.entries
         ≡ event_members (event.Sweep cleared lo hi)) }
 {
-    let lo = Hex64(lo).to_string(alloc)?;
-    let hi = Hex::of_top(hi).to_string(alloc)?;
     let mut members = Map::new(alloc);
-    put(&mut members, alloc, "cleared", Value::from(cleared))?;
-    put(&mut members, alloc, "hi", Value::from(hi))?;
-    put(&mut members, alloc, "lo", Value::from(lo))?;
-    put(
-        &mut members,
-        alloc,
-        "outcome",
-        Value::try_from_str(alloc, "sweep")?,
-    )?;
+    put_count(alloc, &mut members, "cleared", u64::from(cleared))?;
+    put_digits(alloc, &mut members, "hi", Hex::of_top(hi))?;
+    put_address(alloc, &mut members, "lo", lo)?;
+    put_text(alloc, &mut members, "outcome", "sweep")?;
     Ok(members)
 }
 
@@ -120,6 +85,9 @@ pub fn event_json(alloc: Global, event: &Event) -> Result<Value, NoMemory>
 pub fn image_json(alloc: Global, image: &Image) -> Result<Value, NoMemory>
     ensures { IfOk result (λ v. data_of v ≡ image_data image.now) }
 {
-    let (code, harts, ram) = (image.program().len(), image.harts().len(), image.ram());
-    json!(in alloc; {"code": code, "harts": harts, "ram": ram})
+    let mut members = Map::new(alloc);
+    put_count(alloc, &mut members, "code", image.program().len() as u64)?;
+    put_count(alloc, &mut members, "harts", image.harts().len() as u64)?;
+    put_count(alloc, &mut members, "ram", u64::from(image.ram()))?;
+    Ok(Value::Object(members))
 }

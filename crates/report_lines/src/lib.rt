@@ -7,6 +7,7 @@ mod event_text;
 mod json_text;
 pub mod laws;
 mod lines;
+mod members;
 mod names;
 mod value_data;
 mod value_text;

@@ -42,7 +42,7 @@ fn registers_json(alloc: Global, hart: &Hart) -> Result<Value, NoMemory>
 }
 
 /// Puts how a hart stands, and of one that trapped the trap.
-fn put_status(
+pub fn put_status(
     alloc: Global,
     members: &mut Map<String, Value>,
     status: Status,

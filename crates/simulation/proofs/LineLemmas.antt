@@ -16,4 +16,4 @@ pub line_stops : (old now new : Option (List ℕ)) (text : List ℕ) → Appends
     TakesPrefix old new (line text)
 line_stops old now new text grown stop = stops_on old now new [] text (10 ∷ []) (puts_all old now [] text text refl refl grown) stop
 
-pub ruleset json_lines = (line_printed, line_begins, line_stops)
+

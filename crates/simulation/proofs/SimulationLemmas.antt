@@ -1,10 +1,12 @@
 -- What two texts mean as a run, and why a run of them is refused.
-use Rattle.std.proofs.Common.{◌≡◌, Bool, true, false, ℕ, ◌+◌, List, refl, sym, ap, subst, ◌∙◌, inl, inr, IsErrAnd, arith}
+use Rattle.std.proofs.Common.{◌≡◌, Bool, true, false, ℕ, ◌+◌, ◌≤◌, List, length, refl, sym, ap, subst, ◌∙◌, inl, inr, IsErrAnd, arith}
+use Rattle.std.proofs.lemmas.Bool.Decides.{nat_tests}
 use Rattle.std.proofs.lemmas.Result.{err_from_is_err_and}
-use Rattle.std.specs.Prelude.{◌↔◌, ◌⊎◌, if◌then◌else◌, Result, Ok, Err, IsOk}
+use Rattle.std.specs.Prelude.{nat_lt, ◌↔◌, ◌⊎◌, if◌then◌else◌, Result, Ok, Err, IsOk}
 use Rattle.listings.specs.declared.fault.ListingFault.{ListingFault}
 use Rattle.listings.specs.Faults.{Gives, no_memory}
-use Rattle.listings.specs.Meaning.{listing_meaning}
+use Rattle.grammar.specs.declared.fault.ListingFaultKind.TheVariants.{Size}
+use Rattle.listings.specs.Meaning.{listing_meaning, listing_limit, whole_fault}
 use Rattle.orders.specs.declared.fault.OrderFault.{OrderFault}
 use Rattle.orders.specs.Orders.{order_of}
 use Rattle.cheri_model.specs.declared.operation.Op.{Op}
@@ -77,6 +79,16 @@ listing_means listing order limit run is = by (listing_meaning listing) refl
         (image : ImageParts) × (listing_meaning listing ≡ Ok image)
     by (Ok image) means = (image, means)
     by (Err fault) means = no fault (sym (ap (λ m. run_meant m (order_of order) limit) means) ∙ is)
+
+by_length : (text : List ℕ) (image : ImageParts) (rest : Result ImageParts ListingFault) (long : Bool) → nat_lt listing_limit (length text) ≡ long
+    → (if long then Err (whole_fault Size) else rest) ≡ Ok image → length text ≤ listing_limit
+by_length text image rest true is meant = absurd (cc)
+by_length text image rest false is meant = grind (arith, nat_tests)
+
+-- a listing that has a meaning is not too long
+pub listing_fits : (text : List ℕ) (image : ImageParts) → listing_meaning text ≡ Ok image → length text ≤ listing_limit
+unfolding listing_meaning
+listing_fits text image meant = by_length text image _ (nat_lt listing_limit (length text)) refl meant
 
 -- what holds of a run holds of what means it
 pub of_run : (meaning : Result Run SimFault) (run : Run) (IsSo : Run → Type 0) → meaning ≡ Ok run → IsConfinedRun run →

@@ -1,22 +1,36 @@
 //! The run of two texts, a listing and an order, to the report of what ran.
 
 ghost use Rattle.std.specs.Prelude.{◌≡◌, ◌+◌, IfOk, IfErr, false};
-ghost use Rattle.std.specs.Io.KnownBytes.{Appends};
-ghost use Rattle.sinks.specs.Sinks.{TakesPrefix};
-ghost use Rattle.simulation.specs.Simulation.{IsRefusedRun, IsRunAnd, run_of_texts, report_of};
-ghost use Rattle.simulation.specs.Simulation.{is_reported, failures_of_run};
+ghost use Rattle.simulation.specs.Simulation.{IsRunUnwritten, IsRunWritten, run_of_texts};
+ghost use Rattle.simulation.specs.Simulation.{core_report, is_reported, failures_of_run, report_of};
 
 use crate::faults::SimFault;
-use crate::runs::run_texts;
-use cores::StepFault;
+use crate::run_text::{RunText, run_and_write};
+use cores::{Core, StepFault};
 use reports::{Sink, write_report};
+use sinks::WriteFault;
 use std::alloc::Global;
 
+/// The report of a run.
+#[derive(Clone, Copy)]
+struct Report;
+
+impl RunText for Report {
+    ghost text = { λ _ _ core. core_report core };
+
+    fn write<S: Sink>(
+        &self,
+        alloc: Global,
+        _listing: &[u8],
+        core: &Core,
+        sink: &mut S,
+    ) -> Result<(), WriteFault> {
+        write_report(alloc, core.view(), sink)
+    }
+}
+
 /// Runs the machine of a listing in an order, with a trace of at most `limit` events, and writes
-/// its report. Answers the operation that was refused, if one was, with its place in the order
-/// counted from 0. Nothing is written before both texts are good; the listing is judged first, then
-/// the order, then the limit, which is from 1 to 100,000. After a fault of the report the sink took
-/// a prefix of it.
+/// its report, as [`run_and_write`](crate::run_and_write) does any text of a run.
 pub fn simulate<S: Sink>(
     alloc: Global,
     listing: &[u8],
@@ -24,17 +38,13 @@ pub fn simulate<S: Sink>(
     limit: u32,
     out: &mut S,
 ) -> Result<Option<(usize, StepFault)>, SimFault>
-    ensures shown { IfOk result (λ end.
-        IsRunAnd (run_of_texts listing.now order.now limit) (λ run. (run.1 ≡ end)
-        × Appends (S.written out.old) (S.written out.new) (report_of run))) }
-    ensures refused { IfErr result (λ fault.
-        IsRefusedRun (run_of_texts listing.now order.now limit)
-        (λ run. TakesPrefix (S.written out.old) (S.written out.new) (report_of run)) fault) }
+    ensures shown { IfOk result (IsRunWritten (run_of_texts listing.now order.now limit)
+        report_of (S.written out.old) (S.written out.new)) }
+    ensures refused { IfErr result (IsRunUnwritten (run_of_texts listing.now order.now limit)
+        report_of (S.written out.old) (S.written out.new)) }
     ensures untouched { IfErr result (λ fault. is_reported fault ≡ false → out.new ≡ out.old) }
     ensures failures { S.failures out.new ≡ S.failures out.old + failures_of_run result }
     ensures identity { S.identity out.new ≡ S.identity out.old }
 {
-    let (core, refused) = run_texts(alloc, listing, order, limit)?;
-    write_report(alloc, core.view(), out)?;
-    Ok(refused)
+    run_and_write(alloc, listing, order, limit, &Report, out)
 }

@@ -293,7 +293,7 @@ fn clears(
     let cleared = cleared_by(rt, alloc, instr, first, second)?;
     assert!(rt;
         cleared == Some(Cleared { name, why }),
-        "{instr:?}: {why:?}"
+        "{instr:?}"
     );
     Ok(())
 }
@@ -319,7 +319,7 @@ fn lost_tags_have_their_reasons(rt: HostRuntime) -> Result<(), Fail> {
         let cleared = cleared_by(&rt, rt.alloc(), instr, first, Given::Int(7))?;
         assert!(rt;
             cleared == Some(Cleared { name, why }),
-            "{instr:?}: {why:?}"
+            "{instr:?}"
         );
     }
     Ok(())

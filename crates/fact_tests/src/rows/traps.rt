@@ -129,15 +129,15 @@ fn traps_have_their_reasons(rt: HostRuntime) -> Result<(), Fail> {
     let (cd, c1, c2) = operands();
     for (imm, first, trapped) in loads() {
         let traps = trapped_by(&rt, rt.alloc(), Instr::Ld { cd, c1, imm }, first, K)?;
-        assert!(rt; traps == Some(trapped), "{trapped:?}");
+        assert!(rt; traps == Some(trapped), "{imm}");
     }
     for (instr, first, second, trapped) in stores() {
         let traps = trapped_by(&rt, rt.alloc(), instr, first, second)?;
-        assert!(rt; traps == Some(trapped), "{trapped:?}");
+        assert!(rt; traps == Some(trapped), "{instr:?}");
     }
     for (first, second, trapped) in invokes() {
         let traps = trapped_by(&rt, rt.alloc(), Instr::CInvoke { c1, c2 }, first, second)?;
-        assert!(rt; traps == Some(trapped), "{trapped:?}");
+        assert!(rt; traps == Some(trapped));
     }
     Ok(())
 }

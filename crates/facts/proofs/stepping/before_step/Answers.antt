@@ -15,13 +15,13 @@ returns-in-Some-clause-seen c from tells = (
 
 pub returns-in-Some-clause-registers : goal.returns-in-Some-clause-registers
 returns-in-Some-clause-registers c f is =
-    let given : fetched_of c.args.program.now c.args.hart.now.pcc ≡ Some c.in-Some.fetched =
+    let given : fetched_of c.args.program.now c.args.now.hart.now.pcc ≡ Some c.in-Some.fetched =
     ap (λ pcc. fetched_of c.args.program.now pcc) (sym c.pcc.ensures.value) ∙ sym c.fetched.ensures ∙ c.in-Some.is in
     let same : c.in-Some.fetched ≡ f = cc in
     subst (λ g. EachIs (IsSpot 0) (reads_of (form_of g.instr))) same c.seen_before.ensures.registers
 
 pub returns-in-None-clause-registers : goal.returns-in-None-clause-registers
 returns-in-None-clause-registers c f is =
-    let none : fetched_of c.args.program.now c.args.hart.now.pcc ≡ None =
+    let none : fetched_of c.args.program.now c.args.now.hart.now.pcc ≡ None =
     ap (λ pcc. fetched_of c.args.program.now pcc) (sym c.pcc.ensures.value) ∙ sym c.fetched.ensures ∙ c.in-None.is in
     absurd (cc)

@@ -6,7 +6,7 @@ use Rattle.facts.specs.Names.{EachIs, reads_of}
 use Rattle.facts.proofs.stepping.seen_before.Goals as goal
 
 pub each_named-facts-requires-clause-spots : goal.each_named-facts-requires-clause-spots
-each_named-facts-requires-clause-spots c = c.reads_of.ensures.spots (length c.args.ram.now)
+each_named-facts-requires-clause-spots c = c.reads_of.ensures.spots (length c.args.now.ram.now)
 
 pub returns-clause-registers : goal.returns-clause-registers
 returns-clause-registers c =

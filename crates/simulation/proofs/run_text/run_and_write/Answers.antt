@@ -2,8 +2,8 @@
 use Rattle.std.proofs.Common.{refl, arith}
 use Rattle.std.proofs.lemmas.Result.{MatchResult-from_err, err_from_is_err_and}
 use Rattle.cores.specs.Runs.{Run}
-use Rattle.simulation.proofs.SimulationLemmas.{of_run, failures_are, none_fails, unrun_says}
-use Rattle.simulation.proofs.simulation.simulate.Goals as goal
+use Rattle.simulation.proofs.SimulationLemmas.{of_run, failures_are, none_fails, unrun_says, listing_means, listing_fits}
+use Rattle.simulation.proofs.run_text.run_and_write.Goals as goal
 
 pub returns-in_err-core-clause-refused : goal.returns-in_err-core-clause-refused
 returns-in_err-core-clause-refused g c =
@@ -16,22 +16,25 @@ returns-in_err-core-clause-untouched g c = MatchResult-from_err _ _ _ c.from_res
 pub returns-in_err-core-clause-failures : goal.returns-in_err-core-clause-failures
 returns-in_err-core-clause-failures g c = none_fails _ _ _ _ c.from_residual.ensures.1 c.in_err-core.ensures.refused
 
-pub returns-in_err-write_report-clause-failures : goal.returns-in_err-write_report-clause-failures
-returns-in_err-write_report-clause-failures g c =
-    omega (arith, c.in_err-write_report.ensures.failures, failures_are _ _ c.from_residual-in_err-write_report.ensures.1)
+pub write-requires : goal.write-requires
+write-requires g c =
+    let means = listing_means _ _ _ _ c.in_ok-core.ensures.run in
+    listing_fits _ means.0 means.1
+
+pub returns-in_err-write-clause-failures : goal.returns-in_err-write-clause-failures
+returns-in_err-write-clause-failures g c =
+    omega (arith, c.in_err-write.ensures.failures, failures_are _ _ c.from_residual-in_err-write.ensures.1)
 
 pub returns-clause-failures : goal.returns-clause-failures
-returns-clause-failures g c = c.in_ok-write_report.ensures.failures
+returns-clause-failures g c = c.in_ok-write.ensures.failures
 
-pub returns-in_err-write_report-clause-refused : goal.returns-in_err-write_report-clause-refused
-returns-in_err-write_report-clause-refused g c =
-    let p = err_from_is_err_and c.from_residual-in_err-write_report.result c.from_residual-in_err-write_report.ensures.1 in
+pub returns-in_err-write-clause-refused : goal.returns-in_err-write-clause-refused
+returns-in_err-write-clause-refused g c =
+    let p = err_from_is_err_and c.from_residual-in_err-write.result c.from_residual-in_err-write.ensures.1 in
     let run : Run = (c.in_ok-core.core, c.in_ok-core.refused) in
-    let begun = rw (c.view.ensures.image, c.view.ensures.entries, c.view.ensures.state) at c.write_report.ensures.prefix in
-    rw (p.1, p.2) (of_run _ run _ c.in_ok-core.ensures.run c.in_ok-core.ensures.confined begun)
+    rw (p.1, p.2) (of_run _ run _ c.in_ok-core.ensures.run c.in_ok-core.ensures.confined c.write.ensures.prefix)
 
 pub returns-clause-shown : goal.returns-clause-shown
 returns-clause-shown g c =
     let run : Run = (c.in_ok-core.core, c.in_ok-core.refused) in
-    let whole = rw (c.view.ensures.image, c.view.ensures.entries, c.view.ensures.state) at c.in_ok-write_report.ensures.whole in
-    of_run _ run _ c.in_ok-core.ensures.run c.in_ok-core.ensures.confined (refl, whole)
+    of_run _ run _ c.in_ok-core.ensures.run c.in_ok-core.ensures.confined (refl, c.in_ok-write.ensures.whole)
