@@ -2,6 +2,9 @@
 //! with the one before it.
 #![tactic(auto)]
 
+pub mod laws;
 mod sights;
+mod watches;
 
 pub use sights::Sight;
+pub use watches::{Watch, Watches};

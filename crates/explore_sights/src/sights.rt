@@ -3,6 +3,7 @@
 ghost use Rattle.std.specs.Prelude.{◌≡◌, IfOk};
 ghost use Rattle.explore_sights.specs.Sights.{hides};
 
+use crate::watches::Watches;
 use conditions::Condition;
 use explore_rights::keeps_rights;
 use hart::Hart;
@@ -18,6 +19,8 @@ pub enum Sight {
     /// A step that takes from a hart what the condition says of it, as a question on states in which
     /// the condition holds.
     Condition(Condition),
+    /// A step that may end that a state is one of those that some question asks for.
+    Watches(Watches),
     /// A step after which a right that the hart held lies within none that it holds, as a question
     /// on authority.
     Rights,
@@ -33,6 +36,7 @@ impl Sight {
             Sight::EveryStep => false,
             Sight::NoStep => true,
             Sight::Condition(condition) => condition.hides(before, after),
+            Sight::Watches(watches) => watches.hides(before, after),
             Sight::Rights => keeps_rights(before, after),
         }
     }
@@ -45,6 +49,7 @@ impl Sight {
             Sight::EveryStep => Ok(Sight::EveryStep),
             Sight::NoStep => Ok(Sight::NoStep),
             Sight::Condition(condition) => Ok(Sight::Condition(condition.copy(alloc)?)),
+            Sight::Watches(watches) => Ok(Sight::Watches(watches.copy(alloc)?)),
             Sight::Rights => Ok(Sight::Rights),
         }
     }

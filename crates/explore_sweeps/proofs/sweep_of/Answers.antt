@@ -2,12 +2,12 @@ use Rattle.std.proofs.Common.{rules, ◌≡◌, ◌∙◌, ◌+◌, None, Some, 
 use Rattle.std.specs.List.{position}
 use Rattle.text_numbers.specs.Numerals.{number_of}
 use Rattle.text_numbers.proofs.NumeralLemmas.{kept_of}
-use Rattle.explore_line.proofs.SweepLemmas.{is_comma, no_high, swept}
-use Rattle.explore_line.proofs.sweeps.sweep_written.Goals as goal
+use Rattle.explore_sweeps.proofs.SweepLemmas.{is_comma, no_high, swept}
+use Rattle.explore_sweeps.proofs.sweep_of.Goals as goal
 
 pub returns-in_err-hi : goal.returns-in_err-hi
 returns-in_err-hi c =
-    let arg = c.args.arg.now in
+    let arg = c.args.text.now in
     let comma = c.in_ok-comma.comma in
     let none : c.from_residual-in_err-hi.result ≡ None = search rules in
     let at : Some comma ≡ position is_comma arg = search rules in
@@ -17,7 +17,7 @@ returns-in_err-hi c =
 
 pub returns : goal.returns
 returns c =
-    let arg = c.args.arg.now in
+    let arg = c.args.text.now in
     let comma = c.in_ok-comma.comma in
     let at : Some comma ≡ position is_comma arg = search rules in
     let low : Some c.in_ok-lo.lo ≡ kept_of (number_of (take comma arg)) = search rules in

@@ -1,0 +1,4 @@
+pub mod Unfold
+pub mod LineLemmas
+pub mod AsciiLemmas
+pub mod ReadingLemmas
