@@ -7,4 +7,4 @@ mod placement;
 
 pub use chunk::{Chunk, ChunkKind};
 pub use layout::{Layout, lay_out, memory_size};
-pub use placement::padding;
+pub use placement::{next_multiple, padding};

@@ -23,7 +23,7 @@ pub fn padding(addr: u64, unit: u64) -> u64
 }
 
 /// The next multiple of a unit, modulo 2^64.
-fn next_multiple(addr: u64, unit: u64) -> u64
+pub fn next_multiple(addr: u64, unit: u64) -> u64
     requires { 0 < unit }
     ensures { result ≡ next_multiple addr unit }
 {
