@@ -1,7 +1,7 @@
 //! What is put into the chunk that a file goes on in.
 #![tactic(auto, unfolding(crate::proofs::Unfold::growth))]
 
-ghost use Rattle.std.specs.Prelude.{◌≡◌, ◌<◌, IfOk};
+ghost use Rattle.std.specs.Prelude.{◌≡◌, ◌*◌};
 ghost use Rattle.asm_chunks.specs.Chunks.{Fills, chunks_parts};
 ghost use Rattle.asm_chunks.specs.Growth.{
   Pads,
@@ -44,14 +44,15 @@ fn padding_of(chunk: Chunk, unit: u32, most: Option<u32>) -> u32
 }
 
 impl Chunks {
-    /// Puts so many bytes into the chunk that the file goes on in. Fails with `Size` where it would
-    /// have too many, and then it has what it had.
-    pub fn grow(&mut self, count: u32) -> Result<(), ChunkFault>
-        ensures { Fills result (chunks_parts self.new) (grown (chunks_parts self.old) count) }
+    /// Puts so many items of a width in bytes into the chunk that the file goes on in. Fails with
+    /// `Size` where it would have too many bytes, and then it has what it had.
+    pub fn grow(&mut self, width: u32, count: usize) -> Result<(), ChunkFault>
+        ensures { Fills result (chunks_parts self.new)
+            (grown (chunks_parts self.old) (width * count)) }
     {
         let mut here = self.here();
-        let size = u64::from(here.size) + u64::from(count);
-        if size > u64::from(limit_of(here.kind)) {
+        let size = u128::from(here.size) + u128::from(width) * count as u128;
+        if size > u128::from(limit_of(here.kind)) {
             return Err(ChunkFault::Size);
         }
         here.size = size as u32;
@@ -75,7 +76,7 @@ impl Chunks {
     {
         let pad = padding_of(self.here(), unit, most);
         self.raise(unit);
-        self.grow(pad)?;
+        self.grow(pad, 1)?;
         Ok(pad)
     }
 }
