@@ -1,0 +1,2 @@
+-- The text of the map of an assembled program.
+pub mod Maps

@@ -1,0 +1,3 @@
+pub mod Unfold
+pub mod WordLemmas
+pub mod Rulesets

@@ -1,0 +1,7 @@
+-- Requests: which harts a program is given, and how much memory.
+pub mod Words
+pub mod Parts
+pub mod Numbers
+pub mod Values
+pub mod Settings
+pub mod Requests
