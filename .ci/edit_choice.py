@@ -7,7 +7,8 @@ import sys
 from dataclasses import dataclass
 
 ROOT = os.getcwd()
-SLICES = 8
+# One for each first digit of a commit's hash.
+SLICES = 16
 
 
 @dataclass
