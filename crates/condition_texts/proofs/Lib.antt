@@ -6,3 +6,4 @@ pub mod PlaceLemmas
 pub mod ReadingLemmas
 pub mod StartLemmas
 pub mod WordLemmas
+pub mod ChainLemmas

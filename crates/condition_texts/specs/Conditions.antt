@@ -24,7 +24,8 @@ use Rattle.condition_texts.specs.declared.words.WordFault.TheVariants.{At}
 use Rattle.condition_texts.specs.declared.words.WordFault.TheVariants as word_fault
 use Rattle.condition_texts.specs.Words.{word_start, condition_words}
 use Rattle.conditions.specs.Formulas.{Formula, says, deny, enclosed, join, counted, nodes_of}
-use Rattle.condition_texts.specs.Reading.{Context, is_at, only, says_at, opening_of, said_of, compared}
+use Rattle.condition_texts.specs.Reading.{Context, is_at, only, says_at, opening_of, said_of}
+use Rattle.condition_texts.specs.Reading.{compared}
 use Rattle.condition_texts.specs.Reading.{asked_of_count, is_plural, noun_of, asked_of}
 
 abbrev pub Reader : Type 0

@@ -1,5 +1,5 @@
 -- Lists of items: 1 to 16 of them, separated by commas (this project's own format).
-use Rattle.std.specs.Prelude.{◌≡◌, ℕ, ◌+◌, nat_lt, if◌then◌else◌, List, [], ◌∷◌, map, Option}
+use Rattle.std.specs.Prelude.{◌≡◌, ℕ, ◌+◌, nat_lt, if◌then◌else◌, List, [], ◌∷◌, Option}
 use Rattle.std.specs.Prelude.{None, Result, Ok, Err, ok_or}
 use Rattle.cheri_model.specs.runs.Image.{ImageParts}
 use Rattle.grammar.specs.Faults.{◌>>=◌}

@@ -7,3 +7,4 @@ pub mod Reading
 pub mod Conditions
 pub mod Shown
 pub mod Items
+pub mod Chains

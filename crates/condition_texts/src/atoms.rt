@@ -2,7 +2,12 @@
 #![tactic(auto, unfolding(crate::proofs::Unfold::atoms))]
 
 ghost use Rattle.std.specs.Prelude.{◌≡◌};
-ghost use Rattle.condition_texts.specs.Atoms.{comparison_of, status_of, address_in_word, permissions_in};
+ghost use Rattle.condition_texts.specs.Atoms.{
+  comparison_of,
+  status_of,
+  address_in_word,
+  permissions_in,
+};
 
 use crate::places::number_in;
 use cheri_model::Perms;

@@ -1,5 +1,5 @@
-//! Reading conditions, and the items by which outcomes are shown: what their texts mean for an image
-//! and the labels of its listing.
+//! Reading conditions, and the items by which outcomes are shown: what their texts mean for an
+//! image and the labels of its listing.
 #![tactic(auto)]
 
 mod atoms;

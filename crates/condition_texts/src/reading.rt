@@ -14,7 +14,12 @@ ghost use Rattle.std.specs.Prelude.{
   slice_get,
 };
 ghost use Rattle.condition_texts.specs.Places.{number_in};
-ghost use Rattle.condition_texts.specs.Atoms.{comparison_of, status_of, address_in_word, permissions_in};
+ghost use Rattle.condition_texts.specs.Atoms.{
+  comparison_of,
+  status_of,
+  address_in_word,
+  permissions_in,
+};
 ghost use Rattle.condition_texts.specs.Terms.{target_in, range_in, term_of};
 ghost use Rattle.condition_texts.specs.Reading.{
   asked_of_count,

@@ -1,5 +1,5 @@
-//! The nodes of a condition as they are kept: each with the hart that the part speaks of alone which
-//! ends with it, so that this is worked out once.
+//! The nodes of a condition as they are kept: each with the hart that the part speaks of alone
+//! which ends with it, so that this is worked out once.
 #![tactic(auto, unfolding(crate::proofs::Unfold::entries))]
 
 ghost use Rattle.std.specs.Prelude.{◌≡◌, IfOk};

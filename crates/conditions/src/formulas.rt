@@ -33,7 +33,8 @@ fn two_parts(joint: Joint, entries: &[Entry], second: usize) -> Option<Parts<'_>
 
 /// The parts of the condition that has these entries; none where they are no condition's.
 pub(crate) fn parts_of(entries: &[Entry]) -> Option<Parts<'_>>
-    ensures parted { (formula : Formula) → entries.now ≡ entries_of formula → IsParted formula result }
+    ensures parted { (formula : Formula) → entries.now ≡ entries_of formula →
+        IsParted formula result }
     ensures shorter { IfSome result (λ parts. AreShorter parts (length entries.now)) }
 {
     let [before @ .., last] = entries else {

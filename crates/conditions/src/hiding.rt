@@ -142,7 +142,8 @@ fn part_so(joint: Joint, who: Subject, hart: &Hart, entries: &[Entry]) -> bool
 
 /// How the last two parts of a condition are joined, and these, if they are.
 fn joined_parts(entries: &[Entry]) -> Option<(Joint, &[Entry], &[Entry])>
-    ensures joined { (formula : Formula) → entries.now ≡ entries_of formula → IsJoined formula result }
+    ensures joined { (formula : Formula) → entries.now ≡ entries_of formula →
+        IsJoined formula result }
     ensures shorter { IfSome result (λ parts. (length parts.1.now < length entries.now)
         × (length parts.2.now < length entries.now)) }
 {
@@ -245,8 +246,8 @@ impl Step<'_> {
         }
     }
 
-    /// Whether the parts of one hart are, together, after the step as they are wanted, where this is
-    /// so of the harts that were looked at.
+    /// Whether the parts of one hart are, together, after the step as they are wanted, where this
+    /// is so of the harts that were looked at.
     fn keeps_unit(&self, around: Around<'_>, who: Subject, seen: &mut Seen) -> bool
         ensures keeps { (whole : Formula) → IsWhole around.entry whole →
             AllKeep around.entry whole self.now.before.now self.now.after.now seen.old →
