@@ -1,7 +1,7 @@
 //! Which texts are conditions and lists of items, and where the others are at fault.
 
 use cheri_model::Image;
-use conditions::{TextFault, read_condition, read_items};
+use condition_texts::{TextFault, read_condition, read_items};
 use grammar::labels::{Labels, labels_of};
 use listings::read_listing;
 use std::alloc::Global;

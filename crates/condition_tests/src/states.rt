@@ -4,7 +4,8 @@
 use bitflags::Flags;
 use cap_ops::Cap;
 use cheri_model::{Image, Perms, RAM_BASE, Reg, Status, Trap};
-use conditions::{StateView, read_condition};
+use condition_texts::read_condition;
+use conditions::StateView;
 use grammar::labels::{Labels, labels_of};
 use hart::Hart;
 use listings::read_listing;

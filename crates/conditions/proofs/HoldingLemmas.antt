@@ -12,9 +12,10 @@ use Rattle.conditions.specs.declared.parts.Atom.{Atom}
 use Rattle.conditions.specs.declared.parts.Comparison.{Comparison}
 use Rattle.conditions.specs.declared.parts.Joint.{Joint}
 use Rattle.conditions.specs.declared.parts.Joint.TheVariants.{And, Or}
-use Rattle.conditions.specs.declared.parts.Node.{Node}
+use Rattle.conditions.specs.declared.entries.Entry.{Entry}
 use Rattle.conditions.specs.declared.formulas.Parts.TheVariants as parts
-use Rattle.conditions.specs.Formulas.{Formula, nodes_of}
+use Rattle.conditions.specs.Formulas.{Formula}
+use Rattle.conditions.specs.Entries.{entries_of}
 use Rattle.conditions.specs.Holding.{joined, decides, how_many, is_so}
 use Rattle.conditions.specs.Parts.{IsParted}
 use Rattle.conditions.specs.Values.{compares, atom_holds, grants, registers_grant}
@@ -69,35 +70,35 @@ other_decides Or true false is = refl
 other_decides Or false false is = refl
 
 module _ (state : MachineState) (each : ℕ) (formula : Formula) where
-  pub so_said : (a : Atom) (answer : Bool) → IsParted formula (Some (parts.Says a)) → answer ≡ atom_holds state each a → answer ≡ is_so state each formula
+  pub so_said : (a : Bor Atom) (answer : Bool) → IsParted formula (Some (parts.Says a)) → answer ≡ atom_holds state each a.now → answer ≡ is_so state each formula
   unfolding is_so
   so_said a answer is holds = holds ∙ ap (is_so state each) (sym (is_said formula a is))
 
-  pub so_denied : (p : Bor (List Node)) (answer : Bool) → IsParted formula (Some (parts.Not p))
-      → ((f : Formula) → p.now ≡ nodes_of f → answer ≡ is_so state each f) → not answer ≡ is_so state each formula
+  pub so_denied : (p : Bor (List Entry)) (answer : Bool) → IsParted formula (Some (parts.Not p))
+      → ((f : Formula) → p.now ≡ entries_of f → answer ≡ is_so state each f) → not answer ≡ is_so state each formula
   unfolding is_so
   so_denied p answer is holds =
       let of = is_denied formula p is in
       ap not (holds of.0 of.2) ∙ ap (is_so state each) (sym of.1)
 
-  pub so_enclosed : (p : Bor (List Node)) (answer : Bool) → IsParted formula (Some (parts.Enclosed p))
-      → ((f : Formula) → p.now ≡ nodes_of f → answer ≡ is_so state each f) → answer ≡ is_so state each formula
+  pub so_enclosed : (p : Bor (List Entry)) (answer : Bool) → IsParted formula (Some (parts.Enclosed p))
+      → ((f : Formula) → p.now ≡ entries_of f → answer ≡ is_so state each f) → answer ≡ is_so state each formula
   unfolding is_so
   so_enclosed p answer is holds =
       let of = is_enclosed formula p is in
       holds of.0 of.2 ∙ ap (is_so state each) (sym of.1)
 
-  pub so_decided : (joint : Joint) (p q : Bor (List Node)) (answer : Bool) → IsParted formula (Some (parts.Joined joint p q))
-      → ((f : Formula) → q.now ≡ nodes_of f → answer ≡ is_so state each f) → decides joint answer ≡ true → answer ≡ is_so state each formula
+  pub so_decided : (joint : Joint) (p q : Bor (List Entry)) (answer : Bool) → IsParted formula (Some (parts.Joined joint p q))
+      → ((f : Formula) → q.now ≡ entries_of f → answer ≡ is_so state each f) → decides joint answer ≡ true → answer ≡ is_so state each formula
   unfolding is_so
   so_decided joint p q answer is holds decided =
       let of = is_joined formula joint p q is in
       first_decides joint (is_so state each of.0) answer decided
       ∙ ap (λ b. joined joint (is_so state each of.0) b) (holds of.1 of.4) ∙ ap (is_so state each) (sym of.2)
 
-  pub so_joined : (joint : Joint) (p q : Bor (List Node)) (first answer : Bool) → IsParted formula (Some (parts.Joined joint p q))
-      → ((f : Formula) → q.now ≡ nodes_of f → answer ≡ is_so state each f) → decides joint answer ≡ false
-      → ((f : Formula) → p.now ≡ nodes_of f → first ≡ is_so state each f) → first ≡ is_so state each formula
+  pub so_joined : (joint : Joint) (p q : Bor (List Entry)) (first answer : Bool) → IsParted formula (Some (parts.Joined joint p q))
+      → ((f : Formula) → q.now ≡ entries_of f → answer ≡ is_so state each f) → decides joint answer ≡ false
+      → ((f : Formula) → p.now ≡ entries_of f → first ≡ is_so state each f) → first ≡ is_so state each formula
   unfolding is_so
   so_joined joint p q first answer is holds undecided first_holds =
       let of = is_joined formula joint p q is in
@@ -105,8 +106,8 @@ module _ (state : MachineState) (each : ℕ) (formula : Formula) where
       ∙ other_decides joint (is_so state each of.0) answer undecided
       ∙ ap (λ b. joined joint (is_so state each of.0) b) (holds of.1 of.4) ∙ ap (is_so state each) (sym of.2)
 
-  pub so_counted : (p : Bor (List Node)) (comparison : Comparison) (number many : ℕ) (answer : Bool) → IsParted formula (Some (parts.Counted p comparison number))
-      → ((f : Formula) → p.now ≡ nodes_of f → many ≡ how_many (λ hart. is_so state hart f) (length state.harts))
+  pub so_counted : (p : Bor (List Entry)) (comparison : Comparison) (number many : ℕ) (answer : Bool) → IsParted formula (Some (parts.Counted p comparison number))
+      → ((f : Formula) → p.now ≡ entries_of f → many ≡ how_many (λ hart. is_so state hart f) (length state.harts))
       → answer ≡ compares comparison many number → answer ≡ is_so state each formula
   unfolding is_so
   so_counted p comparison number many answer is holds so =

@@ -1,15 +1,8 @@
-pub mod Words
-pub mod WordPairs
-pub mod Places
-pub mod Atoms
-pub mod Terms
-pub mod Reading
 pub mod Formulas
-pub mod Parts
-pub mod Conditions
-pub mod Shown
 pub mod Items
 pub mod Values
 pub mod Holding
 pub mod Hiding
+pub mod Entries
+pub mod Parts
 pub mod Units

@@ -2,9 +2,7 @@
 #![tactic(auto, unfolding(crate::proofs::Unfold::alone))]
 
 ghost use Rattle.std.specs.Prelude.{◌≡◌};
-ghost use Rattle.conditions.specs.Formulas.{Formula, nodes_of};
 ghost use Rattle.conditions.specs.Hiding.{
-  alone,
   alone_atom,
   alone_both,
   alone_holder,
@@ -14,8 +12,7 @@ ghost use Rattle.conditions.specs.Hiding.{
   is_same,
 };
 
-use crate::formulas::{Parts, parts_of};
-use crate::parts::{Atom, Holder, Node, Source, Subject, Term};
+use crate::parts::{Atom, Holder, Source, Subject, Term};
 
 impl Subject {
     /// Whether this is the same.
@@ -41,7 +38,7 @@ impl Subject {
 }
 
 /// The hart that two parts speak of alone.
-fn alone_both(first: Option<Subject>, second: Option<Subject>) -> Option<Subject>
+pub(crate) fn alone_both(first: Option<Subject>, second: Option<Subject>) -> Option<Subject>
     ensures { result ≡ alone_both first second }
 {
     match first {
@@ -89,7 +86,7 @@ impl Term {
 
 impl Atom {
     /// The hart that it speaks of alone.
-    fn alone(self) -> Option<Subject>
+    pub(crate) fn alone(self) -> Option<Subject>
         ensures { result ≡ alone_atom self }
     {
         match self {
@@ -99,19 +96,5 @@ impl Atom {
             | Atom::IsAt(who, _)
             | Atom::IsIn(who, _, _) => Some(who),
         }
-    }
-}
-
-/// The hart that the condition of some nodes speaks of alone.
-pub(crate) fn alone(nodes: &[Node]) -> Option<Subject>
-    ensures { (formula : Formula) → nodes.now ≡ nodes_of formula → result ≡ alone formula }
-{
-    match parts_of(nodes) {
-        Some(Parts::Says(atom)) => atom.alone(),
-        Some(Parts::Not(part)) => alone(part),
-        Some(Parts::Enclosed(part)) => alone(part),
-        Some(Parts::Joined(_, first, second)) => alone_both(alone(first), alone(second)),
-        Some(Parts::Counted(_, _, _)) => None,
-        None => None,
     }
 }

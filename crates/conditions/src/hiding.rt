@@ -1,15 +1,14 @@
 //! What a condition doesn't see of a hart's steps.
 #![tactic(auto, unfolding(crate::proofs::Unfold::hiding))]
 
-ghost use Rattle.std.specs.Prelude.{◌≡◌, ◌<◌, ◌&&◌, ◌||◌, not, IfSome, length, None};
+ghost use Rattle.std.specs.Prelude.{◌≡◌, ◌<◌, ◌&&◌, ◌||◌, not, true, IfSome, length, None};
 ghost use Rattle.conditions.specs.Parts.{IsJoined};
-ghost use Rattle.conditions.specs.Formulas.{Formula, nodes_of, formula_of};
+ghost use Rattle.conditions.specs.Formulas.{Formula, formula_of};
+ghost use Rattle.conditions.specs.Entries.{entries_of};
 ghost use Rattle.conditions.specs.Hiding.{
-  Chain,
   all_alike,
   alone,
   atom_keeps,
-  chain_of,
   copies,
   hides,
   is_joint,
@@ -17,20 +16,21 @@ ghost use Rattle.conditions.specs.Hiding.{
   neutral,
   part_so,
   parts_so,
+  single,
   so_of,
   source_moves,
   stays_so,
   term_moves,
-  unit_so,
 };
-ghost use Rattle.conditions.specs.Units.{IsAround};
+ghost use Rattle.conditions.specs.Units.{AllKeep, IsWhole, part_keeps, unit_keeps};
 ghost use Rattle.conditions.specs.Values.{source_number};
 
-use crate::alone::alone;
 use crate::conditions::Condition;
+use crate::entries::{Entry, alone};
 use crate::formulas::{Parts, parts_of};
 use crate::holding::is_so;
-use crate::parts::{Atom, Joint, Node, Source, Subject, Term};
+use crate::parts::{Atom, Joint, Source, Subject, Term};
+use crate::seen::Seen;
 use crate::view::StateView;
 use crate::ways::Way;
 use cap_ops::Cap;
@@ -85,13 +85,13 @@ impl StateView for Copies<'_> {
     }
 }
 
-/// Whether the condition of some nodes, which speaks of one hart alone, holds of it.
-fn so_of(who: Subject, hart: &Hart, nodes: &[Node]) -> bool
-    ensures { (formula : Formula) → nodes.now ≡ nodes_of formula → result
+/// Whether the condition of some entries, which speaks of one hart alone, holds of it.
+fn so_of(who: Subject, hart: &Hart, entries: &[Entry]) -> bool
+    ensures { (formula : Formula) → entries.now ≡ entries_of formula → result
         ≡ so_of who hart.now formula }
 {
     let copies = Copies::of(who, hart);
-    is_so(&copies, 0, nodes)
+    is_so(&copies, 0, entries)
 }
 
 /// The number that is read of a hart.
@@ -129,24 +129,25 @@ impl Joint {
 }
 
 /// Whether a part holds of a hart, if it is of this one alone; else it doesn't count.
-fn part_so(joint: Joint, who: Subject, hart: &Hart, nodes: &[Node]) -> bool
-    ensures { (formula : Formula) → nodes.now ≡ nodes_of formula → result
+fn part_so(joint: Joint, who: Subject, hart: &Hart, entries: &[Entry]) -> bool
+    ensures { (formula : Formula) → entries.now ≡ entries_of formula → result
         ≡ part_so joint who hart.now formula }
 {
-    if who.is_of(alone(nodes)) {
-        so_of(who, hart, nodes)
+    if who.is_of(alone(entries)) {
+        so_of(who, hart, entries)
     } else {
         joint.neutral()
     }
 }
 
 /// How the last two parts of a condition are joined, and these, if they are.
-fn joined_parts(nodes: &[Node]) -> Option<(Joint, &[Node], &[Node])>
-    ensures joined { (formula : Formula) → nodes.now ≡ nodes_of formula → IsJoined formula result }
-    ensures shorter { IfSome result (λ parts. (length parts.1.now < length nodes.now)
-        × (length parts.2.now < length nodes.now)) }
+fn joined_parts(entries: &[Entry]) -> Option<(Joint, &[Entry], &[Entry])>
+    ensures joined { (formula : Formula) → entries.now ≡ entries_of formula →
+        IsJoined formula result }
+    ensures shorter { IfSome result (λ parts. (length parts.1.now < length entries.now)
+        × (length parts.2.now < length entries.now)) }
 {
-    match parts_of(nodes) {
+    match parts_of(entries) {
         Some(Parts::Joined(joint, first, second)) => Some((joint, first, second)),
         Some(Parts::Says(_)) => None,
         Some(Parts::Not(_)) => None,
@@ -157,15 +158,15 @@ fn joined_parts(nodes: &[Node]) -> Option<(Joint, &[Node], &[Node])>
 }
 
 /// Whether the parts of one hart, which are joined so, hold of it together.
-fn parts_so(joint: Joint, who: Subject, hart: &Hart, nodes: &[Node]) -> bool
-    ensures { (formula : Formula) → nodes.now ≡ nodes_of formula → result
+fn parts_so(joint: Joint, who: Subject, hart: &Hart, entries: &[Entry]) -> bool
+    ensures { (formula : Formula) → entries.now ≡ entries_of formula → result
         ≡ parts_so joint who hart.now formula }
 {
-    let Some((other, first, second)) = joined_parts(nodes) else {
-        return part_so(joint, who, hart, nodes);
+    let Some((other, first, second)) = joined_parts(entries) else {
+        return part_so(joint, who, hart, entries);
     };
     if !joint.is_joint(other) {
-        return part_so(joint, who, hart, nodes);
+        return part_so(joint, who, hart, entries);
     }
     let answer = parts_so(joint, who, hart, second);
     if joint.decides(answer) {
@@ -174,40 +175,13 @@ fn parts_so(joint: Joint, who: Subject, hart: &Hart, nodes: &[Node]) -> bool
     parts_so(joint, who, hart, first)
 }
 
-/// The parts that a part is joined with, if it is.
+/// The parts that are joined with a part: how these are to stay, how they are joined, and all of
+/// them.
 #[derive(Clone, Copy)]
-enum Around<'a> {
-    Single,
-    Chain(Joint, &'a [Node]),
-}
-
-impl<'a> Around<'a> {
-    /// The chain of the parts of a part that are joined so.
-    fn joined(self, joint: Joint, nodes: &'a [Node]) -> Around<'a>
-        ensures { (chain : Chain) (formula : Formula) → IsAround chain self.entry →
-            nodes.now ≡ nodes_of formula → IsAround (chain_of chain joint formula) result }
-    {
-        match self {
-            Around::Single => Around::Chain(joint, nodes),
-            Around::Chain(around, whole) => {
-                if around.is_joint(joint) {
-                    return Around::Chain(around, whole);
-                }
-                Around::Chain(joint, nodes)
-            }
-        }
-    }
-
-    /// Whether what is looked at together holds of a hart.
-    fn unit_so(self, who: Subject, hart: &Hart, nodes: &[Node]) -> bool
-        ensures { (chain : Chain) (formula : Formula) → IsAround chain self.entry →
-            nodes.now ≡ nodes_of formula → result ≡ unit_so chain who hart.now formula }
-    {
-        match self {
-            Around::Single => so_of(who, hart, nodes),
-            Around::Chain(joint, whole) => parts_so(joint, who, hart, whole),
-        }
-    }
+struct Around<'a> {
+    wanted: bool,
+    joint: Joint,
+    whole: &'a [Entry],
 }
 
 /// Whether both are so.
@@ -272,49 +246,103 @@ impl Step<'_> {
         }
     }
 
+    /// Whether the parts of one hart are, together, after the step as they are wanted, where this
+    /// is so of the harts that were looked at.
+    fn keeps_unit(&self, around: Around<'_>, who: Subject, seen: &mut Seen) -> bool
+        ensures keeps { (whole : Formula) → IsWhole around.entry whole →
+            AllKeep around.entry whole self.now.before.now self.now.after.now seen.old →
+            result ≡ unit_keeps around.entry.wanted around.entry.joint whole
+            self.now.before.now self.now.after.now who }
+        ensures seen { (whole : Formula) → IsWhole around.entry whole →
+            AllKeep around.entry whole self.now.before.now self.now.after.now seen.old →
+            result ≡ true →
+            AllKeep around.entry whole self.now.before.now self.now.after.now seen.new }
+    {
+        if seen.has(who) {
+            return true;
+        }
+        let before = parts_so(around.joint, who, self.before, around.whole);
+        let after = parts_so(around.joint, who, self.after, around.whole);
+        seen.add(who);
+        stays_so(around.wanted, before, after)
+    }
+
     /// Whether the step leaves each unit of a condition as it is wanted to be.
     #[cycle(hiding)]
-    fn keeps(&self, wanted: bool, around: Around<'_>, nodes: &[Node]) -> bool
-        ensures { (chain : Chain) (formula : Formula) → IsAround chain around.entry →
-            nodes.now ≡ nodes_of formula → result
-            ≡ keeps wanted chain formula self.now.before.now self.now.after.now }
+    fn keeps(&self, wanted: bool, entries: &[Entry]) -> bool
+        ensures { (formula : Formula) → entries.now ≡ entries_of formula → result
+            ≡ keeps wanted single formula self.now.before.now self.now.after.now }
     {
-        match alone(nodes) {
+        match alone(entries) {
             Some(who) => {
-                let before = around.unit_so(who, self.before, nodes);
-                let after = around.unit_so(who, self.after, nodes);
+                let before = so_of(who, self.before, entries);
+                let after = so_of(who, self.after, entries);
                 stays_so(wanted, before, after)
             }
-            None => self.keeps_parts(wanted, around, nodes),
+            None => self.keeps_parts(wanted, entries),
         }
     }
 
     /// The same of a condition that doesn't speak of one hart alone, by its parts.
     #[cycle(hiding)]
-    fn keeps_parts(&self, wanted: bool, around: Around<'_>, nodes: &[Node]) -> bool
-        ensures { (chain : Chain) (formula : Formula) → IsAround chain around.entry →
-            nodes.now ≡ nodes_of formula → None ≡ alone formula → result
-            ≡ keeps wanted chain formula self.now.before.now self.now.after.now }
+    fn keeps_parts(&self, wanted: bool, entries: &[Entry]) -> bool
+        ensures { (formula : Formula) → entries.now ≡ entries_of formula → None ≡ alone formula →
+            result ≡ keeps wanted single formula self.now.before.now self.now.after.now }
     {
-        match parts_of(nodes) {
+        match parts_of(entries) {
             None => false,
-            Some(Parts::Says(atom)) => self.keeps_atom(wanted, atom),
-            Some(Parts::Not(part)) => self.keeps(!wanted, Around::Single, part),
-            Some(Parts::Enclosed(part)) => self.keeps(wanted, Around::Single, part),
+            Some(Parts::Says(atom)) => self.keeps_atom(wanted, *atom),
+            Some(Parts::Not(part)) => self.keeps(!wanted, part),
+            Some(Parts::Enclosed(part)) => self.keeps(wanted, part),
             Some(Parts::Joined(joint, first, second)) => {
-                let inner = around.joined(joint, nodes);
-                let keeps_first = self.keeps(wanted, inner, first);
-                let keeps_second = self.keeps(wanted, inner, second);
-                both(keeps_first, keeps_second)
+                let around = Around {
+                    wanted,
+                    joint,
+                    whole: entries,
+                };
+                let mut seen = Seen::none();
+                if !self.keeps_chain(around, first, &mut seen) {
+                    return false;
+                }
+                self.keeps_chain(around, second, &mut seen)
             }
             Some(Parts::Counted(part, comparison, number)) => {
                 let up = comparison.needs(wanted, number, true);
                 let down = comparison.needs(wanted, number, false);
-                let keeps_true = self.keeps(true, Around::Single, part);
-                let keeps_false = self.keeps(false, Around::Single, part);
+                let keeps_true = self.keeps(true, part);
+                let keeps_false = self.keeps(false, part);
                 both(implies(up, keeps_true), implies(down, keeps_false))
             }
         }
+    }
+
+    /// The same of a part that is joined with others, where the harts that were looked at keep
+    /// theirs; they do so after it, too, where it is so.
+    #[cycle(hiding)]
+    fn keeps_chain(&self, around: Around<'_>, part: &[Entry], seen: &mut Seen) -> bool
+        ensures keeps { (whole formula : Formula) → IsWhole around.entry whole →
+            part.now ≡ entries_of formula →
+            AllKeep around.entry whole self.now.before.now self.now.after.now seen.old →
+            result ≡ part_keeps around.entry whole formula self.now.before.now self.now.after.now }
+        ensures seen { (whole formula : Formula) → IsWhole around.entry whole →
+            part.now ≡ entries_of formula →
+            AllKeep around.entry whole self.now.before.now self.now.after.now seen.old →
+            result ≡ true →
+            AllKeep around.entry whole self.now.before.now self.now.after.now seen.new }
+    {
+        if let Some(who) = alone(part) {
+            return self.keeps_unit(around, who, seen);
+        }
+        let Some((joint, first, second)) = joined_parts(part) else {
+            return self.keeps_parts(around.wanted, part);
+        };
+        if !around.joint.is_joint(joint) {
+            return self.keeps_parts(around.wanted, part);
+        }
+        if !self.keeps_chain(around, first, seen) {
+            return false;
+        }
+        self.keeps_chain(around, second, seen)
     }
 }
 
@@ -327,6 +355,6 @@ impl Condition {
         ensures { result ≡ hides self.now before.now after.now }
     {
         let step = Step { before, after };
-        step.keeps(true, Around::Single, self.nodes.as_slice())
+        step.keeps(true, self.entries.as_slice())
     }
 }

@@ -3,7 +3,8 @@
 
 ghost use Rattle.std.specs.Prelude.{◌≡◌, ◌+◌, ◌<◌, ◌^◌, if◌then◌else◌, length};
 ghost use Rattle.cheri_model.specs.runs.Machine.{hart_at};
-ghost use Rattle.conditions.specs.Formulas.{Formula, nodes_of};
+ghost use Rattle.conditions.specs.Formulas.{Formula};
+ghost use Rattle.conditions.specs.Entries.{entries_of};
 ghost use Rattle.conditions.specs.Holding.{decides, how_many, is_so};
 ghost use Rattle.conditions.specs.Values.{
   compares,
@@ -14,8 +15,9 @@ ghost use Rattle.conditions.specs.Values.{
   atom_holds,
 };
 
+use crate::entries::Entry;
 use crate::formulas::{Parts, parts_of};
-use crate::parts::{Atom, Comparison, Joint, Node, StatusTest};
+use crate::parts::{Atom, Comparison, Joint, StatusTest};
 use crate::values::{pcc_of_hart, register_of_hart, status_of_hart};
 use crate::view::StateView;
 use bitflags::Flags;
@@ -89,19 +91,19 @@ fn reaches<V: StateView>(view: &V, hart: usize, addr: u64, perms: Perms) -> bool
 
 impl Atom {
     /// Whether this holds in a state, where `h` is the hart of a number.
-    pub(crate) fn holds<V: StateView>(self, view: &V, each: usize) -> bool
-        ensures { result ≡ atom_holds (V.state view.now) each self }
+    pub(crate) fn holds<V: StateView>(&self, view: &V, each: usize) -> bool
+        ensures { result ≡ atom_holds (V.state view.now) each self.now }
     {
         match self {
             Atom::Compares(source, comparison, term) => {
-                comparison.holds(source.number(view, each), term.number(view, each))
+                (*comparison).holds((*source).number(view, each), (*term).number(view, each))
             }
-            Atom::HasStatus(who, test) => test.holds(status_of_hart(view, who.hart(each))),
-            Atom::Reaches(who, addr, perms) => reaches(view, who.hart(each), addr, perms),
-            Atom::IsAt(who, addr) => pcc_of_hart(view, who.hart(each)).addr() == addr,
+            Atom::HasStatus(who, test) => { (*test).holds(status_of_hart(view, (*who).hart(each))) }
+            Atom::Reaches(who, addr, perms) => reaches(view, (*who).hart(each), *addr, *perms),
+            Atom::IsAt(who, addr) => pcc_of_hart(view, (*who).hart(each)).addr() == *addr,
             Atom::IsIn(who, first, second) => {
-                let addr = pcc_of_hart(view, who.hart(each)).addr();
-                first <= addr && addr < second
+                let addr = pcc_of_hart(view, (*who).hart(each)).addr();
+                *first <= addr && addr < *second
             }
         }
     }
@@ -127,27 +129,27 @@ fn one_more(count: usize, holds: bool) -> usize
     if holds { count + 1 } else { count }
 }
 
-/// Of how many harts the condition of some nodes holds, each being `h` in turn.
+/// Of how many harts the condition of some entries holds, each being `h` in turn.
 #[cycle(holding)]
-fn how_many<V: StateView>(view: &V, nodes: &[Node]) -> usize
-    ensures { (formula : Formula) → nodes.now ≡ nodes_of formula → result
+fn how_many<V: StateView>(view: &V, entries: &[Entry]) -> usize
+    ensures { (formula : Formula) → entries.now ≡ entries_of formula → result
         ≡ how_many (λ hart. is_so (V.state view.now) hart formula)
         (length (V.state view.now).harts) }
 {
     let mut count = 0;
     for hart in 0..view.hart_count() {
-        count = one_more(count, is_so(view, hart, nodes));
+        count = one_more(count, is_so(view, hart, entries));
     }
     count
 }
 
-/// Whether the condition of some nodes holds in a state, where `h` is the hart of a number.
+/// Whether the condition of some entries holds in a state, where `h` is the hart of a number.
 #[cycle(holding)]
-pub(crate) fn is_so<V: StateView>(view: &V, each: usize, nodes: &[Node]) -> bool
-    ensures { (formula : Formula) → nodes.now ≡ nodes_of formula → result
+pub(crate) fn is_so<V: StateView>(view: &V, each: usize, entries: &[Entry]) -> bool
+    ensures { (formula : Formula) → entries.now ≡ entries_of formula → result
         ≡ is_so (V.state view.now) each formula }
 {
-    match parts_of(nodes) {
+    match parts_of(entries) {
         None => false,
         Some(Parts::Says(atom)) => atom.holds(view, each),
         Some(Parts::Not(denied)) => !is_so(view, each, denied),

@@ -1,18 +1,11 @@
-//! The number that code and definitions share, by its numeral: definitions take it from the code, so
-//! that a wrong one would be wrong on both sides. And what it means that a condition hides a step.
+//! What it means that a condition hides a step.
 
 ghost use Rattle.std.specs.Prelude.{◌≡◌, ℕ, List, Some, true, slice_get, slice_set};
 ghost use Rattle.cheri_model.specs.runs.Machine.{MachineState};
 ghost use Rattle.cheri_model.specs.steps.Hart.{HartState};
 ghost use Rattle.conditions.specs.Hiding.{hides};
 ghost use Rattle.conditions.specs.Holding.{holds};
-ghost use Rattle.conditions.specs.declared.items.TheConstants.{MAX_ITEMS};
 ghost use Rattle.conditions.specs.declared.parts.Node.{Node};
-
-/// The most items of a list.
-pub fn limits()
-    ensures items { MAX_ITEMS ≡ 16 }
-{}
 
 /// A condition that holds in a state still holds where a step that it hides was taken: where the
 /// hart after it stands in the place of the hart before it, whichever place that is.

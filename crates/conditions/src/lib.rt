@@ -1,32 +1,23 @@
-//! Conditions on states of a machine, and the items by which outcomes are shown: what their texts
-//! mean for an image, and what they are in a state.
+//! Conditions on states of a machine, and the items by which outcomes are shown: what they are in a
+//! state, and which steps of a hart a condition can't see.
 #![tactic(auto)]
 
 mod alone;
-mod atoms;
 mod conditions;
-mod fault;
+mod entries;
 mod formulas;
 mod hiding;
 mod holding;
 mod items;
 pub mod laws;
-mod lists;
-mod nesting;
-mod openings;
 mod parts;
-mod places;
-mod reading;
-mod terms;
+mod seen;
 mod values;
 mod view;
 mod ways;
-mod words;
 
-pub use conditions::{Condition, MAX_BYTES, MAX_PARENTHESES, read_condition};
-pub use fault::TextFault;
-pub use items::{Items, MAX_ITEMS};
-pub use lists::read_items;
+pub use conditions::Condition;
+pub use items::Items;
 pub use parts::{
     Atom, Comparison, Field, Holder, Joint, Node, Own, Place, Shown, Source, StatusTest, Subject,
     Term,

@@ -1,9 +1,9 @@
 -- What was printed to a question, as the ending of a command.
 use Rattle.std.proofs.Common.{◌≡◌, ℕ, List, Option, Result, Ok, Err, refl, sym, subst, inl}
 use Rattle.conditions.specs.declared.parts.Node.{Node}
-use Rattle.conditions.specs.declared.fault.TextFault.{TextFault}
-use Rattle.conditions.specs.declared.fault.TextFault.TheVariants as texts
-use Rattle.conditions.specs.Conditions.{GivesCondition}
+use Rattle.condition_texts.specs.declared.fault.TextFault.{TextFault}
+use Rattle.condition_texts.specs.declared.fault.TextFault.TheVariants as texts
+use Rattle.condition_texts.specs.Conditions.{GivesCondition}
 use Rattle.printing.specs.Endings.{Answer, FailsBy}
 use Rattle.shown_states.specs.Endings.{IsUnwritten}
 use Rattle.shown_states.specs.declared.form.Ending.{Ending}
@@ -12,7 +12,8 @@ use Rattle.sinks.specs.declared.fault.WriteFault.TheVariants as written
 use Rattle.program_io.specs.Faults.{written_fault}
 use Rattle.explore_program.specs.Faults.{Fault, failure_of, text_fault}
 use Rattle.explore_program.specs.Questions.{IsSaid, IsSaidOf}
-use Rattle.conditions.specs.Items.{ItemList, GivesItems}
+use Rattle.conditions.specs.Items.{ItemList}
+use Rattle.condition_texts.specs.Items.{GivesItems}
 
 -- an answer that was not written whole
 pub unwritten : (IsSo : List ℕ → Ending → Type 0) (IsAnswer : Answer Ending Fault → Type 0) (fault : WriteFault) (old new : Option (List ℕ))

@@ -1,8 +1,8 @@
 -- The faults that only this program has: their lines, whether they are refusals, and what each
 -- leaves of the answer.
 use Rattle.std.specs.Prelude.{ℕ, Bool, true, false, List, ◌++◌, codes, decimal}
-use Rattle.conditions.specs.declared.fault.TextFault.{TextFault}
-use Rattle.conditions.specs.declared.fault.TextFault.TheVariants as texts
+use Rattle.condition_texts.specs.declared.fault.TextFault.{TextFault}
+use Rattle.condition_texts.specs.declared.fault.TextFault.TheVariants as texts
 use Rattle.printing.specs.Endings.{Failure, Refused}
 use Rattle.program_io.specs.Faults as faults
 use Rattle.program_io.specs.declared.fault.Fault.{Fault as FaultOf}

@@ -3,10 +3,10 @@ use Rattle.std.specs.Prelude.{◌≡◌, ℕ, List, Result, Ok, Err, Some, None}
 use Rattle.authority_texts.specs.Answers.{IsAuthorityAnswer}
 use Rattle.explore_line.specs.Requests.{AskedQuestion, Find, Outcomes, Authority}
 use Rattle.explore_line.specs.declared.sweeps.Sweep.{Sweep}
-use Rattle.conditions.specs.Conditions.{condition_of}
-use Rattle.conditions.specs.declared.fault.TextFault.{TextFault}
-use Rattle.conditions.specs.declared.fault.TextFault.TheVariants.{Condition, Place}
-use Rattle.conditions.specs.Items.{items_of}
+use Rattle.condition_texts.specs.Conditions.{condition_of}
+use Rattle.condition_texts.specs.declared.fault.TextFault.{TextFault}
+use Rattle.condition_texts.specs.declared.fault.TextFault.TheVariants.{Condition, Place}
+use Rattle.condition_texts.specs.Items.{items_of}
 use Rattle.grammar.specs.Labels.{LabelParts}
 use Rattle.found_texts.specs.Find.{IsFindAnswer}
 use Rattle.outcome_texts.specs.Answers.{IsListedAnswer, IsShownAnswer}

@@ -11,7 +11,7 @@ ghost use Rattle.explore_program.specs.Questions.{IsFindSaid, IsSaid, IsSaidTo, 
 
 use crate::faults::{Fault, text_fault};
 use crate::questions::{Authority, Find, Outcomes, SearchQuestion, ShownOutcomes};
-use conditions::{read_condition, read_items};
+use condition_texts::{read_condition, read_items};
 use explore_line::Question;
 use grammar::labels::Labels;
 use graph_search::Progress;

@@ -3,7 +3,7 @@
 ghost use Rattle.std.specs.Prelude.{◌≡◌};
 ghost use Rattle.explore_program.specs.Faults.{is_refusal, own_text, text_fault};
 
-use conditions::TextFault;
+use condition_texts::TextFault;
 use inputs::InputFault;
 use program_io::ProgramFault;
 use std::fmt;

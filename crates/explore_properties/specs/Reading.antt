@@ -4,7 +4,7 @@ use Rattle.std.specs.Prelude.{length, drop, codes, bytes_eq, min, Option, Some, 
 use Rattle.std.specs.List.{before_first, after_first}
 use Rattle.cheri_model.specs.instructions.Tables.{found_at}
 use Rattle.cheri_model.specs.runs.Image.{ImageParts}
-use Rattle.conditions.specs.Conditions.{condition_of}
+use Rattle.condition_texts.specs.Conditions.{condition_of}
 use Rattle.conditions.specs.declared.parts.Node.{Node}
 use Rattle.explore_properties.specs.Lines.{blank_count, is_marked, is_parted, trimmed}
 use Rattle.explore_properties.specs.Properties.{PropertyParts, PropertiesParts, none_yet}

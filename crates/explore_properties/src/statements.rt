@@ -2,7 +2,7 @@
 #![tactic(auto, unfolding(crate::proofs::Unfold::statements))]
 
 ghost use Rattle.std.specs.Prelude.{◌≡◌, ◌≤◌, ◌<◌, ◌+◌, ◌^◌, length, min};
-ghost use Rattle.conditions.specs.Conditions.{condition_of};
+ghost use Rattle.condition_texts.specs.Conditions.{condition_of};
 ghost use Rattle.grammar.specs.LabelMap.{label_parts};
 ghost use Rattle.explore_properties.specs.Reading.{
   after_word,
@@ -19,7 +19,7 @@ use crate::claims::{Claim, When};
 use crate::fault::LineFault;
 use cheri_model::Image;
 use cheri_model::table::found_at;
-use conditions::{TextFault, read_condition};
+use condition_texts::{TextFault, read_condition};
 use explore_sweeps::{Sweep, sweep_of};
 use grammar::labels::Labels;
 use std::alloc::Global;

@@ -1,8 +1,8 @@
 use Rattle.std.proofs.Common.{false, refl, ℕ, List}
 use Rattle.program_io.proofs.EndingLemmas.{all_fail, all_whole}
-use Rattle.conditions.specs.Conditions.{condition_of}
+use Rattle.condition_texts.specs.Conditions.{condition_of}
 use Rattle.conditions.specs.declared.parts.Node.{Node}
-use Rattle.conditions.specs.declared.fault.TextFault.TheVariants.{Condition}
+use Rattle.condition_texts.specs.declared.fault.TextFault.TheVariants.{Condition}
 use Rattle.found_texts.specs.Find.{IsFindAnswer}
 use Rattle.grammar.specs.LabelMap.{label_parts}
 use Rattle.shown_states.specs.declared.form.Ending.{Ending}

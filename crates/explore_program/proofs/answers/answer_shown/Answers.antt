@@ -1,7 +1,8 @@
 use Rattle.std.proofs.Common.{false, refl, ℕ, List}
 use Rattle.program_io.proofs.EndingLemmas.{all_fail, all_whole}
-use Rattle.conditions.specs.Items.{ItemList, items_of, list_of}
-use Rattle.conditions.specs.declared.fault.TextFault.TheVariants.{Place}
+use Rattle.conditions.specs.Items.{ItemList, list_of}
+use Rattle.condition_texts.specs.Items.{items_of}
+use Rattle.condition_texts.specs.declared.fault.TextFault.TheVariants.{Place}
 use Rattle.outcome_texts.specs.Answers.{IsShownAnswer}
 use Rattle.shown_states.specs.declared.form.Ending.{Ending}
 use Rattle.states.specs.Searches.{search_of}

@@ -1,40 +1,91 @@
 use Rattle.std.proofs.Common.{sym, ◌∙◌, refl}
-use Rattle.conditions.proofs.PartLemmas.{is_none}
-use Rattle.conditions.proofs.KeepingLemmas.{keeps_unit, keeps_said, keeps_denied, keeps_enclosed, keeps_joined, keeps_counted}
+use Rattle.conditions.proofs.PartLemmas.{is_none, is_joined}
+use Rattle.conditions.proofs.SeenLemmas.{keep_none}
+use Rattle.conditions.proofs.KeepingLemmas.{keeps_unit, keeps_said, keeps_denied, keeps_enclosed, keeps_counted, keeps_not_first, keeps_second, two_of, chain_unit, chain_single, chain_other, chain_not_first, chain_second}
+use Rattle.conditions.specs.Hiding.{single}
 use Rattle.conditions.proofs.hiding.Step.+hiding.Goals as goal
 
 pub keeps-returns-in-Some : goal.keeps-returns-in-Some
-keeps-returns-in-Some t c = λ chain formula near is.
-    keeps_unit c.args.wanted chain formula c.args.self.now.before.now c.args.self.now.after.now c.in-Some.who _ _ _
-    (sym c.in-Some.is ∙ c.alone.ensures formula is) (c.unit_so-before.ensures chain formula near is) (c.unit_so-after.ensures chain formula near is)
+keeps-returns-in-Some t c = λ formula is.
+    keeps_unit c.args.wanted single formula c.args.self.now.before.now c.args.self.now.after.now c.in-Some.who _ _ _
+    (sym c.in-Some.is ∙ c.alone.ensures formula is) (c.so_of-before.ensures formula is) (c.so_of-after.ensures formula is)
     c.stays_so.ensures
 
 pub keeps_parts-returns-in-None : goal.keeps_parts-returns-in-None
-keeps_parts-returns-in-None t c = λ chain formula near is none. absurd (is_none formula (c.in-None.ensures.parted formula is))
+keeps_parts-returns-in-None t c = λ formula is none. absurd (is_none formula (c.in-None.ensures.parted formula is))
 
 pub keeps_parts-returns-in-Some-Says : goal.keeps_parts-returns-in-Some-Says
-keeps_parts-returns-in-Some-Says t c = λ chain formula near is none.
-    keeps_said c.args.wanted chain formula c.args.self.now.before.now c.args.self.now.after.now _ none c.in-Some-Says.atom
+keeps_parts-returns-in-Some-Says t c = λ formula is none.
+    keeps_said c.args.wanted formula c.args.self.now.before.now c.args.self.now.after.now _ none c.in-Some-Says.atom
     (rw c.in-Some-Says.field-0-is at c.in-Some-Says.ensures.parted formula is) c.keeps_atom.ensures
 
 pub keeps_parts-returns-in-Some-Not : goal.keeps_parts-returns-in-Some-Not
-keeps_parts-returns-in-Some-Not t c = λ chain formula near is none.
-    keeps_denied c.args.wanted chain formula c.args.self.now.before.now c.args.self.now.after.now _ none _
+keeps_parts-returns-in-Some-Not t c = λ formula is none.
+    keeps_denied c.args.wanted formula c.args.self.now.before.now c.args.self.now.after.now _ none _
     (rw c.in-Some-Not.field-0-is at c.in-Some-Not.ensures.parted formula is) c.keeps.ensures
 
 pub keeps_parts-returns-in-Some-Enclosed : goal.keeps_parts-returns-in-Some-Enclosed
-keeps_parts-returns-in-Some-Enclosed t c = λ chain formula near is none.
-    keeps_enclosed c.args.wanted chain formula c.args.self.now.before.now c.args.self.now.after.now _ none _
+keeps_parts-returns-in-Some-Enclosed t c = λ formula is none.
+    keeps_enclosed c.args.wanted formula c.args.self.now.before.now c.args.self.now.after.now _ none _
     (rw c.in-Some-Enclosed.field-0-is at c.in-Some-Enclosed.ensures.parted formula is) c.keeps-in-Some-Enclosed.ensures
 
-pub keeps_parts-returns-in-Some-Joined : goal.keeps_parts-returns-in-Some-Joined
-keeps_parts-returns-in-Some-Joined t c = λ chain formula near is none.
-    keeps_joined c.args.wanted chain formula c.args.self.now.before.now c.args.self.now.after.now _ none c.in-Some-Joined.joint _ _ _ _ _
-    (rw c.in-Some-Joined.field-0-is at c.in-Some-Joined.ensures.parted formula is) (c.joined-inner.ensures chain formula near is)
-    c.keeps-keeps_first.ensures c.keeps-keeps_second.ensures c.both.ensures
-
 pub keeps_parts-returns-in-Some-Counted : goal.keeps_parts-returns-in-Some-Counted
-keeps_parts-returns-in-Some-Counted t c = λ chain formula near is none.
-    keeps_counted c.args.wanted chain formula c.args.self.now.before.now c.args.self.now.after.now _ _ c.in-Some-Counted.comparison c.in-Some-Counted.number _ _ _ _
+keeps_parts-returns-in-Some-Counted t c = λ formula is none.
+    keeps_counted c.args.wanted formula c.args.self.now.before.now c.args.self.now.after.now _ _ c.in-Some-Counted.comparison c.in-Some-Counted.number _ _ _ _
     (rw c.in-Some-Counted.field-0-is at c.in-Some-Counted.ensures.parted formula is) c.needs-up.ensures c.needs-down.ensures
-    c.keeps-keeps_true.ensures c.keeps-keeps_false.ensures (c.both-in-Some-Counted.ensures ∙ rw (c.implies.ensures, c.implies-in-Some-Counted.ensures) refl)
+    c.keeps-keeps_true.ensures c.keeps-keeps_false.ensures (c.both.ensures ∙ rw (c.implies.ensures, c.implies-in-Some-Counted.ensures) refl)
+
+pub keeps_chain-returns-in-Some-clause-keeps : goal.keeps_chain-returns-in-Some-clause-keeps
+keeps_chain-returns-in-Some-clause-keeps t c = λ whole formula is near all.
+    chain_unit c.args.around.wanted c.args.around.joint whole formula c.args.self.now.before.now c.args.self.now.after.now _ c.in-Some.who
+    (sym c.in-Some.is ∙ c.alone.ensures formula near) (c.keeps_unit.ensures.keeps whole is all)
+
+pub keeps_chain-returns-in_default-joined_parts-clause-keeps : goal.keeps_chain-returns-in_default-joined_parts-clause-keeps
+keeps_chain-returns-in_default-joined_parts-clause-keeps t c = λ whole formula is near all.
+    let none = c.in_default.ensures formula near in
+    chain_single c.args.around.wanted c.args.around.joint whole formula c.args.self.now.before.now c.args.self.now.after.now _
+    (c.in_default-joined_parts.ensures.joined formula near) none (c.keeps_parts.ensures formula near none)
+
+pub keeps_chain-returns-then-not-is_joint-clause-keeps : goal.keeps_chain-returns-then-not-is_joint-clause-keeps
+keeps_chain-returns-then-not-is_joint-clause-keeps t c = λ whole formula is near all.
+    let none = c.in_default.ensures formula near in
+    chain_other c.args.around.wanted c.args.around.joint whole formula c.args.self.now.before.now c.args.self.now.after.now _
+    _ _ _ (c.in-Some-joined_parts.ensures.joined formula near) (sym c.is_joint.ensures ∙ c.if-not-is_joint.true) none
+    (c.keeps_parts-then-not-is_joint.ensures formula near none)
+
+pub keeps_chain-returns-then-not-keeps_chain-clause-keeps : goal.keeps_chain-returns-then-not-keeps_chain-clause-keeps
+keeps_chain-returns-then-not-keeps_chain-clause-keeps t c = λ whole formula is near all.
+    chain_not_first c.args.around.wanted c.args.around.joint whole formula c.args.self.now.before.now c.args.self.now.after.now _
+    _ _ _ _ (c.in-Some-joined_parts.ensures.joined formula near) (sym c.is_joint.ensures ∙ c.if-not-is_joint.false)
+    (c.in_default.ensures formula near) (λ f part. c.keeps_chain.ensures.keeps whole f is part all) c.if-not-keeps_chain.true refl
+
+pub keeps_chain-returns-clause-keeps : goal.keeps_chain-returns-clause-keeps
+keeps_chain-returns-clause-keeps t c = λ whole formula is near all.
+    let of = two_of formula _ _ _ (c.in-Some-joined_parts.ensures.joined formula near) in
+    let after = c.keeps_chain.ensures.seen whole of.0 is of.3 all c.if-not-keeps_chain.false in
+    chain_second c.args.around.wanted c.args.around.joint whole formula c.args.self.now.before.now c.args.self.now.after.now _
+    _ _ _ _ (c.in-Some-joined_parts.ensures.joined formula near) (sym c.is_joint.ensures ∙ c.if-not-is_joint.false)
+    (c.in_default.ensures formula near) (λ f part. c.keeps_chain.ensures.keeps whole f is part all) c.if-not-keeps_chain.false
+    (λ f part. c.keeps_chain-2.ensures.keeps whole f is part after)
+
+pub keeps_chain-returns-clause-seen : goal.keeps_chain-returns-clause-seen
+keeps_chain-returns-clause-seen t c = λ whole formula is near all holds.
+    let of = two_of formula _ _ _ (c.in-Some-joined_parts.ensures.joined formula near) in
+    let after = c.keeps_chain.ensures.seen whole of.0 is of.3 all c.if-not-keeps_chain.false in
+    c.keeps_chain-2.ensures.seen whole of.1 is of.4 after holds
+
+pub keeps_parts-returns-then-not-keeps_chain : goal.keeps_parts-returns-then-not-keeps_chain
+keeps_parts-returns-then-not-keeps_chain t c = λ formula is none.
+    keeps_not_first c.args.wanted formula c.args.self.now.before.now c.args.self.now.after.now _ none c.in-Some-Joined.joint _ _ _
+    (rw c.in-Some-Joined.field-0-is at c.in-Some-Joined.ensures.parted formula is)
+    (λ f part. c.keeps_chain.ensures.keeps formula f is part (keep_none (record { wanted = c.args.wanted; joint = c.in-Some-Joined.joint; whole = c.args.entries }) formula c.args.self.now.before.now c.args.self.now.after.now _ c.none-seen.ensures))
+    c.if-not-keeps_chain.true refl
+
+pub keeps_parts-returns-else-not-keeps_chain : goal.keeps_parts-returns-else-not-keeps_chain
+keeps_parts-returns-else-not-keeps_chain t c = λ formula is none.
+    let parted = rw c.in-Some-Joined.field-0-is at c.in-Some-Joined.ensures.parted formula is in
+    let of = is_joined formula c.in-Some-Joined.joint _ _ parted in
+    let after = c.keeps_chain.ensures.seen formula of.0 is of.3 (keep_none (record { wanted = c.args.wanted; joint = c.in-Some-Joined.joint; whole = c.args.entries }) formula c.args.self.now.before.now c.args.self.now.after.now _ c.none-seen.ensures) c.if-not-keeps_chain.false in
+    keeps_second c.args.wanted formula c.args.self.now.before.now c.args.self.now.after.now _ none c.in-Some-Joined.joint _ _ _ parted
+    (λ f part. c.keeps_chain.ensures.keeps formula f is part (keep_none (record { wanted = c.args.wanted; joint = c.in-Some-Joined.joint; whole = c.args.entries }) formula c.args.self.now.before.now c.args.self.now.after.now _ c.none-seen.ensures))
+    c.if-not-keeps_chain.false (λ f part. c.keeps_chain-in-Some-Joined.ensures.keeps formula f is part after)

@@ -1,0 +1,10 @@
+pub mod Words
+pub mod WordPairs
+pub mod Places
+pub mod Atoms
+pub mod Terms
+pub mod Reading
+pub mod Conditions
+pub mod Shown
+pub mod Items
+pub mod Chains

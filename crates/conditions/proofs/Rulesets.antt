@@ -1,4 +1,0 @@
--- Short names for `using(..)`.
-use Rattle.conditions.proofs.PlaceLemmas.{before_point_some, before_point_none}
-
-pub ruleset point = (before_point_some, before_point_none)

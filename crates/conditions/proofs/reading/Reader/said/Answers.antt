@@ -1,7 +1,0 @@
-use Rattle.std.proofs.Common.{sym}
-use Rattle.conditions.proofs.NestingLemmas.{said_added}
-use Rattle.conditions.proofs.reading.Reader.said.Goals as goal
-
-pub returns-clause-read : goal.returns-clause-read
-returns-clause-read c =
-    said_added _ c.in_ok-atom.atom c.in_ok-atom.next c.args.nodes.now.items _ (sym c.in_ok-atom.ensures.is) c.in_ok-push.ensures

@@ -1,7 +1,0 @@
--- The words so far, and then those of the bytes that are left.
-use Rattle.conditions.specs.Words.{condition_words}
-use Rattle.conditions.specs.WordPairs.{Remains}
-use Rattle.conditions.proofs.words.condition_words.Given as goal
-
-abbrev pub invariant-loop-place : goal.invariant-loop-place
-invariant-loop-place l = Remains l.text l.words.items l.run l.place (condition_words l.text)
