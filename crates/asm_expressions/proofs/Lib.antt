@@ -1,4 +1,5 @@
 pub mod DraftLemmas
+pub mod GrammarLemmas
 pub mod ReadingLemmas
 pub mod StackLemmas
 pub mod Unfold

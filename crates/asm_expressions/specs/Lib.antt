@@ -4,3 +4,4 @@ pub mod Moves
 pub mod Expressions
 pub mod Drafts
 pub mod Values
+pub mod Grammar
