@@ -1,7 +1,7 @@
 use Rattle.std.proofs.Common.{◌≡◌, ℕ, ◌*◌, subst, arith}
 use Rattle.asm_chunks.specs.Chunks.{Fills, chunks_parts}
 use Rattle.asm_chunks.specs.Growth.{grown}
-use Rattle.asm_chunks.proofs.growth.Chunks.grow_bytes.Goals as goal
+use Rattle.asm_chunks.proofs.chunks.Chunks.grow_bytes.Goals as goal
 
 pub returns : goal.returns
 returns c =
