@@ -1,0 +1,6 @@
+pub mod DraftLemmas
+pub mod GrammarLemmas
+pub mod ReadingLemmas
+pub mod StackLemmas
+pub mod Unfold
+pub mod ValueLemmas

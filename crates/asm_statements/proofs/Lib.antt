@@ -1,0 +1,4 @@
+pub mod ListLemmas
+pub mod LoopLemmas
+pub mod StepLemmas
+pub mod Unfold
