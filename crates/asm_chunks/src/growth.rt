@@ -60,6 +60,13 @@ impl Chunks {
         Ok(())
     }
 
+    /// Puts so many bytes there, as `grow` does.
+    pub fn grow_bytes(&mut self, count: usize) -> Result<(), ChunkFault>
+        ensures { Fills result (chunks_parts self.new) (grown (chunks_parts self.old) count) }
+    {
+        self.grow(1, count)
+    }
+
     /// Raises the alignment of the chunk that the file goes on in.
     pub fn raise(&mut self, unit: u32)
         ensures { chunks_parts self.new ≡ raised (chunks_parts self.old) unit }

@@ -1,0 +1,3 @@
+-- What places are once everything has its address.
+pub mod Places
+pub mod Capabilities

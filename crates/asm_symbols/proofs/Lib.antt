@@ -1,0 +1,4 @@
+pub mod Unfold
+pub mod NameLemmas
+pub mod GlobalLemmas
+pub mod Rulesets

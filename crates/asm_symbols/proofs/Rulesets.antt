@@ -1,0 +1,4 @@
+-- Short names for `using(..)`.
+use Rattle.std.proofs.lemmas.List.{length-map, map-append}
+
+pub ruleset counts = (length-map, map-append)

@@ -1,0 +1,5 @@
+-- What names mean.
+pub mod Names
+pub mod Definitions
+pub mod Globals
+pub mod Locals
