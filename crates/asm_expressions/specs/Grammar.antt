@@ -4,13 +4,19 @@
 --                  (each from the left)
 --     term       = number | local label | name | name@plt | . | - term | + term | ~ term
 --                | ( expression )
-use Rattle.std.specs.Prelude.{◌≡◌, ℕ, ◌+◌, ◌≤◌, false, List, [], ◌∷◌, ◌++◌, length, Some}
+use Rattle.std.specs.Prelude.{◌≡◌, Result, Ok, ℕ, ◌+◌, ◌≤◌, false, List, [], ◌∷◌, ◌++◌, length, Some}
 use Rattle.asm_tokens.specs.declared.token.Mark.{Mark}
 use Rattle.asm_tokens.specs.declared.token.Mark.TheVariants as marks
 use Rattle.asm_tokens.specs.declared.token.TokenKind.TheVariants as tokens
 use Rattle.asm_tokens.specs.Tokens.{TokenParts}
 use Rattle.asm_values.specs.declared.operators.BinaryOp.{BinaryOp}
 use Rattle.asm_values.specs.declared.operators.UnaryOp.{UnaryOp}
+use Rattle.asm_tokens.specs.Faults.{◌>>=◌}
+use Rattle.asm_values.specs.declared.values.Value.{Value}
+use Rattle.asm_values.specs.declared.values.Value.TheVariants.{Number}
+use Rattle.asm_values.specs.Values.{unary_value, binary_value}
+use Rattle.asm_expressions.specs.declared.values.ValueFault.{ValueFault}
+use Rattle.asm_expressions.specs.Values.{Meanings, apart_of, name_value, operator_value}
 use Rattle.asm_values.specs.Operators.{level, unary_of, binary_of}
 use Rattle.asm_expressions.specs.declared.moves.Move.TheVariants.{Leaf as is_leaf, Turn, End}
 use Rattle.asm_expressions.specs.declared.moves.Phase.TheVariants.{Name, Operator}
@@ -65,3 +71,20 @@ Spells least at (Brackets inner) ts =
 abbrev pub Ends : TokenParts → Type 0
 Ends token =
     (move_of Operator false token ≡ End) × (move_of Name false token ≡ End)
+
+-- the value of a tree, of which the first token has this number
+abbrev pub leaf_value : {F : Type 0} → Meanings F → NodeKind → ℕ → Result Value (ValueFault F)
+leaf_value m (kinds.Number n) at = Ok (Number n)
+leaf_value m kind at = name_value (m.named (record { kind = kind; at = at }))
+
+unfoldable pub tree_value : {F : Type 0} → Meanings F → ℕ → Tree → Result Value (ValueFault F)
+tree_value m at (Leaf kind) = leaf_value m kind at
+tree_value m at Plt = leaf_value m kinds.Symbol at
+tree_value m at (Before op operand) = do
+  value ← tree_value m (at + 1) operand
+  operator_value at (unary_value op value)
+tree_value m at (Between op middle first second) = do
+  a ← tree_value m at first
+  b ← tree_value m (middle + 1) second
+  operator_value middle (binary_value op a b (apart_of m.apart a b))
+tree_value m at (Brackets inner) = tree_value m (at + 1) inner
