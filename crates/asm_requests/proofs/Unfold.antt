@@ -1,14 +1,9 @@
 -- Names for `unfolding(..)` that open what their own line names.
 use Rattle.std.specs.Prelude.{ℕ, Bool, List, Option}
-use Rattle.asm_requests.specs.Parts.{parted}
 use Rattle.asm_requests.specs.Numbers.{number_up_to, integer_of, stack_of}
 use Rattle.asm_requests.specs.Values.{typed, operands_of, literal_of, symbol_of, held_of}
 use Rattle.asm_requests.specs.Settings.{exit_of, plain_setting, register_setting}
 use Rattle.asm_requests.specs.Settings.{named_setting, setting_of, is_link, drops_exit}
-
-unfoldable pub parts : ℕ → List ℕ → Option (List ℕ × List ℕ)
-unfolding parted
-parts mark text = parted mark text
 
 unfoldable pub numbers : List ℕ → Option ℕ
 unfolding number_up_to integer_of stack_of

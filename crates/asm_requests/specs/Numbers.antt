@@ -4,7 +4,7 @@ use Rattle.std.specs.Prelude.{length, drop, slice_index, Option, Some, None, opt
 use Rattle.cheri_model.specs.declared.memory.TheConstants.{MAX_RAM_BYTES}
 use Rattle.text_numbers.specs.Numerals.{number_of, within_128_bits}
 use Rattle.asm_capabilities.specs.Capabilities.{is_stack_size}
-use Rattle.asm_requests.specs.Parts.{◌>>=◌}
+use Rattle.asm_requests.specs.Steps.{◌>>=◌}
 
 -- a number in its range; none where it has more than 128 bits, which are beyond every range
 abbrev pub in_range : ℕ → Option (Option ℕ) → Option ℕ

@@ -7,7 +7,8 @@ use Rattle.asm_names.specs.declared.registers.RegisterName.{RegisterName}
 use Rattle.asm_names.specs.Registers.{register_named}
 use Rattle.asm_requests.specs.declared.setting.Setting.{Setting}
 use Rattle.asm_requests.specs.declared.setting.Setting.TheVariants as settings
-use Rattle.asm_requests.specs.Parts.{parted, ◌>>=◌}
+use Rattle.asm_requests.specs.Steps.{◌>>=◌}
+use Rattle.text_parts.specs.Parts.{parted}
 use Rattle.asm_requests.specs.Numbers.{integer_of, stack_of}
 use Rattle.asm_requests.specs.Values.{HeldParts, held_parts, held_of}
 

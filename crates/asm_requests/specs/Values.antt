@@ -13,7 +13,8 @@ use Rattle.grammar.specs.Operands.{type_operand_of}
 use Rattle.grammar.specs.Permissions.{permissions_of}
 use Rattle.asm_requests.specs.declared.values.Held.{Held}
 use Rattle.asm_requests.specs.declared.values.Held.TheVariants as helds
-use Rattle.asm_requests.specs.Parts.{parted, ◌>>=◌}
+use Rattle.asm_requests.specs.Steps.{◌>>=◌}
+use Rattle.text_parts.specs.Parts.{parted}
 use Rattle.asm_requests.specs.Numbers.{number_up_to}
 
 -- what a capability register is to hold: the capability of a symbol, moved by so many bytes; the

@@ -2,7 +2,6 @@
 #![tactic(auto)]
 
 mod numbers;
-mod parts;
 mod request;
 mod setting;
 mod values;

@@ -15,10 +15,10 @@ ghost use Rattle.asm_requests.specs.Settings.{
 };
 
 use crate::numbers::{integer_of, stack_of};
-use crate::parts::parted;
 use crate::values::{Held, held_of};
 use asm_names::{RegisterKind, RegisterName, register_named};
 use cheri_model::Reg;
+use text_parts::parted;
 
 /// What a word of a hart's request says.
 #[derive(Clone, Copy)]

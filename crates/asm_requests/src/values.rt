@@ -12,11 +12,11 @@ ghost use Rattle.asm_requests.specs.Values.{
 };
 
 use crate::numbers::number_up_to;
-use crate::parts::parted;
 use grammar::capability::{CapOperands, CapParts, cap_parts_of};
 use grammar::operands::{TypeOperand, type_operand_of};
 use grammar::permissions::permissions_of;
 use text_numbers::number_of;
+use text_parts::parted;
 
 /// What a capability register is to hold.
 #[derive(Clone, Copy)]

@@ -1,8 +1,8 @@
 //! A text parted at a mark.
-#![tactic(auto, unfolding(crate::proofs::Unfold::parts))]
+#![tactic(auto, unfolding(crate::specs::Parts::parted))]
 
 ghost use Rattle.std.specs.Prelude.{◌≡◌, ◌==◌, ◌<◌, IfSome, length, option_map, position};
-ghost use Rattle.asm_requests.specs.Parts.{both_parts, parted};
+ghost use Rattle.text_parts.specs.Parts.{both_parts, parted};
 
 /// Where the first mark of a text is.
 fn mark_at(mark: u8, text: &[u8]) -> Option<usize>
@@ -13,7 +13,7 @@ fn mark_at(mark: u8, text: &[u8]) -> Option<usize>
 }
 
 /// What is before the first mark of a text, and what is behind it; `None` where it has none.
-pub(crate) fn parted(mark: u8, text: &[u8]) -> Option<(&[u8], &[u8])>
+pub fn parted(mark: u8, text: &[u8]) -> Option<(&[u8], &[u8])>
     ensures { option_map both_parts result ≡ parted mark text.now }
 {
     match mark_at(mark, text) {

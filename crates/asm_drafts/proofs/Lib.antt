@@ -1,0 +1,4 @@
+pub mod Unfold
+pub mod Rulesets
+pub mod EachLemmas
+pub mod LabelLemmas

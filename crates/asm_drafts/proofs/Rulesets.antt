@@ -1,0 +1,4 @@
+-- Short names for `using(..)`.
+use Rattle.std.proofs.lemmas.Nat.{one_shl}
+
+pub ruleset powers = (one_shl)

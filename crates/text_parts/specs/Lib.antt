@@ -1,0 +1,2 @@
+-- A text parted at a mark.
+pub mod Parts
