@@ -19,7 +19,7 @@ use Rattle.outcome_texts.specs.declared.told.Outcome.{Outcome}
 use Rattle.outcome_texts.specs.declared.told.ShownRow.{ShownRow}
 use Rattle.explore_sights.specs.declared.sights.Sight.TheVariants.{NoStep}
 use Rattle.graph_search.specs.Trees.{IsFound}
-use Rattle.outcome_texts.proofs.RestLemmas.{final_rests}
+use Rattle.outcomes.proofs.RestLemmas.{final_rests}
 use Rattle.shown_states.specs.Endings.{ending_of}
 use Rattle.shown_states.specs.declared.form.Ending.{Ending}
 use Rattle.shown_states.specs.declared.form.Format.{Format}

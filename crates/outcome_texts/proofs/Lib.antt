@@ -4,5 +4,4 @@ pub mod ToldLemmas
 pub mod PartLemmas
 pub mod ListedLemmas
 pub mod RowLemmas
-pub mod RestLemmas
 pub mod AnswerLemmas

@@ -3,3 +3,4 @@ pub mod CountLemmas
 pub mod TableLemmas
 pub mod CodeLemmas
 pub mod OutcomeLemmas
+pub mod RestLemmas

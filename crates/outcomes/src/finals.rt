@@ -23,7 +23,7 @@ fn is_stopped(status: Status) -> bool
 }
 
 /// Whether no hart runs.
-fn is_final<V: StateView>(view: &V) -> bool
+pub fn is_final<V: StateView>(view: &V) -> bool
     ensures { result ≡ is_final (V.state view.now) }
 {
     for hart in 0..view.hart_count() {

@@ -6,6 +6,6 @@ mod finals;
 mod items;
 mod rows;
 
-pub use finals::outcomes_of;
+pub use finals::{is_final, outcomes_of};
 pub use items::{ItemValue, values_of};
 pub use rows::{Row, rows_of};

@@ -3,6 +3,7 @@ use Rattle.std.specs.Prelude.{◌≡◌, ℕ, Bool, if◌then◌else◌, List, O
 use Rattle.std.specs.Io.KnownBytes.{Appends}
 use Rattle.shown_states.specs.declared.form.Ending.{Ending}
 use Rattle.shown_states.specs.declared.form.Ending.TheVariants.{Done, Unfinished, Nowhere}
+use Rattle.shown_states.specs.declared.form.Ending.TheVariants.{Violated}
 use Rattle.sinks.specs.Sinks.{TakesPrefix}
 use Rattle.sinks.specs.declared.fault.WriteFault.{WriteFault}
 use Rattle.sinks.specs.declared.fault.WriteFault.TheVariants.{Write, NoMemory}
@@ -13,6 +14,7 @@ abbrev pub status_of : Ending → ℕ
 status_of Done = 0
 status_of Unfinished = 4
 status_of Nowhere = 5
+status_of (Violated line) = 1
 
 -- an answer speaks of all states, or of those that were kept
 abbrev pub ending_of : Bool → Ending

@@ -21,6 +21,8 @@ pub enum Ending {
     Unfinished,
     /// No state is one that was looked for.
     Nowhere,
+    /// The property on the line of this number is violated, and none before it.
+    Violated(usize),
 }
 
 impl Ending {
@@ -43,6 +45,7 @@ impl Ending {
             Ending::Done => 0,
             Ending::Unfinished => 4,
             Ending::Nowhere => 5,
+            Ending::Violated(_) => 1,
         }
     }
 }
