@@ -1,0 +1,60 @@
+-- What was found is an answer.
+use Rattle.std.proofs.Common.{◌≡◌, ℕ, List, [], ◌∷◌, ◌∙◌, Bool, true, false, refl, sym, subst}
+use Rattle.std.specs.Prelude.{Option}
+use Rattle.cheri_model.specs.runs.Image.{ImageParts}
+use Rattle.explore_checks.specs.CheckParts.{checked_whole}
+use Rattle.explore_checks.proofs.JsonLemmas.{whole_is}
+use Rattle.explore_checks.specs.Checks.{ending_of, IsCheckAnswer, IsSearched}
+use Rattle.explore_properties.specs.Properties.{PropertyParts}
+use Rattle.explore_sights.specs.declared.sights.Sight.{Sight}
+use Rattle.explore_sights.specs.declared.sights.Sight.TheVariants as sights
+use Rattle.explore_sights.specs.declared.watches.Watch.{Watch}
+use Rattle.explore_verdicts.specs.Deciding.{AreSeen, watches_of}
+use Rattle.explore_verdicts.specs.Verdicts.{AreVerdicts}
+use Rattle.explore_verdicts.specs.declared.verdict.PropertyVerdict.{PropertyVerdict}
+use Rattle.explore_verdicts.proofs.WatchLemmas.{watches_seen}
+use Rattle.shown_states.specs.declared.form.Ending.{Ending}
+use Rattle.shown_states.specs.declared.form.Format.{Format}
+use Rattle.state_loops.specs.Endless.{IsEndless, IsSame}
+use Rattle.state_loops.specs.declared.endless.Endless.{Endless}
+use Rattle.states.specs.Kept.{KeptParts, count, IsKeptOf, IsSearch}
+use Rattle.states.specs.Searches.{SearchParts}
+
+pub searched_is : (search : SearchParts) (properties : List PropertyParts) (watches : List Watch) (old kept : KeptParts) (endless : Endless)
+    → watches ≡ watches_of properties → IsKeptOf search (sights.Watches watches) old → old.limit ≡ search.limit → IsSame old kept
+    → IsSearch kept → IsEndless kept endless → IsSearched search properties kept endless
+searched_is search properties watches old kept endless watches_are kept_of limit_is same searched forever =
+    let of = subst (λ (ws : List Watch). IsKeptOf search (sights.Watches ws) old) watches_are kept_of in
+    record {
+      kept_of = record {
+        image_is = same.image ∙ of.image_is;
+        sweeps_are = same.sweeps ∙ of.sweeps_are;
+        sight_is = same.sight ∙ of.sight_is;
+      };
+      limit_is = same.limit ∙ limit_is;
+      searched = searched;
+      forever = forever;
+    }
+
+-- the search passed over no state that decides
+pub searched_seen : (search : SearchParts) (properties : List PropertyParts) (kept : KeptParts) (endless : Endless)
+    → IsSearched search properties kept endless → AreSeen kept.sight properties
+searched_seen search properties kept endless searched =
+    subst (λ (s : Sight). AreSeen s properties) (sym searched.kept_of.sight_is) (watches_seen search.every_step properties)
+
+pub answer_is : (search : SearchParts) (properties : List PropertyParts) (format : Format) (kept : KeptParts) (endless : Endless)
+    (verdicts told shown : List PropertyVerdict) (complete : Bool) (image : ImageParts) (states : ℕ) (text : List ℕ) (ending : Ending)
+    → IsSearched search properties kept endless → AreVerdicts kept endless properties verdicts → told ≡ verdicts → shown ≡ verdicts
+    → complete ≡ kept.complete → image ≡ kept.image → states ≡ count kept
+    → text ≡ checked_whole format complete image states told → ending ≡ ending_of shown
+    → IsCheckAnswer search properties format text ending
+answer_is search properties format kept endless verdicts told shown complete image states text ending searched are told_are shown_are
+    complete_is image_is states_are text_is ending_is = record {
+      kept = kept;
+      endless = endless;
+      searched = searched;
+      verdicts = verdicts;
+      are = are;
+      text_is = rw (complete_is, image_is, states_are, told_are) at (text_is ∙ whole_is format complete image states told);
+      ending_is = rw shown_are at ending_is;
+    }

@@ -1,0 +1,4 @@
+pub mod Unfold
+pub mod JsonLemmas
+pub mod CheckLemmas
+pub mod EndingLemmas

@@ -1,0 +1,3 @@
+pub mod CheckTexts
+pub mod CheckParts
+pub mod Checks
