@@ -114,13 +114,17 @@ def outcomes_text(answer):
     if "answer" in answer:
         lines = [f"found order={answer['order']}", *state_lines(answer["state"])]
         return "\n".join(lines) + "\nend\n"
-    kind = "authority" if "memory" in answer else "outcomes"
+    kind = "authority" if "memory" in answer else "check" if "properties" in answer else "outcomes"
     lines = [f"cheri-sim {kind} {answer['explore']}", image_text(answer["image"])]
     lines.append(f"states {answer['states']} {'complete' if answer['complete'] else 'unfinished'}")
     if kind == "authority":
         for number, held in enumerate(answer["harts"]):
             lines += [f"hart {number}", *held_lines(held)]
         lines += ["memory", *held_lines(answer["memory"])]
+    elif kind == "check":
+        for one in answer["properties"]:
+            run = "".join(f" {name}={one[name]}" for name in ("order", "loop") if name in one)
+            lines.append(f"line {one['line']} {one['answer']}{run} | {one['property']}")
     elif "shown" in answer:
         lines += [endless_text(answer["endless"]), f"outcomes {sum(row['states'] for row in answer['shown'])}"]
         lines.append(f"shown {len(answer['shown'])}")
@@ -150,7 +154,8 @@ KINDS = {
     "explanation": (explanation_text, ("at", "clears", "leaves", "reads", "sets"),
                     ("use_after_free.2", "traps_01.1", "overwrite.1"),
                     lambda explanation: {**explanation, "explanation": 2}),
-    "outcomes": (outcomes_text, (), ("lock", "lost_update.shown", "leak.found", "lock.none", "leak.authority"),
+    "outcomes": (outcomes_text, (), ("lock", "lost_update.shown", "leak.found", "lock.none", "leak.authority",
+                               "lock.checked"),
                  lambda answer: {**answer, "explore": 2}),
 }
 # objects whose members are named by places

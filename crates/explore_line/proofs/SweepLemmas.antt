@@ -4,73 +4,13 @@ use Rattle.std.proofs.lemmas.List.{length-map}
 use Rattle.std.proofs.lemmas.Bool.Decides.{nat_tests}
 use Rattle.std.specs.Borrow.{Bor}
 use Rattle.std.specs.List.{slice_index_or}
-use Rattle.std.specs.List.{position}
 use Rattle.std.specs.Prelude.{option_map}
 use Rattle.clap.specs.Words.{Text}
-use Rattle.text_numbers.specs.Numerals.{number_of}
-use Rattle.text_numbers.proofs.NumeralLemmas.{kept_of, number_read, none_read}
 use Rattle.command_line.specs.Found.{◌>>=◌}
-use Rattle.command_line.proofs.NumberLemmas.{both_false}
-use Rattle.explore_line.specs.Sweeps.{few_sweeps_of, sweep_of, sweep_within, sweeps_of}
-use Rattle.explore_line.specs.declared.sweeps.Sweep.{Sweep}
-use Rattle.explore_line.specs.declared.sweeps.TheConstants.{MAX_SWEEPS}
-
--- ---- one sweep
-
-abbrev pub is_comma : ℕ → Bool
-is_comma b = b == 0x2C
-
-pub no_comma : (arg : Text) → None ≡ position is_comma arg → None ≡ sweep_of arg
-unfolding sweep_of
-no_comma arg is = rw (← is) refl
-
--- a range that ends, or begins, outside the address space
-none_of_low : (lo hi : ℕ) → 2 ^ 128 ≤ lo → None ≡ sweep_within lo hi
-none_of_low lo hi beyond =
-    let above : nat_lt lo (2 ^ 64) ≡ false = grind (arith, nat_tests) in
-    rw (above, both_false (nat_le lo hi && nat_le hi (2 ^ 64))) refl
-
-none_of_high : (lo hi : ℕ) → 2 ^ 128 ≤ hi → None ≡ sweep_within lo hi
-none_of_high lo hi beyond =
-    let above : nat_le hi (2 ^ 64) ≡ false = grind (arith, nat_tests) in
-    rw (above, both_false (nat_le lo hi)) refl
-
--- whatever the other end is
-none_from : (lo : ℕ) (high : Option ℕ) → 2 ^ 128 ≤ lo → None ≡ (high >>= (λ hi. sweep_within lo hi))
-none_from lo None beyond = refl
-none_from lo (Some hi) beyond = none_of_low lo hi beyond
-
-pub no_low : (arg : Text) (comma : ℕ) → Some comma ≡ position is_comma arg →
-    None ≡ kept_of (number_of (take comma arg)) → None ≡ sweep_of arg
-unfolding sweep_of
-no_low arg comma at is = elim (none_read (number_of (take comma arg)) is) [
-  | inl none ↦ rw (← at, none) refl
-  | inr beyond ↦ rw (← at, beyond.1) (none_from beyond.0 (number_of (drop (comma + 1) arg)) beyond.2)
-]
-
-pub no_high : (arg : Text) (comma lo : ℕ) → Some comma ≡ position is_comma arg →
-    Some lo ≡ kept_of (number_of (take comma arg)) →
-    None ≡ kept_of (number_of (drop (comma + 1) arg)) → None ≡ sweep_of arg
-unfolding sweep_of
-no_high arg comma lo at low is =
-    let start = number_read (number_of (take comma arg)) lo low in
-    elim (none_read (number_of (drop (comma + 1) arg)) is) [
-      | inl none ↦ rw (← at, start, none) refl
-      | inr beyond ↦ rw (← at, start, beyond.1) (none_of_high lo beyond.0 beyond.2)
-    ]
-
-pub swept : (arg : Text) (comma lo hi : ℕ) → Some comma ≡ position is_comma arg →
-    Some lo ≡ kept_of (number_of (take comma arg)) →
-    Some hi ≡ kept_of (number_of (drop (comma + 1) arg)) → sweep_within lo hi ≡ sweep_of arg
-unfolding sweep_of
-swept arg comma lo hi at low high =
-    let start = number_read (number_of (take comma arg)) lo low in
-    let end = number_read (number_of (drop (comma + 1) arg)) hi high in
-    rw (← at, start, end) refl
-
-pub ruleset sweep_parts = (no_comma, no_low, no_high, swept)
-
--- ---- all sweeps
+use Rattle.explore_line.specs.Sweeps.{few_sweeps_of, sweeps_of}
+use Rattle.explore_sweeps.specs.Sweeps.{sweep_of}
+use Rattle.explore_sweeps.specs.declared.Sweep.{Sweep}
+use Rattle.explore_sweeps.specs.declared.TheConstants.{MAX_SWEEPS}
 
 abbrev texts : List (Bor Text) → List Text
 texts args = map (λ arg. arg.now) args

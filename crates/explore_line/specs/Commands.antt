@@ -8,11 +8,15 @@ use Rattle.command_line.specs.Arguments.{flag, required_word, single_option, wan
 abbrev pub repeated_option : Text → Rule
 repeated_option name = record (new_rule name) { long = Some name; action = Some Append }
 
--- `[--sweep LO,HI].. [--states N] [--steps] [--json]`, which each command takes
+-- `[--states N] [--steps] [--json]`, which each command takes
+abbrev pub with_options : App → App
+with_options app =
+    with_rule (with_rule (with_rule app (single_option (codes "states"))) (flag (codes "steps")))
+    (flag (codes "json"))
+
+-- and before them `[--sweep LO,HI]..`
 abbrev pub with_search_options : App → App
-with_search_options app =
-    with_rule (with_rule (with_rule (with_rule app (repeated_option (codes "sweep")))
-    (single_option (codes "states"))) (flag (codes "steps"))) (flag (codes "json"))
+with_search_options app = with_options (with_rule app (repeated_option (codes "sweep")))
 
 -- `outcomes LISTING [--show ITEM[,ITEM]..]`
 abbrev pub outcomes_command : App
@@ -31,11 +35,15 @@ abbrev pub authority_command : App
 authority_command =
     with_search_options (with_rule (new_app (codes "authority")) (required_word (codes "listing")))
 
+-- `check LISTING`, whose sweeps are lines of the listing
+abbrev pub check_command : App
+check_command = with_options (with_rule (new_app (codes "check")) (required_word (codes "listing")))
+
 -- the program, which wants one of these
 abbrev pub explore_alone : App
 explore_alone = wanting_subcommand (new_app (codes "cheri_explore"))
 
 abbrev pub explore_program : App
 explore_program =
-    with_subcommand (with_subcommand (with_subcommand explore_alone outcomes_command.top)
-    find_command.top) authority_command.top
+    with_subcommand (with_subcommand (with_subcommand (with_subcommand explore_alone
+    outcomes_command.top) find_command.top) authority_command.top) check_command.top

@@ -7,7 +7,7 @@ use Rattle.command_line.specs.Numbers.{number_or}
 use Rattle.command_line.specs.declared.found.Format.{Format}
 use Rattle.explore_line.specs.Commands.{explore_program}
 use Rattle.explore_line.specs.Sweeps.{sweeps_in}
-use Rattle.explore_line.specs.declared.sweeps.Sweep.{Sweep}
+use Rattle.explore_sweeps.specs.declared.Sweep.{Sweep}
 use Rattle.explore_line.specs.declared.requests.TheConstants.{GREATEST_STATES, USUAL_STATES}
 use Rattle.explore_line.specs.declared.requests.Question.{Question}
 use Rattle.explore_line.specs.declared.requests.Question.TheVariants as questions
@@ -18,6 +18,7 @@ pub data AskedQuestion : Type 0 where
   Outcomes : Option Text → AskedQuestion
   Find : Text → AskedQuestion
   Authority : AskedQuestion
+  Check : AskedQuestion
 
 pub record ExploreAsked : Type 0 where
   pub listing : Text
@@ -31,6 +32,7 @@ abbrev pub question_asked_by : Question → AskedQuestion
 question_asked_by (questions.Outcomes show) = Outcomes (option_map (λ items. items.now) show)
 question_asked_by (questions.Find condition) = Find condition.now
 question_asked_by questions.Authority = Authority
+question_asked_by questions.Check = Check
 
 abbrev pub explore_asked_by : ExploreRequest → ExploreAsked
 explore_asked_by request = record {
@@ -48,6 +50,7 @@ question_of name rows =
     if bytes_eq name (codes "outcomes") then Some (Outcomes (first_of (codes "show") rows))
     else if bytes_eq name (codes "find") then option_map Find (first_of (codes "condition") rows)
     else if bytes_eq name (codes "authority") then Some Authority
+    else if bytes_eq name (codes "check") then Some Check
     else None
 
 -- what the command of this name asks for with these arguments

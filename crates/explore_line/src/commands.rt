@@ -5,10 +5,12 @@ ghost use Rattle.clap.specs.Words.{app_of, rule_of};
 ghost use Rattle.command_line.specs.Arguments.{has_globals};
 ghost use Rattle.explore_line.specs.Commands.{
   authority_command,
+  check_command,
   explore_program,
   find_command,
   outcomes_command,
   repeated_option,
+  with_options,
   with_search_options,
 };
 
@@ -24,16 +26,25 @@ fn repeated_option<'a>(alloc: Global, name: &'a str) -> Arg<'a>
     Arg::new(alloc, name).long(name).action(ArgAction::Append)
 }
 
-/// A command with the options of a search: `[--sweep LO,HI].. [--states N] [--steps] [--json]`.
+/// A command with the options of each: `[--states N] [--steps] [--json]`.
+fn with_options<'a>(alloc: Global, command: Command<'a>) -> Result<Command<'a>, AllocError>
+    ensures app { IfOk result (λ more. app_of more ≡ with_options (app_of command.entry)) }
+    ensures local { has_globals command.entry ≡ false
+        → IfOk result (λ more. has_globals more ≡ false) }
+{
+    let with_states = command.arg(single_option(alloc, "states"))?;
+    let with_steps = with_states.arg(flag(alloc, "steps"))?;
+    with_steps.arg(flag(alloc, "json"))
+}
+
+/// A command with the options of a search: `[--sweep LO,HI]..` and those of each.
 fn with_search_options<'a>(alloc: Global, command: Command<'a>) -> Result<Command<'a>, AllocError>
     ensures app { IfOk result (λ more. app_of more ≡ with_search_options (app_of command.entry)) }
     ensures local { has_globals command.entry ≡ false
         → IfOk result (λ more. has_globals more ≡ false) }
 {
     let with_sweeps = command.arg(repeated_option(alloc, "sweep"))?;
-    let with_states = with_sweeps.arg(single_option(alloc, "states"))?;
-    let with_steps = with_states.arg(flag(alloc, "steps"))?;
-    with_steps.arg(flag(alloc, "json"))
+    with_options(alloc, with_sweeps)
 }
 
 /// `outcomes LISTING [--show ITEM[,ITEM]..]`.
@@ -67,6 +78,15 @@ fn authority_command<'a>(alloc: Global) -> Result<Command<'a>, AllocError>
     with_search_options(alloc, command)
 }
 
+/// `check LISTING`.
+fn check_command<'a>(alloc: Global) -> Result<Command<'a>, AllocError>
+    ensures app { IfOk result (λ command. app_of command ≡ check_command) }
+    ensures local { IfOk result (λ command. has_globals command ≡ false) }
+{
+    let command = Command::new(alloc, "check").arg(required(alloc, "listing"))?;
+    with_options(alloc, command)
+}
+
 /// The program's command: it wants one of these subcommands.
 pub(crate) fn explore_command<'a>(alloc: Global) -> Result<Command<'a>, AllocError>
     ensures { IfOk result (λ command. app_of command ≡ explore_program) }
@@ -74,5 +94,6 @@ pub(crate) fn explore_command<'a>(alloc: Global) -> Result<Command<'a>, AllocErr
     let alone = Command::new(alloc, "cheri_explore").subcommand_required(true);
     let with_outcomes = alone.subcommand(outcomes_command(alloc)?)?;
     let with_find = with_outcomes.subcommand(find_command(alloc)?)?;
-    with_find.subcommand(authority_command(alloc)?)
+    let with_authority = with_find.subcommand(authority_command(alloc)?)?;
+    with_authority.subcommand(check_command(alloc)?)
 }

@@ -2,9 +2,9 @@
 //! them by.
 
 ghost use Rattle.std.specs.Prelude.{◌≡◌, Some, None, true, false, [], ◌∷◌, codes};
-ghost use Rattle.explore_line.specs.Requests.{Authority, Find, Outcomes, explore_asked};
+ghost use Rattle.explore_line.specs.Requests.{Authority, Check, Find, Outcomes, explore_asked};
 ghost use Rattle.explore_line.specs.declared.requests.TheConstants.{GREATEST_STATES, USUAL_STATES};
-ghost use Rattle.explore_line.specs.declared.sweeps.TheConstants.{MAX_SWEEPS};
+ghost use Rattle.explore_sweeps.specs.declared.TheConstants.{MAX_SWEEPS};
 
 use command_line::Format;
 
@@ -155,6 +155,22 @@ pub fn known_explore_lines()
         ≡ None }
     ensures shown_authority { explore_asked (codes "cheri_explore" ∷ codes "authority"
         ∷ codes "first.lst" ∷ codes "--show" ∷ codes "0.c1" ∷ [])
+        ≡ None }
+    ensures check { explore_asked (codes "cheri_explore" ∷ codes "check" ∷ codes "first.lst"
+        ∷ codes "--steps" ∷ codes "--json" ∷ codes "--states=7" ∷ [])
+        ≡ Some (record {
+          listing = codes "first.lst";
+          sweeps = [];
+          states = 7;
+          every_step = true;
+          form = Format.Json;
+          question = Check;
+        }) }
+    ensures check_with_sweep { explore_asked (codes "cheri_explore" ∷ codes "check"
+        ∷ codes "first.lst" ∷ codes "--sweep" ∷ codes "0,1" ∷ [])
+        ≡ None }
+    ensures check_of_condition { explore_asked (codes "cheri_explore" ∷ codes "check"
+        ∷ codes "first.lst" ∷ codes "0 is halted" ∷ [])
         ≡ None }
     ensures without_condition { explore_asked (codes "cheri_explore" ∷ codes "find"
         ∷ codes "first.lst" ∷ [])

@@ -12,9 +12,9 @@ mod sweeps;
 use crate::commands::explore_command;
 use crate::requests::explore_met;
 use command_line::CommandFault;
+pub use explore_sweeps::{MAX_SWEEPS, Sweep};
 pub use requests::{ExploreRequest, GREATEST_STATES, Question, USUAL_STATES};
 use std::alloc::Global;
-pub use sweeps::{MAX_SWEEPS, Sweep};
 
 /// What the arguments ask `cheri_explore` for, of which the first is the program's name. `Usage`
 /// means that they ask for nothing; out of memory can be reported for any

@@ -10,13 +10,14 @@ ghost use Rattle.explore_line.specs.Requests.{
   question_asked_by,
   question_of,
 };
-ghost use Rattle.explore_line.specs.declared.sweeps.TheConstants.{MAX_SWEEPS};
+ghost use Rattle.explore_sweeps.specs.declared.TheConstants.{MAX_SWEEPS};
 
-use crate::sweeps::{Sweep, sweeps_found};
+use crate::sweeps::sweeps_found;
 use clap::ArgMatches;
 use command_line::found::{flag_found, form_found, value_found};
 use command_line::numbers::number_or;
 use command_line::{CommandFault, Format};
+use explore_sweeps::Sweep;
 use std::alloc::Global;
 
 /// The most states that a search may keep.
@@ -34,6 +35,8 @@ pub enum Question<'a> {
     Find { condition: &'a str },
     /// Which authority each hart, and memory, ever has.
     Authority,
+    /// Whether the properties hold that the listing carries.
+    Check,
 }
 
 /// What a command line asks for: to search the states that the image of the listing in the file of
@@ -64,6 +67,7 @@ fn question_of<'a>(name: &str, found: &ArgMatches<'a>) -> Option<Question<'a>>
             Some(Question::Find { condition })
         },
         "authority" => Some(Question::Authority),
+        "check" => Some(Question::Check),
         _ => None,
     }
 }

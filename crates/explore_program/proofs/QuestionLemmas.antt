@@ -1,5 +1,5 @@
 -- What was printed to a question, as the ending of a command.
-use Rattle.std.proofs.Common.{◌≡◌, ℕ, List, Option, Result, Ok, Err, refl, sym, subst, inl}
+use Rattle.std.proofs.Common.{◌≡◌, ℕ, List, map, Option, Result, Ok, Err, refl, sym, subst, inl}
 use Rattle.conditions.specs.declared.parts.Node.{Node}
 use Rattle.conditions.specs.declared.fault.TextFault.{TextFault}
 use Rattle.conditions.specs.declared.fault.TextFault.TheVariants as texts
@@ -10,8 +10,17 @@ use Rattle.shown_states.specs.declared.form.Ending.{Ending}
 use Rattle.sinks.specs.declared.fault.WriteFault.{WriteFault}
 use Rattle.sinks.specs.declared.fault.WriteFault.TheVariants as written
 use Rattle.program_io.specs.Faults.{written_fault}
-use Rattle.explore_program.specs.Faults.{Fault, failure_of, text_fault}
-use Rattle.explore_program.specs.Questions.{IsSaid, IsSaidOf}
+use Rattle.explore_program.specs.Faults.{Fault, failure_of, property_fault, refused_properties, text_fault}
+use Rattle.explore_checks.specs.Checks.{IsCheckAnswer}
+use Rattle.explore_properties.specs.Properties.{PropertiesParts, PropertyParts}
+use Rattle.explore_properties.specs.Reading.{GivesPlace}
+use Rattle.explore_properties.specs.declared.fault.PropertyFault.{PropertyFault}
+use Rattle.explore_properties.specs.declared.fault.PropertyFault.TheVariants as properties
+use Rattle.explore_properties.specs.declared.fault.PropertyPlace.{PropertyPlace}
+use Rattle.explore_program.specs.Questions.{IsSaid, IsSaidOf, range_of, swept_by}
+use Rattle.schedules.specs.declared.ranges.SweepRange.{SweepRange}
+use Rattle.shown_states.specs.declared.form.Format.{Format}
+use Rattle.states.specs.Searches.{SearchParts}
 use Rattle.conditions.specs.Items.{ItemList, GivesItems}
 
 -- an answer that was not written whole
@@ -26,26 +35,48 @@ unwritten IsSo IsAnswer written.NoMemory old new so none = inl none
 -- ---- questions that a text writes
 
 -- what the text writes is asked
-pub said_of : {X : Type 0} (fault : ℕ → TextFault) (answers : X → List ℕ → Ending → Type 0) (meaning : Result X ℕ) (x : X)
+pub said_of : {X E : Type 0} (fault : E → Fault) (answers : X → List ℕ → Ending → Type 0) (meaning : Result X E) (x : X)
     → meaning ≡ Ok x → (answer : Answer Ending Fault) → IsSaid (answers x) answer → IsSaidOf fault answers meaning answer
-said_of {X} fault answers meaning x is answer said =
-    subst (λ (m : Result X ℕ). IsSaidOf fault answers m answer) (sym is) said
+said_of {X} {E} fault answers meaning x is answer said =
+    subst (λ (m : Result X E). IsSaidOf fault answers m answer) (sym is) said
 
-refused_by : {X : Type 0} (fault : ℕ → TextFault) (answers : X → List ℕ → Ending → Type 0) (meaning : Result X ℕ) (byte : ℕ)
-    → meaning ≡ Err byte → IsSaidOf fault answers meaning (Err (text_fault (fault byte)))
-refused_by {X} fault answers meaning byte is =
-    subst (λ (m : Result X ℕ). IsSaidOf fault answers m (Err (text_fault (fault byte)))) (sym is) refl
+refused_by : {X E : Type 0} (fault : E → Fault) (answers : X → List ℕ → Ending → Type 0) (meaning : Result X E) (e : E)
+    → meaning ≡ Err e → IsSaidOf fault answers meaning (Err (fault e))
+refused_by {X} {E} fault answers meaning e is =
+    subst (λ (m : Result X E). IsSaidOf fault answers m (Err (fault e))) (sym is) refl
+
+abbrev pub condition_fault : ℕ → Fault
+condition_fault byte = text_fault (texts.Condition byte)
+
+abbrev pub place_fault : ℕ → Fault
+place_fault byte = text_fault (texts.Place byte)
 
 pub condition_fails : (answers : List Node → List ℕ → Ending → Type 0) (meaning : Result (List Node) ℕ) (fault : TextFault)
     (old new : Option (List ℕ)) → GivesCondition (Err fault) meaning → new ≡ old
-    → FailsBy (failure_of (text_fault fault)) (IsSaidOf texts.Condition answers meaning) (text_fault fault) old new
-condition_fails answers meaning (texts.Condition byte) old new is same = (refused_by texts.Condition answers meaning byte is, same)
+    → FailsBy (failure_of (text_fault fault)) (IsSaidOf condition_fault answers meaning) (text_fault fault) old new
+condition_fails answers meaning (texts.Condition byte) old new is same = (refused_by condition_fault answers meaning byte is, same)
 condition_fails answers meaning (texts.Place byte) old new is same = absurd is
 condition_fails answers meaning texts.NoMemory old new is same = inl same
 
 pub items_fail : (answers : ItemList → List ℕ → Ending → Type 0) (meaning : Result ItemList ℕ) (fault : TextFault)
     (old new : Option (List ℕ)) → GivesItems (Err fault) meaning → new ≡ old
-    → FailsBy (failure_of (text_fault fault)) (IsSaidOf texts.Place answers meaning) (text_fault fault) old new
-items_fail answers meaning (texts.Place byte) old new is same = (refused_by texts.Place answers meaning byte is, same)
+    → FailsBy (failure_of (text_fault fault)) (IsSaidOf place_fault answers meaning) (text_fault fault) old new
+items_fail answers meaning (texts.Place byte) old new is same = (refused_by place_fault answers meaning byte is, same)
 items_fail answers meaning (texts.Condition byte) old new is same = absurd is
 items_fail answers meaning texts.NoMemory old new is same = inl same
+
+pub properties_fail : (answers : PropertiesParts → List ℕ → Ending → Type 0) (meaning : Result PropertiesParts PropertyPlace)
+    (fault : PropertyFault) (old new : Option (List ℕ)) → GivesPlace (Err fault) meaning → new ≡ old
+    → FailsBy (failure_of (refused_properties fault)) (IsSaidOf property_fault answers meaning) (refused_properties fault) old new
+properties_fail answers meaning (properties.Place place) old new is same = (refused_by property_fault answers meaning place is, same)
+properties_fail answers meaning properties.NoMemory old new is same = inl same
+
+-- what was read of a listing is checked
+pub check_asked : (search : SearchParts) (sweeps : List SweepRange) (read : PropertiesParts) (list : List PropertyParts) (format : Format)
+    (meaning : Result PropertiesParts PropertyPlace) → meaning ≡ Ok read → sweeps ≡ map range_of read.sweeps → list ≡ read.properties
+    → (answer : Answer Ending Fault) → IsSaid (IsCheckAnswer (record search { sweeps = sweeps }) list format) answer
+    → IsSaidOf property_fault (λ r. IsCheckAnswer (swept_by search r) r.properties format) meaning answer
+check_asked search sweeps read list format meaning is sweeps_are list_is answer said =
+    said_of property_fault (λ r. IsCheckAnswer (swept_by search r) r.properties format) meaning read is answer
+    (subst (λ (ss : List SweepRange). IsSaid (IsCheckAnswer (record search { sweeps = ss }) read.properties format) answer) sweeps_are
+    (subst (λ (ps : List PropertyParts). IsSaid (IsCheckAnswer (record search { sweeps = sweeps }) ps format) answer) list_is said))

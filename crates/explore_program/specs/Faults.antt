@@ -3,13 +3,18 @@
 use Rattle.std.specs.Prelude.{ℕ, Bool, true, false, List, ◌++◌, codes, decimal}
 use Rattle.conditions.specs.declared.fault.TextFault.{TextFault}
 use Rattle.conditions.specs.declared.fault.TextFault.TheVariants as texts
-use Rattle.printing.specs.Endings.{Failure, Refused}
+use Rattle.printing.specs.Endings.{Failure, Refused, Stopped}
 use Rattle.program_io.specs.Faults as faults
 use Rattle.program_io.specs.declared.fault.Fault.{Fault as FaultOf}
 use Rattle.program_io.specs.declared.fault.Fault.TheVariants.{Own}
 use Rattle.shown_states.specs.declared.form.Ending.{Ending}
 use Rattle.explore_program.specs.declared.faults.OwnFault.{OwnFault}
 use Rattle.explore_program.specs.declared.faults.OwnFault.TheVariants.{BadCondition, BadPlace}
+use Rattle.explore_program.specs.declared.faults.OwnFault.TheVariants.{BadProperty, Violated}
+use Rattle.explore_properties.specs.declared.fault.PropertyFault.{PropertyFault}
+use Rattle.explore_properties.specs.declared.fault.PropertyFault.TheVariants as properties
+use Rattle.explore_properties.specs.declared.fault.PropertyPlace.{PropertyPlace}
+use Rattle.shown_states.specs.declared.form.Ending.TheVariants as endings
 
 -- why the program answers nothing, or not all
 abbrev pub Fault : Type 0
@@ -19,22 +24,37 @@ Fault = FaultOf OwnFault
 abbrev pub own_text : OwnFault → List ℕ
 own_text (BadCondition byte) = codes "bad condition at byte " ++ decimal byte
 own_text (BadPlace byte) = codes "bad place at byte " ++ decimal byte
+own_text (BadProperty place) =
+    codes "bad property at line " ++ (decimal place.line ++ (codes " byte " ++ decimal place.byte))
+own_text (Violated line) = codes "property line " ++ (decimal line ++ codes ": violated")
 
--- a condition or an item was refused
+-- a condition, an item or a property was refused, or a property is violated
 abbrev pub is_refusal : OwnFault → Bool
 is_refusal (BadCondition byte) = true
 is_refusal (BadPlace byte) = true
+is_refusal (BadProperty place) = true
+is_refusal (Violated line) = true
 
 -- what it leaves of the answer
 abbrev pub own_failure : OwnFault → Failure Ending
 own_failure (BadCondition byte) = Refused
 own_failure (BadPlace byte) = Refused
+own_failure (BadProperty place) = Refused
+own_failure (Violated line) = Stopped (endings.Violated line)
 
 -- a text that was not read
 abbrev pub text_fault : TextFault → Fault
 text_fault (texts.Condition byte) = Own (BadCondition byte)
 text_fault (texts.Place byte) = Own (BadPlace byte)
 text_fault texts.NoMemory = faults.no_memory
+
+-- properties that were not read
+abbrev pub property_fault : PropertyPlace → Fault
+property_fault place = Own (BadProperty place)
+
+abbrev pub refused_properties : PropertyFault → Fault
+refused_properties (properties.Place place) = property_fault place
+refused_properties properties.NoMemory = faults.no_memory
 
 -- the line of any fault, its status, and what it leaves of the answer, which is made whole before
 -- it is printed

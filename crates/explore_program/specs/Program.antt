@@ -1,5 +1,5 @@
 -- What the program answers to its command line, and how it ends.
-use Rattle.std.specs.Prelude.{◌≡◌, ℕ, ◌⊎◌, List, map, codes, Option, Some, None, Result, Ok, Err}
+use Rattle.std.specs.Prelude.{◌≡◌, ℕ, ◌⊎◌, Bool, true, false, List, map, codes, Option, Some, None, Result, Ok, Err}
 use Rattle.std.specs.Prelude.{String}
 use Rattle.std.specs.Global.{Global}
 use Rattle.cheri_model.specs.runs.Image.{ImageParts}
@@ -14,12 +14,14 @@ use Rattle.inputs.specs.declared.fault.InputFault.TheVariants.{CannotReadListing
 use Rattle.printing.specs.Endings.{Answer, EndsBy, FailsBy, HasWhole}
 use Rattle.shown_states.specs.Endings as endings
 use Rattle.shown_states.specs.declared.form.Ending.{Ending}
+use Rattle.shown_states.specs.declared.form.Ending.TheVariants as kinds
 use Rattle.shown_states.specs.declared.form.Format.{Format}
 use Rattle.shown_states.specs.declared.form.Format.TheVariants.{Text, Json}
 use Rattle.program_io.specs.Endings.{IsTold}
-use Rattle.program_io.specs.declared.fault.Fault.TheVariants.{Usage, Input}
+use Rattle.program_io.specs.declared.fault.Fault.TheVariants.{Usage, Input, Own}
 use Rattle.states.specs.Searches.{SearchParts}
 use Rattle.explore_program.specs.Faults.{Fault, failure_of, fault_text, status_of}
+use Rattle.explore_program.specs.declared.faults.OwnFault.TheVariants.{Violated}
 use Rattle.explore_program.specs.Questions.{IsSaidTo, range_of}
 
 -- the command line of the arguments that are given after the program's name
@@ -39,10 +41,11 @@ search_asked image asked = record {
   limit = asked.states;
 }
 
--- the answers to a request about a listing with these labels and this image
-abbrev pub IsRequestAnswer : LabelParts → ImageParts → ExploreAsked → Answer Ending Fault → Type 0
-IsRequestAnswer labels image asked answer =
-    IsSaidTo asked.question labels (search_asked image asked) (format_of asked.form) answer
+-- the answers to a request about the listing that has this text, these labels and this image
+abbrev pub IsRequestAnswer : LabelParts → List ℕ → ImageParts → ExploreAsked → Answer Ending Fault
+    → Type 0
+IsRequestAnswer labels text image asked answer =
+    IsSaidTo asked.question labels text (search_asked image asked) (format_of asked.form) answer
 
 -- the answers to a request; `usage` where the arguments ask for nothing
 abbrev pub IsAnswer : KnownFiles → Option ExploreAsked → Answer Ending Fault → Type 0
@@ -50,14 +53,20 @@ IsAnswer files None answer = answer ≡ Err Usage
 IsAnswer files (Some asked) answer =
     OfFile (files asked.listing) (Err (Input CannotReadListing))
     (λ bytes. OfMeant (image_meant bytes) (λ refused. Err (Input refused))
-    (λ image. IsRequestAnswer (labels_of bytes) image asked answer) answer) answer
+    (λ image. IsRequestAnswer (labels_of bytes) bytes image asked answer) answer) answer
 
--- it ends with an answer that was printed whole, and says nothing else
+-- a property is violated
+abbrev pub is_violation : Ending → Bool
+is_violation (kinds.Violated line) = true
+is_violation _ = false
+
+-- It ends with an answer that was printed whole and tells of no violation, and says nothing else.
 pub record Done (files : KnownFiles) (request : Option ExploreAsked) (status : ℕ)
     (old new err_old err_new : Option (List ℕ)) : Type 0 where
-  pub ending : Ending
-  pub status_is : status ≡ endings.status_of ending
-  pub printed : HasWhole (IsAnswer files request) ending old new
+  pub ended : Ending
+  pub good : is_violation ended ≡ false
+  pub status_is : status ≡ endings.status_of ended
+  pub printed : HasWhole (IsAnswer files request) ended old new
   pub stderr : err_new ≡ err_old
 
 -- it fails with this exit status; standard error got the fault's line, or a prefix of it
@@ -78,8 +87,10 @@ pub record Ends {Terminal : Type 0} (terminal : Option Terminal) (files : KnownF
   pub ends : Done files request status old new err_now err_new
       ⊎ FailsWith files request status old new err_now err_new
 
--- A command that ended so has this exit status; of a fault standard error got the line, or a prefix
--- of it.
+-- A command that ended so has this exit status; of a violation or a fault standard error got the
+-- line, or a prefix of it.
 abbrev pub Concludes : Result Ending Fault → ℕ → Option (List ℕ) → Option (List ℕ) → Type 0
+Concludes (Ok (kinds.Violated line)) status old new =
+    IsTold status_of fault_text (Own (Violated line)) status old new
 Concludes (Ok ending) status old new = (status ≡ endings.status_of ending) × (new ≡ old)
 Concludes (Err fault) status old new = IsTold status_of fault_text fault status old new

@@ -1,10 +1,9 @@
 -- What is answered to each question, of the image of a listing.
-use Rattle.std.specs.Prelude.{◌≡◌, ℕ, List, Result, Ok, Err, Some, None}
+use Rattle.std.specs.Prelude.{◌≡◌, List, map, Result, Ok, Err, Some, None}
 use Rattle.authority_texts.specs.Answers.{IsAuthorityAnswer}
 use Rattle.explore_line.specs.Requests.{AskedQuestion, Find, Outcomes, Authority}
-use Rattle.explore_line.specs.declared.sweeps.Sweep.{Sweep}
+use Rattle.explore_sweeps.specs.declared.Sweep.{Sweep}
 use Rattle.conditions.specs.Conditions.{condition_of}
-use Rattle.conditions.specs.declared.fault.TextFault.{TextFault}
 use Rattle.conditions.specs.declared.fault.TextFault.TheVariants.{Condition, Place}
 use Rattle.conditions.specs.Items.{items_of}
 use Rattle.grammar.specs.Labels.{LabelParts}
@@ -15,7 +14,7 @@ use Rattle.schedules.specs.declared.ranges.SweepRange.{SweepRange}
 use Rattle.shown_states.specs.declared.form.Ending.{Ending}
 use Rattle.shown_states.specs.declared.form.Format.{Format}
 use Rattle.states.specs.Searches.{SearchParts}
-use Rattle.explore_program.specs.Faults.{Fault, text_fault}
+use Rattle.explore_program.specs.Faults.{Fault, property_fault, text_fault}
 
 -- the range of a sweep
 abbrev pub range_of : Sweep → SweepRange
@@ -26,30 +25,45 @@ abbrev pub IsSaid : (List ℕ → Ending → Type 0) → Answer Ending Fault →
 IsSaid answers (Ok (text, ending)) = answers text ending
 IsSaid answers (Err fault) = ⊥
 
--- the same of a question that a text writes, or the byte of that text's fault
-abbrev pub IsSaidOf : {X : Type 0} → (ℕ → TextFault) → (X → List ℕ → Ending → Type 0) → Result X ℕ
+-- the same of a question that a text writes, or that text's fault
+abbrev pub IsSaidOf : {X E : Type 0} → (E → Fault) → (X → List ℕ → Ending → Type 0) → Result X E
     → Answer Ending Fault → Type 0
 IsSaidOf fault answers (Ok x) answer = IsSaid (answers x) answer
-IsSaidOf fault answers (Err byte) answer = answer ≡ Err (text_fault (fault byte))
+IsSaidOf fault answers (Err e) answer = answer ≡ Err (fault e)
 
 -- `find`, with the condition that a text writes beside a listing with these labels
 abbrev pub IsFindSaid : LabelParts → SearchParts → Format → List ℕ → Answer Ending Fault → Type 0
 IsFindSaid labels search format condition answer =
-    IsSaidOf Condition (λ nodes. IsFindAnswer search nodes format)
+    IsSaidOf (λ byte. text_fault (Condition byte)) (λ nodes. IsFindAnswer search nodes format)
     (condition_of labels search.image condition) answer
 
 -- `outcomes`, with the items that a text writes
 abbrev pub IsShownSaid : SearchParts → Format → List ℕ → Answer Ending Fault → Type 0
 IsShownSaid search format items answer =
-    IsSaidOf Place (λ list. IsShownAnswer search list format) (items_of search.image items) answer
+    IsSaidOf (λ byte. text_fault (Place byte)) (λ list. IsShownAnswer search list format)
+    (items_of search.image items) answer
 
--- the answers to a question of the command line, about a listing with these labels
-abbrev pub IsSaidTo : AskedQuestion → LabelParts → SearchParts → Format → Answer Ending Fault
-    → Type 0
-IsSaidTo (Find condition) labels search format answer =
+-- the search with the sweeps that a listing allows
+abbrev pub swept_by : SearchParts → PropertiesParts → SearchParts
+swept_by search read = record search { sweeps = map range_of read.sweeps }
+
+-- `check`, of the listing that has this text and these labels
+abbrev pub IsCheckSaid : LabelParts → List ℕ → SearchParts → Format → Answer Ending Fault → Type 0
+IsCheckSaid labels text search format answer =
+    IsSaidOf property_fault
+    (λ read. IsCheckAnswer (swept_by search read) read.properties format)
+    (properties_of labels search.image text) answer
+
+-- the answers to a question of the command line, about the listing that has this text and these
+-- labels
+abbrev pub IsSaidTo : AskedQuestion → LabelParts → List ℕ → SearchParts → Format
+    → Answer Ending Fault → Type 0
+IsSaidTo (Find condition) labels text search format answer =
     IsFindSaid labels search format condition answer
-IsSaidTo (Outcomes None) labels search format answer =
+IsSaidTo (Outcomes None) labels text search format answer =
     IsSaid (IsListedAnswer search format) answer
-IsSaidTo (Outcomes (Some items)) labels search format answer =
+IsSaidTo (Outcomes (Some items)) labels text search format answer =
     IsShownSaid search format items answer
-IsSaidTo Authority labels search format answer = IsSaid (IsAuthorityAnswer search format) answer
+IsSaidTo Authority labels text search format answer =
+    IsSaid (IsAuthorityAnswer search format) answer
+IsSaidTo Check labels text search format answer = IsCheckSaid labels text search format answer

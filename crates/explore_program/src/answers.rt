@@ -1,18 +1,22 @@
 //! What is answered to each question: the texts of the command line are read, and the question is
 //! asked.
 
-ghost use Rattle.std.specs.Prelude.{◌≡◌, IfOk, IfErr};
+ghost use Rattle.std.specs.Prelude.{◌≡◌, Ok, IfOk, IfErr};
 ghost use Rattle.explore_line.specs.Requests.{question_asked_by};
 ghost use Rattle.grammar.specs.LabelMap.{label_parts};
+ghost use Rattle.listings.specs.Meaning.{listing_meaning};
 ghost use Rattle.printing.specs.Endings.{HasWhole, FailsBy};
 ghost use Rattle.states.specs.Searches.{IsSearchable, search_of};
 ghost use Rattle.explore_program.specs.Faults.{failure_of};
-ghost use Rattle.explore_program.specs.Questions.{IsFindSaid, IsSaid, IsSaidTo, IsShownSaid};
+ghost use Rattle.explore_program.specs.Questions.{IsCheckSaid, IsFindSaid, IsSaid, IsSaidTo, IsShownSaid};
 
-use crate::faults::{Fault, text_fault};
-use crate::questions::{Authority, Find, Outcomes, SearchQuestion, ShownOutcomes};
+use crate::faults::{Fault, property_fault, text_fault};
+use crate::questions::{
+    Authority, Check, Find, Outcomes, SearchQuestion, ShownOutcomes, ranges_of,
+};
 use conditions::{read_condition, read_items};
 use explore_line::Question;
+use explore_properties::read_properties;
 use grammar::labels::Labels;
 use graph_search::Progress;
 use shown_states::{Ending, Format};
@@ -20,10 +24,12 @@ use sinks::Sink;
 use states::Search;
 use std::alloc::Global;
 
-/// What a question is asked of: a search, the labels of its listing, and how the answer is written.
+/// What a question is asked of: a search, the labels and the text of its listing, and how the answer
+/// is written.
 #[derive(Clone, Copy)]
 pub struct Asking<'l, 's> {
     pub labels: &'l Labels<'l>,
+    pub text: &'l [u8],
     pub search: Search<'s>,
     pub format: Format,
 }
@@ -69,6 +75,7 @@ fn answer_find<P: Progress, S: Sink>(
         labels,
         search,
         format,
+        ..
     } = asking;
     let condition = match read_condition(alloc, labels, search.image, condition) {
         Ok(condition) => condition,
@@ -112,6 +119,51 @@ fn answer_shown<P: Progress, S: Sink>(
     ask(alloc, &question, progress, sink)
 }
 
+/// `check LISTING`.
+fn answer_check<P: Progress, S: Sink>(
+    alloc: Global,
+    asking: Asking<'_, '_>,
+    progress: &mut P,
+    sink: &mut S,
+) -> Result<Ending, Fault>
+    requires meaning { listing_meaning asking.text.now ≡ Ok asking.search.image.now }
+    requires search { IsSearchable (search_of asking.search) }
+    ensures printed { IfOk result (λ ending. HasWhole
+        (IsCheckSaid (label_parts asking.entry.labels.now) asking.entry.text.now
+        (search_of asking.entry.search) asking.entry.format) ending
+        (S.written sink.old) (S.written sink.new)) }
+    ensures failed { IfErr result (λ fault. FailsBy (failure_of fault)
+        (IsCheckSaid (label_parts asking.entry.labels.now) asking.entry.text.now
+        (search_of asking.entry.search) asking.entry.format) fault
+        (S.written sink.old) (S.written sink.new)) }
+    ensures identity { S.identity sink.new ≡ S.identity sink.old }
+{
+    let Asking {
+        labels,
+        text,
+        search,
+        format,
+    } = asking;
+    let read = match read_properties(alloc, labels, search.image, text) {
+        Ok(read) => read,
+        Err(refused) => return Err(property_fault(refused)),
+    };
+    let sweeps = ranges_of(alloc, read.sweeps())?;
+    let search = Search {
+        image: search.image,
+        sweeps: sweeps.as_slice(),
+        every_step: search.every_step,
+        limit: search.limit,
+    };
+    let properties = read.properties();
+    let question = Check {
+        search,
+        format,
+        properties,
+    };
+    ask(alloc, &question, progress, sink)
+}
+
 /// Answers a question of the command line in a format.
 pub fn answer_question<P: Progress, S: Sink>(
     alloc: Global,
@@ -120,20 +172,22 @@ pub fn answer_question<P: Progress, S: Sink>(
     progress: &mut P,
     sink: &mut S,
 ) -> Result<Ending, Fault>
-    requires { IsSearchable (search_of asking.search) }
+    requires meaning { listing_meaning asking.text.now ≡ Ok asking.search.image.now }
+    requires search { IsSearchable (search_of asking.search) }
     ensures printed { IfOk result (λ ending. HasWhole
         (IsSaidTo (question_asked_by question.entry) (label_parts asking.entry.labels.now)
-        (search_of asking.entry.search) asking.entry.format) ending
+        asking.entry.text.now (search_of asking.entry.search) asking.entry.format) ending
         (S.written sink.old) (S.written sink.new)) }
     ensures failed { IfErr result (λ fault. FailsBy (failure_of fault)
         (IsSaidTo (question_asked_by question.entry) (label_parts asking.entry.labels.now)
-        (search_of asking.entry.search) asking.entry.format) fault
+        asking.entry.text.now (search_of asking.entry.search) asking.entry.format) fault
         (S.written sink.old) (S.written sink.new)) }
     ensures identity { S.identity sink.new ≡ S.identity sink.old }
 {
     let Asking { search, format, .. } = asking;
     match question {
         Question::Find { condition } => answer_find(alloc, asking, condition, progress, sink),
+        Question::Check => answer_check(alloc, asking, progress, sink),
         Question::Authority => ask(alloc, &Authority { search, format }, progress, sink),
         Question::Outcomes { show } => match show {
             Some(items) => answer_shown(alloc, search, format, items, progress, sink),

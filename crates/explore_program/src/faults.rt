@@ -1,9 +1,10 @@
 //! The faults that only this program has.
 
 ghost use Rattle.std.specs.Prelude.{◌≡◌};
-ghost use Rattle.explore_program.specs.Faults.{is_refusal, own_text, text_fault};
+ghost use Rattle.explore_program.specs.Faults.{is_refusal, own_text, refused_properties, text_fault};
 
 use conditions::TextFault;
+use explore_properties::{PropertyFault, PropertyPlace};
 use inputs::InputFault;
 use program_io::ProgramFault;
 use std::fmt;
@@ -18,6 +19,10 @@ pub enum OwnFault {
     BadCondition(usize),
     /// The item that begins at this byte is none, or one too many.
     BadPlace(usize),
+    /// What begins at this place of the listing is no property, or one too many.
+    BadProperty(PropertyPlace),
+    /// The property on the line of this number is violated; the answer was printed whole.
+    Violated(usize),
 }
 
 impl fmt::Display for OwnFault {
@@ -29,6 +34,10 @@ impl fmt::Display for OwnFault {
         match *self {
             OwnFault::BadCondition(byte) => write!(f, "bad condition at byte {byte}"),
             OwnFault::BadPlace(byte) => write!(f, "bad place at byte {byte}"),
+            OwnFault::BadProperty(PropertyPlace { line, byte }) => {
+                write!(f, "bad property at line {line} byte {byte}")
+            }
+            OwnFault::Violated(line) => write!(f, "property line {line}: violated"),
         }
     }
 }
@@ -39,6 +48,7 @@ impl ProgramFault for OwnFault {
     fn is_refusal(self) -> bool {
         match self {
             OwnFault::BadCondition(_) | OwnFault::BadPlace(_) => true,
+            OwnFault::BadProperty(_) | OwnFault::Violated(_) => true,
         }
     }
 }
@@ -51,5 +61,15 @@ pub fn text_fault(refused: TextFault) -> Fault
         TextFault::Condition(byte) => Fault::Own(OwnFault::BadCondition(byte)),
         TextFault::Place(byte) => Fault::Own(OwnFault::BadPlace(byte)),
         TextFault::NoMemory => Fault::Input(InputFault::NoMemory),
+    }
+}
+
+/// Why a listing's properties were refused.
+pub fn property_fault(refused: PropertyFault) -> Fault
+    ensures { result ≡ refused_properties refused }
+{
+    match refused {
+        PropertyFault::Place(place) => Fault::Own(OwnFault::BadProperty(place)),
+        PropertyFault::NoMemory => Fault::Input(InputFault::NoMemory),
     }
 }

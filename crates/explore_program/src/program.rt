@@ -11,7 +11,7 @@ ghost use Rattle.explore_program.specs.Program.{Concludes, Ends, IsAnswer, IsReq
 ghost use Rattle.explore_program.specs.Program.{command_line, format_of};
 
 use crate::answers::{Asking, answer_question};
-use crate::faults::Fault;
+use crate::faults::{Fault, OwnFault};
 use crate::listing::read_listed;
 use crate::progress::TerminalProgress;
 use crate::questions::ranges_of;
@@ -40,26 +40,41 @@ fn format_of(asked: command_line::Format) -> Format
     }
 }
 
-/// Answers a request about the image of a listing, with the listing's labels.
+/// A good listing: its text, its labels and its image.
+#[derive(Clone, Copy)]
+struct Listing<'a> {
+    text: &'a [u8],
+    labels: &'a Labels<'a>,
+    image: &'a Image,
+}
+
+/// Answers a request about a listing.
 fn answer_labelled<S: Sink, P: Progress>(
     alloc: Global,
     request: &ExploreRequest<'_>,
-    image: &Image,
-    labels: &Labels<'_>,
+    listing: Listing<'_>,
     progress: &mut P,
     sink: &mut S,
 ) -> Result<Ending, Fault>
+    requires meaning { listing_meaning listing.text.now ≡ Ok listing.image.now }
     requires some { 1 ≤ request.now.states }
     requires few { length request.now.sweeps.items ≤ MAX_SWEEPS }
     ensures printed { IfOk result (λ ending. HasWhole
-        (IsRequestAnswer (label_parts labels.now) image.now (explore_asked_by request.now)) ending
+        (IsRequestAnswer (label_parts listing.entry.labels.now) listing.entry.text.now
+        listing.entry.image.now (explore_asked_by request.now)) ending
         (S.written sink.old) (S.written sink.new)) }
     ensures failed { IfErr result (λ fault. FailsBy (failure_of fault)
-        (IsRequestAnswer (label_parts labels.now) image.now (explore_asked_by request.now)) fault
+        (IsRequestAnswer (label_parts listing.entry.labels.now) listing.entry.text.now
+        listing.entry.image.now (explore_asked_by request.now)) fault
         (S.written sink.old) (S.written sink.new)) }
     ensures identity { S.identity sink.new ≡ S.identity sink.old }
 {
     let sweeps = ranges_of(alloc, request.sweeps.as_slice())?;
+    let Listing {
+        text,
+        labels,
+        image,
+    } = listing;
     let search = Search {
         image,
         sweeps: sweeps.as_slice(),
@@ -68,6 +83,7 @@ fn answer_labelled<S: Sink, P: Progress>(
     };
     let asking = Asking {
         labels,
+        text,
         search,
         format: format_of(request.form),
     };
@@ -87,15 +103,20 @@ fn answer_listed<S: Sink, P: Progress>(
     requires some { 1 ≤ request.now.states }
     requires few { length request.now.sweeps.items ≤ MAX_SWEEPS }
     ensures printed { IfOk result (λ ending. HasWhole
-        (IsRequestAnswer (labels_of text.now) image.now (explore_asked_by request.now)) ending
+        (IsRequestAnswer (labels_of text.now) text.now image.now (explore_asked_by request.now)) ending
         (S.written sink.old) (S.written sink.new)) }
     ensures failed { IfErr result (λ fault. FailsBy (failure_of fault)
-        (IsRequestAnswer (labels_of text.now) image.now (explore_asked_by request.now)) fault
+        (IsRequestAnswer (labels_of text.now) text.now image.now (explore_asked_by request.now)) fault
         (S.written sink.old) (S.written sink.new)) }
     ensures identity { S.identity sink.new ≡ S.identity sink.old }
 {
     let labels = labels_of(alloc, image, text)?;
-    answer_labelled(alloc, request, image, &labels, progress, sink)
+    let listing = Listing {
+        text,
+        labels: &labels,
+        image,
+    };
+    answer_labelled(alloc, request, listing, progress, sink)
 }
 
 /// Answers a request.
@@ -170,13 +191,16 @@ fn answer_at<F: Files, S: Sink, E: Write, C: Clock>(
     }
 }
 
-/// The exit status of a command that ended so: that of its ending, or of the fault, which is
-/// reported.
+/// The exit status of a command that ended so: that of its ending, or of a violation or a fault,
+/// which is reported.
 fn conclude<E: Write>(err: &mut E, ended: Result<Ending, Fault>) -> u8
     ensures { Concludes ended result (E.contents err.old) (E.contents err.new) }
 {
     match ended {
-        Ok(ending) => ending.status(),
+        Ok(Ending::Violated(line)) => report_fault(err, Fault::Own(OwnFault::Violated(line))),
+        Ok(Ending::Done) => Ending::Done.status(),
+        Ok(Ending::Unfinished) => Ending::Unfinished.status(),
+        Ok(Ending::Nowhere) => Ending::Nowhere.status(),
         Err(fault) => report_fault(err, fault),
     }
 }
@@ -185,7 +209,7 @@ fn conclude<E: Write>(err: &mut E, ended: Result<Ending, Fault>) -> u8
 /// and gives the exit status: 0 where all was answered, 4 where not all states could be kept, 5
 /// where no state is one that was looked for, and then `out` got the whole answer and `err`
 /// nothing. Else `err` got the line of a fault, whether it took it or not: 1 where a text was
-/// refused, 2 where the command line was, and 3 for every other fault. Where `err` is a terminal,
+/// refused, or where the whole answer tells of a property that is violated, 2 where the command line was, and 3 for every other fault. Where `err` is a terminal,
 /// `terminal` is the clock by which lines of how far a long search is come there before.
 pub fn perform<F: Files, O: Write, E: Write, C: Clock>(
     alloc: Global,

@@ -3,6 +3,7 @@
 ghost use Rattle.std.specs.Prelude.{◌≡◌, ◌+◌, ℕ, List, IfOk, IfErr, map};
 ghost use Rattle.authority_texts.specs.Answers.{IsAuthorityAnswer};
 ghost use Rattle.conditions.specs.Items.{list_of};
+ghost use Rattle.explore_checks.specs.Checks.{IsCheckAnswer};
 ghost use Rattle.found_texts.specs.Find.{IsFindAnswer};
 ghost use Rattle.outcome_texts.specs.Answers.{IsListedAnswer, IsShownAnswer};
 ghost use Rattle.shown_states.specs.Endings.{failures_of, IsUnwritten, IsWritten};
@@ -13,7 +14,9 @@ ghost use Rattle.states.specs.Searches.{IsSearchable, search_of};
 use authority_texts::authority;
 use cheri_model::NoMemory;
 use conditions::{Condition, Items};
+use explore_checks::check;
 use explore_line::Sweep;
+use explore_properties::Property;
 use found_texts::find;
 use graph_search::Progress;
 use outcome_texts::{list_outcomes, show_outcomes};
@@ -157,5 +160,35 @@ impl<'a, 'b, 'c> SearchQuestion for ShownOutcomes<'a, 'b, 'c> {
         sink: &mut S,
     ) -> Result<Ending, WriteFault> {
         show_outcomes(alloc, &self.search, self.items, self.format, progress, sink)
+    }
+}
+
+/// Do the properties hold that the listing carries?
+#[derive(Clone, Copy)]
+pub struct Check<'a, 'b, 'c> {
+    pub search: Search<'a>,
+    pub format: Format,
+    pub properties: &'b [Property<'c>],
+}
+
+impl<'a, 'b, 'c> SearchQuestion for Check<'a, 'b, 'c> {
+    ghost is_askable = { λ q. IsSearchable (search_of q.search) };
+
+    ghost answers = { λ q. IsCheckAnswer (search_of q.search) q.properties.now q.format };
+
+    fn write<P: Progress, S: Sink>(
+        &self,
+        alloc: Global,
+        progress: &mut P,
+        sink: &mut S,
+    ) -> Result<Ending, WriteFault> {
+        check(
+            alloc,
+            &self.search,
+            self.properties,
+            self.format,
+            progress,
+            sink,
+        )
     }
 }

@@ -98,6 +98,35 @@ shown 3
 end
 ";
 
+/// The same, with properties of which one is violated.
+const PROMISING: &str = "\
+.ram 16
+.hart 0x10000000 16 0x10000000 execute
+.set c5 cap 0x80000000 16 0x80000000 load+store
+.hart 0x10000000 16 0x10000000 execute
+.set c5 cap 0x80000000 16 0x80000000 load+store
+ld c6, 0(c5)
+addi c6, c6, 1
+sd c6, 0(c5)
+ecall
+#! never 0.c6 = 9
+#! finally mem8[0x80000000] = 2
+#! sometimes 1.c6 = 2
+#! ends
+";
+
+/// What is known of them.
+const VERDICTS: &str = "\
+cheri-sim check 1
+image harts=2 ram=16 code=4
+states 41 complete
+line 10 holds | never 0.c6 = 9
+line 11 violated order=00100111 | finally mem8[0x80000000] = 2
+line 12 holds order=00011 | sometimes 1.c6 = 2
+line 13 holds | ends
+end
+";
+
 /// A clock that a test sets, in milliseconds; it cannot be read at 0.
 #[derive(Drop)]
 struct Stopwatch {
@@ -163,7 +192,7 @@ fn compare<R: Abort + AllocGlobal>(
 }
 
 /// Outcomes are listed or told by items; states are found, or are not there, or are not found in
-/// time; the greatest capabilities are named.
+/// time; the greatest capabilities are named; properties are judged.
 #[test]
 fn questions_are_answered(rt: HostRuntime) -> Result<(), Fail> {
     let swept = [
@@ -207,13 +236,14 @@ fn questions_are_answered(rt: HostRuntime) -> Result<(), Fail> {
     for (words, listing, (status, answer)) in rows {
         compare(&rt, words, listing, (status, answer, ""))?;
     }
-    Ok(())
+    let violated = (1, VERDICTS, "property line 11: violated\n");
+    compare(&rt, &["check", "listing", "--steps"], PROMISING, violated)
 }
 
 /// Command line, file, listing and condition, or items, are judged in this order.
 #[test]
 fn questions_are_refused(rt: HostRuntime) -> Result<(), Fail> {
-    let rows: [(&[&str], &str, (u8, &str)); 6] = [
+    let rows: [(&[&str], &str, (u8, &str)); 7] = [
         (
             &["find", "nothing", "x", "--states", "0"],
             "",
@@ -235,6 +265,11 @@ fn questions_are_refused(rt: HostRuntime) -> Result<(), Fail> {
             &["outcomes", "listing", "--show", "0.c5,,1.c5"],
             COUNTING,
             (1, "bad place at byte 5\n"),
+        ),
+        (
+            &["check", "listing"],
+            COUNTING,
+            (1, "bad property at line 0 byte 0\n"),
         ),
     ];
     for (words, listing, (status, line)) in rows {

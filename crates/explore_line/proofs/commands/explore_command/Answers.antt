@@ -15,7 +15,9 @@ returns c =
     ∙ ap₂ with_subcommand alone_is (ap top c.in_ok-outcomes_command.ensures.app) in
     let find_added = c.in_ok-with_find.ensures.shape c.in_ok-find_command.ensures.local
     ∙ ap₂ with_subcommand outcomes_added (ap top c.in_ok-find_command.ensures.app) in
-    IfOk-weaker c.subcommand-3.result _ _
-    (λ command added. added.shape c.in_ok-authority_command.ensures.local
-    ∙ ap₂ with_subcommand find_added (ap top c.in_ok-authority_command.ensures.app))
-    c.subcommand-3.ensures
+    let authority_added = c.in_ok-with_authority.ensures.shape c.in_ok-authority_command.ensures.local
+    ∙ ap₂ with_subcommand find_added (ap top c.in_ok-authority_command.ensures.app) in
+    IfOk-weaker c.subcommand-4.result _ _
+    (λ command added. added.shape c.in_ok-check_command.ensures.local
+    ∙ ap₂ with_subcommand authority_added (ap top c.in_ok-check_command.ensures.app))
+    c.subcommand-4.ensures

@@ -3,7 +3,8 @@ use Rattle.clap.proofs.OnLiterals.{clap_on_literals}
 use Rattle.command_line.specs.Numbers.{decimal_within}
 use Rattle.text_numbers.specs.Numerals.{number_in, number_of}
 use Rattle.explore_line.specs.Requests.{explore_asked, explore_asked_of, question_of}
-use Rattle.explore_line.specs.Sweeps.{sweep_of, sweeps_of}
+use Rattle.explore_line.specs.Sweeps.{sweeps_of}
+use Rattle.explore_sweeps.specs.Sweeps.{sweep_of}
 use Rattle.explore_line.proofs.laws.known_explore_lines.Goals as goal
 
 pub returns-clause-outcomes : goal.returns-clause-outcomes
@@ -117,3 +118,15 @@ returns-clause-steps_twice c = refl
 pub returns-clause-steps_of_a_number : goal.returns-clause-steps_of_a_number
 unfolding clap_on_literals explore_asked explore_asked_of question_of sweep_of sweeps_of decimal_within number_in number_of
 returns-clause-steps_of_a_number c = refl
+
+pub returns-clause-check : goal.returns-clause-check
+unfolding clap_on_literals explore_asked explore_asked_of question_of sweep_of sweeps_of decimal_within number_in number_of
+returns-clause-check c = refl
+
+pub returns-clause-check_with_sweep : goal.returns-clause-check_with_sweep
+unfolding clap_on_literals explore_asked explore_asked_of question_of sweep_of sweeps_of decimal_within number_in number_of
+returns-clause-check_with_sweep c = refl
+
+pub returns-clause-check_of_condition : goal.returns-clause-check_of_condition
+unfolding clap_on_literals explore_asked explore_asked_of question_of sweep_of sweeps_of decimal_within number_in number_of
+returns-clause-check_of_condition c = refl

@@ -1,5 +1,5 @@
 use Rattle.std.proofs.Common.{rules, arith, suc, ◌≡◌, ◌<◌, ◌≤◌, ◌+◌, ◌++◌, ◌∷◌, [], None, Some, length, ap}
-use Rattle.explore_line.specs.declared.sweeps.TheConstants.{MAX_SWEEPS}
+use Rattle.explore_sweeps.specs.declared.TheConstants.{MAX_SWEEPS}
 use Rattle.explore_line.proofs.SweepLemmas.{all_done, none_so_far, not_one, one_more}
 use Rattle.explore_line.proofs.sweeps.sweeps_written.Goals as goal
 

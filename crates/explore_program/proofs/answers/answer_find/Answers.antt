@@ -2,14 +2,13 @@ use Rattle.std.proofs.Common.{false, refl, ℕ, List}
 use Rattle.program_io.proofs.EndingLemmas.{all_fail, all_whole}
 use Rattle.conditions.specs.Conditions.{condition_of}
 use Rattle.conditions.specs.declared.parts.Node.{Node}
-use Rattle.conditions.specs.declared.fault.TextFault.TheVariants.{Condition}
 use Rattle.found_texts.specs.Find.{IsFindAnswer}
 use Rattle.grammar.specs.LabelMap.{label_parts}
 use Rattle.shown_states.specs.declared.form.Ending.{Ending}
 use Rattle.states.specs.Searches.{search_of}
 use Rattle.explore_program.specs.Faults.{own_failure}
 use Rattle.explore_program.specs.Questions.{IsFindSaid, IsSaid}
-use Rattle.explore_program.proofs.QuestionLemmas.{condition_fails, said_of}
+use Rattle.explore_program.proofs.QuestionLemmas.{condition_fails, condition_fault, said_of}
 use Rattle.explore_program.proofs.answers.answer_find.Goals as goal
 
 pub returns-in-Err-clause-failed : goal.returns-in-Err-clause-failed
@@ -23,11 +22,11 @@ returns-clause-printed g c =
     let search = search_of c.args.asking.search in
     let answers : List Node → List ℕ → Ending → Type 0 = λ atoms. IsFindAnswer search atoms c.args.asking.format in
     all_whole (λ ending. ending) own_failure false (IsSaid (answers c.in-Ok.condition)) (IsFindSaid (label_parts c.args.asking.labels.now) search c.args.asking.format c.args.condition.now)
-    (said_of Condition answers (condition_of (label_parts c.args.asking.labels.now) search.image c.args.condition.now) c.in-Ok.condition c.in-Ok.ensures) _ _ c.ask.result c.ask.ensures.printed
+    (said_of condition_fault answers (condition_of (label_parts c.args.asking.labels.now) search.image c.args.condition.now) c.in-Ok.condition c.in-Ok.ensures) _ _ c.ask.result c.ask.ensures.printed
 
 pub returns-clause-failed : goal.returns-clause-failed
 returns-clause-failed g c =
     let search = search_of c.args.asking.search in
     let answers : List Node → List ℕ → Ending → Type 0 = λ atoms. IsFindAnswer search atoms c.args.asking.format in
     all_fail (λ ending. ending) own_failure false (IsSaid (answers c.in-Ok.condition)) (IsFindSaid (label_parts c.args.asking.labels.now) search c.args.asking.format c.args.condition.now)
-    (said_of Condition answers (condition_of (label_parts c.args.asking.labels.now) search.image c.args.condition.now) c.in-Ok.condition c.in-Ok.ensures) _ _ c.ask.result c.ask.ensures.failed
+    (said_of condition_fault answers (condition_of (label_parts c.args.asking.labels.now) search.image c.args.condition.now) c.in-Ok.condition c.in-Ok.ensures) _ _ c.ask.result c.ask.ensures.failed

@@ -1,13 +1,12 @@
 use Rattle.std.proofs.Common.{false, refl, ℕ, List}
 use Rattle.program_io.proofs.EndingLemmas.{all_fail, all_whole}
 use Rattle.conditions.specs.Items.{ItemList, items_of, list_of}
-use Rattle.conditions.specs.declared.fault.TextFault.TheVariants.{Place}
 use Rattle.outcome_texts.specs.Answers.{IsShownAnswer}
 use Rattle.shown_states.specs.declared.form.Ending.{Ending}
 use Rattle.states.specs.Searches.{search_of}
 use Rattle.explore_program.specs.Faults.{own_failure}
 use Rattle.explore_program.specs.Questions.{IsShownSaid, IsSaid}
-use Rattle.explore_program.proofs.QuestionLemmas.{items_fail, said_of}
+use Rattle.explore_program.proofs.QuestionLemmas.{items_fail, place_fault, said_of}
 use Rattle.explore_program.proofs.answers.answer_shown.Goals as goal
 
 pub returns-in-Err-clause-failed : goal.returns-in-Err-clause-failed
@@ -21,11 +20,11 @@ returns-clause-printed g c =
     let search = search_of c.args.search in
     let answers : ItemList → List ℕ → Ending → Type 0 = λ list. IsShownAnswer search list c.args.format in
     all_whole (λ ending. ending) own_failure false (IsSaid (answers (list_of c.in-Ok.items))) (IsShownSaid search c.args.format c.args.items.now)
-    (said_of Place answers (items_of search.image c.args.items.now) (list_of c.in-Ok.items) c.in-Ok.ensures) _ _ c.ask.result c.ask.ensures.printed
+    (said_of place_fault answers (items_of search.image c.args.items.now) (list_of c.in-Ok.items) c.in-Ok.ensures) _ _ c.ask.result c.ask.ensures.printed
 
 pub returns-clause-failed : goal.returns-clause-failed
 returns-clause-failed g c =
     let search = search_of c.args.search in
     let answers : ItemList → List ℕ → Ending → Type 0 = λ list. IsShownAnswer search list c.args.format in
     all_fail (λ ending. ending) own_failure false (IsSaid (answers (list_of c.in-Ok.items))) (IsShownSaid search c.args.format c.args.items.now)
-    (said_of Place answers (items_of search.image c.args.items.now) (list_of c.in-Ok.items) c.in-Ok.ensures) _ _ c.ask.result c.ask.ensures.failed
+    (said_of place_fault answers (items_of search.image c.args.items.now) (list_of c.in-Ok.items) c.in-Ok.ensures) _ _ c.ask.result c.ask.ensures.failed

@@ -14,7 +14,7 @@ returns g c =
     let answered = rw c.new-sink.ensures.writer at c.answer_at-answered.ensures.printed in
     let refused = rw c.new-sink.ensures.writer at c.answer_at-answered.ensures.failed in
     let so = ends c.args.terminal files request c.conclude.result (g.O.Write.contents c.args.out.now) _ (g.E.Write.contents c.args.err.now) _
-    (g.E.Write.contents c.conclude.new.err) c.finish-ended.result c.conclude.ensures c.answer_at-answered.ensures.silent
+    (g.E.Write.contents c.conclude.new.err) c.answer_at-answered.ensures.silent c.finish-ended.result c.conclude.ensures
     (flushed_whole (λ ending. ending) own_failure false (IsAnswer files request) _ _ _ c.answer_at-answered.result c.finish-ended.result
     c.finish-ended.ensures.flushed answered)
     (flushed_fails (λ ending. ending) own_failure false (IsAnswer files request) _ _ _ c.answer_at-answered.result c.finish-ended.result
