@@ -11,7 +11,6 @@ ghost use Rattle.origins.specs.declared.place.Spot.TheVariants.{Register, Granul
 ghost use Rattle.origins.specs.Places.{place_of};
 ghost use Rattle.facts.specs.StepFacts.{origin_of};
 ghost use Rattle.following.specs.Following.{IsPlaceOf, origins_now};
-ghost use Rattle.explanations.specs.FactData.{named_data};
 ghost use Rattle.explained_page.specs.State.{
   put_value,
   put_registers,
@@ -23,12 +22,12 @@ ghost use Rattle.explained_page.specs.State.{
 
 use cap_ops::Cap;
 use cheri_model::{NoMemory, Reg, Status, Trap};
-use explanations::OriginName;
+use explanations::named_value_json;
 use facts::NamedValue;
 use following::Follower;
 use hart::Hart;
 use origins::Spot;
-use report_lines::{granule_address, is_listed, value_members, write_json_value};
+use report_lines::{granule_address, is_listed, write_json_value};
 use serde_json::{Map, Value, json, put};
 use std::alloc::{AllocError, Global};
 
@@ -44,18 +43,6 @@ fn named(follower: &Follower, hart: u8, name: Spot, value: Cap) -> NamedValue
         value,
         origin,
     }
-}
-
-/// A value, and where it is tagged its origin.
-fn named_json(alloc: Global, named: NamedValue) -> Result<Value, NoMemory>
-    ensures { IfOk result (λ v. data_of v ≡ named_data named) }
-{
-    let mut members = value_members(alloc, named.value)?;
-    if let Some(origin) = named.origin {
-        let name = OriginName(origin).to_string(alloc)?;
-        put(&mut members, alloc, "from", Value::String(name))?;
-    }
-    Ok(Value::Object(members))
 }
 
 /// Puts a register under its name, unless it is null.
@@ -75,7 +62,7 @@ fn put_register(
 {
     if is_listed(value) {
         let name = format!(in alloc; "c{number}")?;
-        let value = named_json(alloc, named(follower, hart, Spot::Register(number), value))?;
+        let value = named_value_json(alloc, named(follower, hart, Spot::Register(number), value))?;
         put(members, alloc, name.as_str(), value)?;
     }
     Ok(())
@@ -106,7 +93,7 @@ fn hart_json(alloc: Global, follower: &Follower, number: u8, hart: &Hart) -> Res
     ensures { IfOk result (λ v. data_of v
         ≡ hart_data (origins_now follower.now) number hart.now) }
 {
-    let pcc = named_json(alloc, named(follower, number, Spot::Pcc, hart.pcc()))?;
+    let pcc = named_value_json(alloc, named(follower, number, Spot::Pcc, hart.pcc()))?;
     let regs = registers_json(alloc, follower, number, hart)?;
     match hart.status() {
         Status::Running => json!(in alloc; {"pcc": pcc, "regs": regs, "status": "running"}),
@@ -150,7 +137,7 @@ fn put_granule(
 {
     if is_listed(value) {
         let name = granule_address(number as usize).to_string(alloc)?;
-        let value = named_json(alloc, named(follower, 0, Spot::Granule(number), value))?;
+        let value = named_value_json(alloc, named(follower, 0, Spot::Granule(number), value))?;
         put(members, alloc, name.as_str(), value)?;
     }
     Ok(())

@@ -1,13 +1,9 @@
 -- The events of a run and their facts, one by one, and a core that takes a run's operations once more.
 use Rattle.std.proofs.Common.{◌≡◌, ℕ, zero, suc, ◌+◌, ◌<◌, ◌≤◌, Bool, true, false, not, List, [], ◌∷◌, ◌++◌, length, take, get_or, map, refl, ap, sym, subst, ◌∙◌, arith, length-take}
-use Rattle.std.specs.Prelude.{nat_lt, if◌then◌else◌, Some, None, Result, Ok, Err, OnOk, IfOk}
+use Rattle.std.specs.Prelude.{nat_lt, if◌then◌else◌, Option, Some, None, Result, OnOk}
 use Rattle.std.proofs.lemmas.Bool.{and_parts, lt-ltb}
-use Rattle.std.proofs.lemmas.Bool.Decides.{nat_tests}
 use Rattle.std.proofs.lemmas.List.{length-map, take-map, map_more, get_or-map}
 use Rattle.std.proofs.lemmas.Slice.Zip.{length-zip, get_or-zip}
-use Rattle.grammar.specs.declared.fault.ListingFaultKind.TheVariants.{Size}
-use Rattle.listings.specs.declared.fault.ListingFault.{ListingFault}
-use Rattle.listings.specs.Meaning.{listing_meaning, listing_limit, whole_fault}
 use Rattle.cheri_model.specs.declared.operation.Op.{Op}
 use Rattle.cheri_model.specs.declared.operation.Op.TheVariants as operation
 use Rattle.cheri_model.specs.declared.operation.Event.{Event}
@@ -20,9 +16,10 @@ use Rattle.origins.specs.declared.place.Place.{Place}
 use Rattle.origins.specs.Origins.{Origins, came_from, origins_after, replayed_origins}
 use Rattle.facts.specs.EventFacts.{EventFacts, step, sweep, swept_places, facts_of, facts_along, replayed_facts}
 use Rattle.cores.specs.declared.faults.StepFault.TheVariants.{NoSuchHart, TraceFull, HartStopped, BadRange}
-use Rattle.cores.specs.Cores.{CoreParts, opening_core, refused, core_after, unless_kept, applied}
+use Rattle.cores.specs.declared.faults.StepFault.{StepFault}
+use Rattle.cores.specs.Cores.{CoreParts, opening_core, refused, core_after, unless_kept, unless_refused, applied}
 use Rattle.facts.specs.declared.step_facts.StepFacts.{StepFacts}
-use Rattle.following.specs.Following.{next_facts as next_step_facts}
+use Rattle.following.specs.Following.{answered_step, next_facts as next_step_facts}
 use Rattle.explanations.specs.Explanation.{Explained, explained_events}
 use Rattle.explanations.specs.NextFacts.{next_facts}
 
@@ -195,15 +192,6 @@ turn image trace entries limit k e event state core same room is replay fits at 
 
 -- ---- what an operation that is not refused answers and leaves
 
--- what follows where a call was done
-pub on_ok : {T E : Type 0} (result : Result T E) (P Q : Type 0) → (P → Q) → OnOk result P → OnOk result Q
-on_ok (Ok x) P Q use_it so = use_it so
-on_ok (Err e) P Q use_it so = tt
-
-pub if_ok : {T E : Type 0} (result : Result T E) (P Q : T → Type 0) → ((x : T) → P x → Q x) → IfOk result P → IfOk result Q
-if_ok (Ok x) P Q use_it so = use_it x so
-if_ok (Err e) P Q use_it so = tt
-
 pub sweep_answered : (core : CoreParts) (lo hi : ℕ) (places : List Place) → places ≡ swept_places lo hi core.state
     → sweep places ≡ next_facts core (operation.Sweep lo hi)
 unfolding facts_of
@@ -218,14 +206,22 @@ pub step_applied : (core after : CoreParts) (op : Op) → after ≡ applied core
 unfolding applied
 step_applied core after op is none = is ∙ ap (λ r. unless_kept r core (core_after core op)) none
 
--- ---- the listing
+told_by : (core : CoreParts) (hart : ℕ) (facts : StepFacts) (refusal : Option StepFault) (result : Result (Unit {0}) StepFault)
+    → result ≡ unless_refused refusal tt → OnOk result (facts ≡ next_step_facts core hart) → refusal ≡ None
+    → step facts ≡ next_facts core (operation.Step hart)
+told_by core hart facts None result is so none =
+    step_answered core hart facts (subst (λ (r : Result (Unit {0}) StepFault). OnOk r (facts ≡ next_step_facts core hart)) is so)
+told_by core hart facts (Some fault) result is so none = absurd cc
 
-by_length : (text : List ℕ) (image : ImageParts) (rest : Result ImageParts ListingFault) (long : Bool) → nat_lt listing_limit (length text) ≡ long
-    → (if long then Err (whole_fault Size) else rest) ≡ Ok image → length text ≤ listing_limit
-by_length text image rest true is meant = absurd (cc)
-by_length text image rest false is meant = grind (arith, nat_tests)
+-- a step that is not refused tells its facts
+pub step_told : (core : CoreParts) (hart : ℕ) (facts : StepFacts) (result : Result (Unit {0}) StepFault) → result ≡ answered_step core hart
+    → OnOk result (facts ≡ next_step_facts core hart) → refused core (operation.Step hart) ≡ None
+    → step facts ≡ next_facts core (operation.Step hart)
+step_told core hart facts result is so none = told_by core hart facts (refused core (operation.Step hart)) result is so none
 
--- a listing that has a meaning is not too long
-pub listing_fits : (text : List ℕ) (image : ImageParts) → listing_meaning text ≡ Ok image → length text ≤ listing_limit
-unfolding listing_meaning
-listing_fits text image meant = by_length text image _ (nat_lt listing_limit (length text)) refl meant
+-- what was written of the facts of an event was written of those of its operation
+pub told_in : (text : Explained → List ℕ) (kept written : List ℕ) (event : Event) (facts next : EventFacts)
+    → written ≡ kept ++ text (event, facts) → facts ≡ next → written ≡ kept ++ text (event, next)
+told_in text kept written event facts next is same = is ∙ ap (λ (f : EventFacts). kept ++ text (event, f)) same
+
+pub ruleset steps_taken = (step_told, step_applied)

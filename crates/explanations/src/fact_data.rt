@@ -2,7 +2,7 @@
 #![tactic(auto, unfolding(crate::proofs::Unfold::in_json))]
 
 ghost use Rattle.std.specs.Prelude.{◌≡◌, ◌++◌, [], ◌∷◌, codes, map, drop, IfOk, OnOk, string_bytes};
-ghost use Rattle.serde_json.specs.Data.{Members, object, no_members, put as with_member};
+ghost use Rattle.serde_json.specs.Data.{object, no_members, put as with_member};
 ghost use Rattle.serde_json.specs.View.{members_view, view as data_of};
 ghost use Rattle.explanations.specs.FactData.{
   put_any,
@@ -23,34 +23,24 @@ ghost use Rattle.explanations.specs.FactData.{
 };
 
 use crate::fact_lines::line_of;
-use crate::names::{OriginName, SpotName, SweptName};
+use crate::names::{SpotName, SweptName, write_origin};
 use crate::reasons::{write_trap_why, write_why};
 use cheri_model::{Event, NoMemory};
 use facts::{Cleared, Extent, Fetched, NamedValue, StepFacts, Trapped, UpToTwo};
 use notation::InstructionText;
 use origins::{Place, Spot};
-use report_lines::{Hex64, event_json, granule_address, value_json};
+use report_lines::{Hex64, event_members, granule_address, value_members};
 use serde_json::{Map, Value, put};
 use std::alloc::Global;
 
-/// The members of an object.
-fn members_of(alloc: Global, value: Value) -> Map<String, Value>
-    ensures { (members : Members) → data_of value ≡ object members
-        → members_view result.entries ≡ members }
-{
-    match value {
-        Value::Object(members) => members,
-        _ => Map::new(alloc),
-    }
-}
-
 /// A value, and where it is tagged its origin.
-fn named_json(alloc: Global, named: NamedValue) -> Result<Value, NoMemory>
+pub fn named_value_json(alloc: Global, named: NamedValue) -> Result<Value, NoMemory>
     ensures { IfOk result (λ v. data_of v ≡ named_data named) }
 {
-    let mut members = members_of(alloc, value_json(alloc, named.value)?);
+    let mut members = value_members(alloc, named.value)?;
     if let Some(origin) = named.origin {
-        let name = OriginName(origin).to_string(alloc)?;
+        let mut name = String::new(alloc);
+        write_origin(&mut name, origin)?;
         put(&mut members, alloc, "from", Value::String(name))?;
     }
     Ok(Value::Object(members))
@@ -76,7 +66,7 @@ fn put_named(
         ≡ put_named named (members_view members.old.entries)) }
 {
     let key = spot_key(alloc, named.name)?;
-    let value = named_json(alloc, named)?;
+    let value = named_value_json(alloc, named)?;
     put(members, alloc, key.as_str(), value)?;
     Ok(())
 }
@@ -247,7 +237,7 @@ pub(crate) fn step_json(
 ) -> Result<Value, NoMemory>
     ensures { IfOk result (λ v. data_of v ≡ step_data lines.now number facts.now) }
 {
-    let mut members = members_of(alloc, event_json(alloc, &Event::Step(facts.entry))?);
+    let mut members = event_members(alloc, &Event::Step(facts.entry))?;
     put_extent(alloc, &mut members, facts.at)?;
     put_cleared(alloc, &mut members, facts.clears)?;
     put_granule(alloc, &mut members, "finds", facts.finds)?;
@@ -311,7 +301,7 @@ pub(crate) fn sweep_json(
 ) -> Result<Value, NoMemory>
     ensures { IfOk result (λ v. data_of v ≡ sweep_data number event.now places.now) }
 {
-    let mut members = members_of(alloc, event_json(alloc, event)?);
+    let mut members = event_members(alloc, event)?;
     put(&mut members, alloc, "number", Value::from(number))?;
     put_clears(alloc, &mut members, places)?;
     Ok(Value::Object(members))

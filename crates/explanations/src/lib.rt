@@ -9,6 +9,7 @@ mod forms;
 mod mnemonics;
 mod named_json;
 mod names;
+mod phrases;
 mod pieces;
 mod reasons;
 mod runs;
@@ -17,8 +18,8 @@ mod step_json;
 mod text;
 mod whole_json;
 
-pub use followed::follow;
-pub use names::OriginName;
+pub use fact_data::named_value_json;
+pub use followed::{follow, take};
 pub use runs::{Format, explain};
 pub use selection::{Filter, Selection};
 pub use whole_json::{put_events, write_json};

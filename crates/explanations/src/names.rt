@@ -41,23 +41,6 @@ impl fmt::Display for SweptName {
     }
 }
 
-/// The place of the image that has a value's capability: `0:c7`, `0:pcc` or `mem:` and a granule's
-/// address.
-#[derive(Clone, Copy)]
-pub struct OriginName(pub Place);
-
-impl fmt::Display for OriginName {
-    ghost output = { λ name. Some (origin_name name.0) };
-
-    fn fmt<W: fmt::Write>(&self, f: &mut fmt::Formatter<W>) -> fmt::Result {
-        match self.0 {
-            Place::PccOf(hart) => write!(f, "{hart}:pcc"),
-            Place::RegisterOf { hart, number } => write!(f, "{hart}:c{number}"),
-            Place::GranuleOf(number) => write!(f, "mem:{}", granule_address(number as usize)),
-        }
-    }
-}
-
 /// Appends a place as `SpotName` shows it. A formatter takes twice the time, here and below.
 pub(crate) fn write_spot(out: &mut String, spot: Spot) -> Result<(), NoMemory>
     ensures { OnOk result (string_bytes out.new ≡ string_bytes out.old ++ spot_name spot) }
@@ -75,7 +58,8 @@ pub(crate) fn write_spot(out: &mut String, spot: Spot) -> Result<(), NoMemory>
     }
 }
 
-/// Appends a place of the image as `OriginName` shows it.
+/// Appends the place of the image that has a value's capability: `0:c7`, `0:pcc` or `mem:` and a
+/// granule's address.
 pub(crate) fn write_origin(out: &mut String, origin: Place) -> Result<(), NoMemory>
     ensures { OnOk result (string_bytes out.new ≡ string_bytes out.old ++ origin_name origin) }
 {

@@ -1,111 +1,91 @@
 //! Reasons in words: why a tag was lost, and why a step trapped.
 #![tactic(auto, unfolding(crate::proofs::Unfold::reasons))]
 
-ghost use Rattle.std.specs.Prelude.{◌≡◌, ◌++◌, OnOk, Some, string_bytes};
-ghost use Rattle.explanations.specs.Reasons.{permission_set, lacks, untagged, sealed, outside_region};
-ghost use Rattle.explanations.specs.Reasons.{type_outside, outside, why_text, trap_why_text};
+ghost use Rattle.std.specs.Prelude.{◌≡◌, ◌++◌, OnOk, codes, decimal, string_bytes};
+ghost use Rattle.report_lines.specs.Texts.{◌+++◌};
+ghost use Rattle.explanations.specs.Reasons.{permission_set, lacks, sealed, outside, outside_region};
+ghost use Rattle.explanations.specs.Reasons.{type_outside, why_text, trap_why_text};
 
-use crate::names::SpotName;
+use crate::phrases::{
+    write_above, write_address, write_after, write_bounds, write_bytes_at, write_decimal, write_of,
+    write_pair,
+};
 use bitflags::Flags;
 use cheri_model::{NoMemory, OType, Perms};
 use facts::{TrapWhy, Why};
+use itoa::Buffer;
 use notation::write_permission_names;
 use origins::Spot;
-use report_lines::{Hex, Hex64, TypeText};
-use std::fmt;
+use report_lines::{Hex64, write_type};
 
-/// That a register is untagged.
-#[derive(Clone, Copy)]
-struct Untagged(Spot);
-
-impl fmt::Display for Untagged {
-    ghost output = { λ register. Some (untagged register.0) };
-
-    fn fmt<W: fmt::Write>(&self, f: &mut fmt::Formatter<W>) -> fmt::Result {
-        write!(f, "{} is untagged", SpotName(self.0))
-    }
+/// Appends that a register is sealed, and with which object type.
+fn write_sealed(out: &mut String, name: Spot, otype: OType) -> Result<(), NoMemory>
+    ensures { OnOk result (string_bytes out.new ≡ string_bytes out.old ++ sealed name otype) }
+{
+    write_of(out, name, " is sealed (")?;
+    write_type(out, otype)?;
+    out.push_str(")")
 }
 
-/// That a register is sealed, and with which object type.
-#[derive(Clone, Copy)]
-struct Sealed(Spot, OType);
-
-impl fmt::Display for Sealed {
-    ghost output = { λ register. Some (sealed register.0 register.1) };
-
-    fn fmt<W: fmt::Write>(&self, f: &mut fmt::Formatter<W>) -> fmt::Result {
-        write!(f, "{} is sealed ({})", SpotName(self.0), TypeText(self.1))
-    }
+/// Appends how large the region is that an address is outside of.
+fn write_power(out: &mut String, power: u32) -> Result<(), NoMemory>
+    ensures { OnOk result (string_bytes out.new ≡ string_bytes out.old
+        ++ (codes " is outside the representable region of 2^" +++ decimal power)) }
+{
+    out.push_str(" is outside the representable region of 2^")?;
+    out.push_str(Buffer::new().format(power))?;
+    Ok(())
 }
 
-/// That an address is outside the representable region of a capability.
-#[derive(Clone, Copy)]
-struct OutsideRegion {
+/// Appends that an address is outside the representable region of a capability.
+fn write_outside_region(
+    out: &mut String,
     address: u64,
     power: u32,
     start: u64,
+) -> Result<(), NoMemory>
+    ensures { OnOk result (string_bytes out.new
+        ≡ string_bytes out.old ++ outside_region address power start) }
+{
+    write_address(out, "address ", address)?;
+    write_power(out, power)?;
+    write_address(out, " bytes at ", start)?;
+    Ok(())
 }
 
-impl fmt::Display for OutsideRegion {
-    ghost output = { λ region. Some (outside_region region.address region.power region.start) };
-
-    fn fmt<W: fmt::Write>(&self, f: &mut fmt::Formatter<W>) -> fmt::Result {
-        let OutsideRegion {
-            address,
-            power,
-            start,
-        } = *self;
-        let (address, start) = (Hex64(address), Hex64(start));
-        write!(
-            f,
-            "address {address} is outside the representable region of 2^{power} bytes at {start}"
-        )
-    }
-}
-
-/// That an object type is outside the bounds of the authority to seal or unseal with it.
-#[derive(Clone, Copy)]
-struct TypeOutside {
+/// Appends that an object type is outside the bounds of the authority to seal or unseal with it.
+fn write_type_outside(
+    out: &mut String,
     otype: u64,
     base: u64,
     top: u128,
     authority: Spot,
+) -> Result<(), NoMemory>
+    ensures { OnOk result (string_bytes out.new
+        ≡ string_bytes out.old ++ type_outside otype base top authority) }
+{
+    write_address(out, "type ", otype)?;
+    write_bounds(out, " is not in ", base, " ", top)?;
+    write_after(out, " of ", authority)?;
+    Ok(())
 }
 
-impl fmt::Display for TypeOutside {
-    ghost output = { λ asked.
-        Some (type_outside asked.otype asked.base asked.top asked.authority) };
-
-    fn fmt<W: fmt::Write>(&self, f: &mut fmt::Formatter<W>) -> fmt::Result {
-        let (otype, base) = (Hex64(self.otype), Hex64(self.base));
-        let (top, authority) = (Hex::of_top(self.top), SpotName(self.authority));
-        write!(f, "type {otype} is not in {base} {top} of {authority}")
-    }
-}
-
-/// That bytes are outside the bounds of a register.
-#[derive(Clone, Copy)]
-struct Outside {
+/// Appends that bytes are outside the bounds of a register.
+fn write_outside(
+    out: &mut String,
     bytes: u64,
     address: u64,
     base: u64,
     top: u128,
     name: Spot,
-}
-
-impl fmt::Display for Outside {
-    ghost output = { λ asked.
-        Some (outside asked.bytes asked.address asked.base asked.top asked.name) };
-
-    fn fmt<W: fmt::Write>(&self, f: &mut fmt::Formatter<W>) -> fmt::Result {
-        let (address, base) = (Hex64(self.address), Hex64(self.base));
-        let (top, name) = (Hex::of_top(self.top), SpotName(self.name));
-        let bytes = self.bytes;
-        write!(
-            f,
-            "{bytes} bytes at {address} are not in {base} {top} of {name}"
-        )
-    }
+) -> Result<(), NoMemory>
+    ensures { OnOk result (string_bytes out.new
+        ≡ string_bytes out.old ++ outside bytes address base top name) }
+{
+    write_bytes_at(out, bytes, address)?;
+    write_bounds(out, " are not in ", base, " ", top)?;
+    write_after(out, " of ", name)?;
+    Ok(())
 }
 
 /// The set that has the permission with this number alone.
@@ -120,7 +100,7 @@ fn permission_set(number: u32) -> Perms
 fn write_lacks(out: &mut String, name: Spot, permission: u32) -> Result<(), NoMemory>
     ensures { OnOk result (string_bytes out.new ≡ string_bytes out.old ++ lacks name permission) }
 {
-    write!(out, "{} has no ", SpotName(name))?;
+    write_of(out, name, " has no ")?;
     write_permission_names(out, permission_set(permission))
 }
 
@@ -134,23 +114,44 @@ fn write_more(
     ensures { OnOk result (string_bytes out.new
         ≡ string_bytes out.old ++ why_text (Why.MorePermissions name permissions source)) }
 {
-    write!(out, "{} has ", SpotName(name))?;
+    write_of(out, name, " has ")?;
     write_permission_names(out, permissions)?;
-    write!(out, " that {} lacks", SpotName(source))?;
+    write_after(out, " that ", source)?;
+    out.push_str(" lacks")
+}
+
+/// Appends that a base is below its limit.
+fn write_base_below(out: &mut String, base: u64, limit: u64) -> Result<(), NoMemory>
+    ensures { OnOk result (string_bytes out.new
+        ≡ string_bytes out.old ++ why_text (Why.BaseBelow base limit)) }
+{
+    write_address(out, "base ", base)?;
+    write_address(out, " is below ", limit)
+}
+
+/// Appends that a number is no object type with which CSeal seals.
+fn write_type_above(out: &mut String, otype: u64) -> Result<(), NoMemory>
+    ensures { OnOk result (string_bytes out.new
+        ≡ string_bytes out.old ++ why_text (Why.TypeAbove otype)) }
+{
+    write_address(out, "type ", otype)?;
+    out.push_str(" is above 262139")?;
     Ok(())
 }
 
-/// Appends that a base is above its top.
-fn write_base_above_top(out: &mut String, base: u64, top: u128) -> Result<(), NoMemory>
+/// Appends that the object type of an authority is not that of what is sealed.
+fn write_type_differs(
+    out: &mut String,
+    otype: u64,
+    authority: Spot,
+    sealed: OType,
+) -> Result<(), NoMemory>
     ensures { OnOk result (string_bytes out.new
-        ≡ string_bytes out.old ++ why_text (Why.BaseAboveTop base top)) }
+        ≡ string_bytes out.old ++ why_text (Why.TypeDiffers otype authority sealed)) }
 {
-    write!(
-        out,
-        "base {} is above top {}",
-        Hex64(base),
-        Hex::of_top(top)
-    )
+    write_address(out, "type ", otype)?;
+    write_after(out, " of ", authority)?;
+    write_decimal(out, " is not ", u64::from(sealed.number()))
 }
 
 /// Appends why a tag was lost.
@@ -160,90 +161,72 @@ pub(crate) fn write_why(out: &mut String, why: Why) -> Result<(), NoMemory>
     match why {
         Why::AskedFor => out.push_str("asked for"),
         Why::UpperReplaced => out.push_str("upper half replaced"),
-        Why::Sealed { name, otype } => write!(out, "{}", Sealed(name, otype)),
+        Why::Sealed { name, otype } => write_sealed(out, name, otype),
         Why::OutsideRegion {
             address,
             power,
             start,
-        } => {
-            write!(
-                out,
-                "{}",
-                OutsideRegion {
-                    address,
-                    power,
-                    start
-                }
-            )
-        }
-        Why::BaseBelow { base, limit } => {
-            write!(out, "base {} is below {}", Hex64(base), Hex64(limit))
-        }
-        Why::EndAbove { end, limit } => {
-            write!(
-                out,
-                "end {} is above {}",
-                Hex::of_top(end),
-                Hex::of_top(limit)
-            )
-        }
-        Why::Rounds { base, top } => {
-            write!(out, "rounds to {} {}", Hex64(base), Hex::of_top(top))
-        }
+        } => write_outside_region(out, address, power, start),
+        Why::BaseBelow { base, limit } => write_base_below(out, base, limit),
+        Why::EndAbove { end, limit } => write_above(out, "end ", end, limit),
+        Why::Rounds { base, top } => write_bounds(out, "rounds to ", base, " ", top),
         Why::Lacks { name, permission } => write_lacks(out, name, permission),
-        Why::Untagged { name } => write!(out, "{}", Untagged(name)),
+        Why::Untagged { name } => write_of(out, name, " is untagged"),
         Why::TypeOutside {
             otype,
             base,
             top,
             authority,
-        } => {
-            write!(
-                out,
-                "{}",
-                TypeOutside {
-                    otype,
-                    base,
-                    top,
-                    authority
-                }
-            )
-        }
-        Why::TypeAbove { otype } => write!(out, "type {} is above 262139", Hex64(otype)),
-        Why::NotSealed { name } => write!(out, "{} is not sealed", SpotName(name)),
-        Why::Sentry { name } => write!(out, "{} is sealed as sentry", SpotName(name)),
+        } => write_type_outside(out, otype, base, top, authority),
+        Why::TypeAbove { otype } => write_type_above(out, otype),
+        Why::NotSealed { name } => write_of(out, name, " is not sealed"),
+        Why::Sentry { name } => write_of(out, name, " is sealed as sentry"),
         Why::TypeDiffers {
             otype,
             authority,
             sealed,
-        } => {
-            let (otype, authority) = (Hex64(otype), SpotName(authority));
-            write!(
-                out,
-                "type {otype} of {authority} is not {}",
-                sealed.number()
-            )
-        }
-        Why::ReservedBits { name } => write!(out, "{} has reserved bits", SpotName(name)),
-        Why::TopAbove { top, limit } => {
-            write!(
-                out,
-                "top {} is above {}",
-                Hex::of_top(top),
-                Hex::of_top(limit)
-            )
-        }
-        Why::BaseAboveTop { base, top } => write_base_above_top(out, base, top),
+        } => write_type_differs(out, otype, authority, sealed),
+        Why::ReservedBits { name } => write_of(out, name, " has reserved bits"),
+        Why::TopAbove { top, limit } => write_above(out, "top ", top, limit),
+        Why::BaseAboveTop { base, top } => write_bounds(out, "base ", base, " is above top ", top),
         Why::MorePermissions {
             name,
             permissions,
             source,
-        } => { write_more(out, name, permissions, source) }
+        } => write_more(out, name, permissions, source),
         Why::NotAligned { alignment } => {
-            write!(out, "bounds are no multiples of {}", Hex64(alignment))
+            write_address(out, "bounds are no multiples of ", alignment)
         }
         Why::DataStored => out.push_str("data over a capability"),
     }
+}
+
+/// Appends that an address is no multiple of how many bytes are accessed.
+fn write_misaligned(out: &mut String, address: u64, bytes: u64) -> Result<(), NoMemory>
+    ensures { OnOk result (string_bytes out.new
+        ≡ string_bytes out.old ++ trap_why_text (TrapWhy.Misaligned address bytes)) }
+{
+    out.push_str(Buffer::new().format(Hex64(address)))?;
+    write_decimal(out, " is no multiple of ", bytes)
+}
+
+/// Appends that bytes are not in RAM.
+fn write_not_in_ram(out: &mut String, bytes: u64, address: u64) -> Result<(), NoMemory>
+    ensures { OnOk result (string_bytes out.new
+        ≡ string_bytes out.old ++ trap_why_text (TrapWhy.NotInRam bytes address)) }
+{
+    write_bytes_at(out, bytes, address)?;
+    out.push_str(" are not in RAM")
+}
+
+/// Appends that the object types of code and data differ.
+fn write_types_differ(out: &mut String, code: OType, data_type: OType) -> Result<(), NoMemory>
+    ensures { OnOk result (string_bytes out.new
+        ≡ string_bytes out.old ++ trap_why_text (TrapWhy.TypesDiffer code data_type)) }
+{
+    write_decimal(out, "types ", u64::from(code.number()))?;
+    write_decimal(out, " and ", u64::from(data_type.number()))?;
+    out.push_str(" differ")
 }
 
 /// Appends why a step trapped.
@@ -251,20 +234,16 @@ pub(crate) fn write_trap_why(out: &mut String, why: TrapWhy) -> Result<(), NoMem
     ensures { OnOk result (string_bytes out.new ≡ string_bytes out.old ++ trap_why_text why) }
 {
     match why {
-        TrapWhy::Untagged { name } => write!(out, "{}", Untagged(name)),
-        TrapWhy::Sealed { name, otype } => write!(out, "{}", Sealed(name, otype)),
-        TrapWhy::NotInvocable { name } => {
-            write!(out, "{} is not sealed with a type", SpotName(name))
-        }
+        TrapWhy::Untagged { name } => write_of(out, name, " is untagged"),
+        TrapWhy::Sealed { name, otype } => write_sealed(out, name, otype),
+        TrapWhy::NotInvocable { name } => write_of(out, name, " is not sealed with a type"),
         TrapWhy::Lacks { name, permission } => write_lacks(out, name, permission),
-        TrapWhy::HasExecute { name } => write!(out, "{} has execute", SpotName(name)),
+        TrapWhy::HasExecute { name } => write_of(out, name, " has execute"),
         TrapWhy::LacksStoreCap { name, stored } => {
-            let (name, stored) = (SpotName(name), SpotName(stored));
-            write!(out, "{name} has no store_cap for a tagged {stored}")
+            write_pair(out, name, " has no store_cap for a tagged ", stored)
         }
         TrapWhy::LacksStoreLocal { name, stored } => {
-            let (name, stored) = (SpotName(name), SpotName(stored));
-            write!(out, "{name} has no store_local for a local {stored}")
+            write_pair(out, name, " has no store_local for a local ", stored)
         }
         TrapWhy::Outside {
             bytes,
@@ -272,30 +251,10 @@ pub(crate) fn write_trap_why(out: &mut String, why: TrapWhy) -> Result<(), NoMem
             base,
             top,
             name,
-        } => {
-            write!(
-                out,
-                "{}",
-                Outside {
-                    bytes,
-                    address,
-                    base,
-                    top,
-                    name
-                }
-            )
-        }
-        TrapWhy::Misaligned { address, bytes } => {
-            write!(out, "{} is no multiple of {bytes}", Hex64(address))
-        }
-        TrapWhy::NotInRam { bytes, address } => {
-            write!(out, "{bytes} bytes at {} are not in RAM", Hex64(address))
-        }
-        TrapWhy::NoInstruction { address } => {
-            write!(out, "no instruction at {}", Hex64(address))
-        }
-        TrapWhy::TypesDiffer { code, data } => {
-            write!(out, "types {} and {} differ", code.number(), data.number())
-        }
+        } => write_outside(out, bytes, address, base, top, name),
+        TrapWhy::Misaligned { address, bytes } => write_misaligned(out, address, bytes),
+        TrapWhy::NotInRam { bytes, address } => write_not_in_ram(out, bytes, address),
+        TrapWhy::NoInstruction { address } => write_address(out, "no instruction at ", address),
+        TrapWhy::TypesDiffer { code, data } => write_types_differ(out, code, data),
     }
 }

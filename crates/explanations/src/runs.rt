@@ -1,11 +1,7 @@
 //! The run of two texts, a listing and an order, to what is said of it.
 
-ghost use Rattle.std.specs.Prelude.{◌≡◌, ◌+◌, ◌≤◌, IfOk, IfErr, OnOk, length, false};
-ghost use Rattle.std.specs.Io.KnownBytes.{Appends};
-ghost use Rattle.listings.specs.Meaning.{listing_limit};
-ghost use Rattle.sinks.specs.Sinks.{TakesPrefix};
-ghost use Rattle.sinks.specs.WriteFaults.{failures_of};
-ghost use Rattle.simulation.specs.Simulation.{IsRefusedRun, IsRunAnd, run_of_texts};
+ghost use Rattle.std.specs.Prelude.{◌≡◌, ◌+◌, IfOk, IfErr, false};
+ghost use Rattle.simulation.specs.Simulation.{IsRunUnwritten, IsRunWritten, run_of_texts};
 ghost use Rattle.simulation.specs.Simulation.{is_reported, failures_of_run};
 ghost use Rattle.cores.specs.declared.cores.TheConstants.{GREATEST_TRACE_LIMIT};
 ghost use Rattle.explanations.specs.ExplainedRuns.{explained, explained_core};
@@ -15,12 +11,12 @@ use crate::text::write_text;
 use crate::whole_json::write_json;
 use cores::{Core, GREATEST_TRACE_LIMIT, StepFault};
 use listings::instruction_lines;
-use simulation::{SimFault, run_texts};
+use simulation::{RunText, SimFault, run_and_write};
 use sinks::{Sink, WriteFault};
 use std::alloc::Global;
 
 /// How an explanation is written.
-#[derive(Clone, Copy, Debug, PartialEq, Eq)]
+#[derive(Clone, Copy)]
 pub enum Format {
     /// Lines for a reader.
     Text,
@@ -28,36 +24,35 @@ pub enum Format {
     Json,
 }
 
-/// Writes what is said of the run that a core took.
-#[tactic(auto, unfolding(crate::specs::ExplainedRuns::explained_core))]
-fn write_explained<S: Sink>(
-    alloc: Global,
-    core: &Core,
-    listing: &[u8],
+/// The explanation of the events of a run that are selected.
+#[derive(Clone, Copy)]
+struct Explanation {
     selection: Selection,
     format: Format,
-    sink: &mut S,
-) -> Result<(), WriteFault>
-    requires { length listing.now ≤ listing_limit }
-    ensures whole { OnOk result (Appends (S.written sink.old) (S.written sink.new)
-        (explained_core format listing.now selection core.now)) }
-    ensures prefix { TakesPrefix (S.written sink.old) (S.written sink.new)
-        (explained_core format listing.now selection core.now) }
-    ensures failures { S.failures sink.new ≡ S.failures sink.old + failures_of result }
-    ensures identity { S.identity sink.new ≡ S.identity sink.old }
-{
-    let lines = instruction_lines(alloc, listing)?;
-    match format {
-        Format::Text => write_text(alloc, core, &lines, selection, sink),
-        Format::Json => write_json(alloc, core, &lines, selection, sink),
+}
+
+impl RunText for Explanation {
+    ghost text = { λ e listing core. explained_core e.format listing e.selection core };
+
+    #[tactic(auto, unfolding(crate::specs::ExplainedRuns::explained_core))]
+    fn write<S: Sink>(
+        &self,
+        alloc: Global,
+        listing: &[u8],
+        core: &Core,
+        sink: &mut S,
+    ) -> Result<(), WriteFault> {
+        let lines = instruction_lines(alloc, listing)?;
+        match self.format {
+            Format::Text => write_text(alloc, core, &lines, self.selection, sink),
+            Format::Json => write_json(alloc, core, &lines, self.selection, sink),
+        }
     }
 }
 
 /// Runs the machine of a listing in an order and explains the events that are selected: what each
-/// read, found, left and set, why it trapped, and why a tag was lost. Answers the operation that
-/// was refused, if one was, with its place in the order counted from 0; what is said is of the
-/// operations before it. Nothing is written before both texts are good; the listing is judged
-/// first. After a fault of the writing the sink took a prefix of it.
+/// read, found, left and set, why it trapped, and why a tag was lost. It judges both texts, and
+/// answers, as [`simulation::run_and_write`] does with the longest trace.
 pub fn explain<S: Sink>(
     alloc: Global,
     listing: &[u8],
@@ -66,19 +61,16 @@ pub fn explain<S: Sink>(
     format: Format,
     out: &mut S,
 ) -> Result<Option<(usize, StepFault)>, SimFault>
-    ensures shown { IfOk result (λ end.
-        IsRunAnd (run_of_texts listing.now order.now GREATEST_TRACE_LIMIT)
-        (λ run. (run.1 ≡ end) × Appends (S.written out.old) (S.written out.new)
-        (explained format listing.now selection run))) }
-    ensures refused { IfErr result (λ fault.
-        IsRefusedRun (run_of_texts listing.now order.now GREATEST_TRACE_LIMIT)
-        (λ run. TakesPrefix (S.written out.old) (S.written out.new)
-        (explained format listing.now selection run)) fault) }
+    ensures shown { IfOk result (IsRunWritten
+        (run_of_texts listing.now order.now GREATEST_TRACE_LIMIT)
+        (explained format listing.now selection) (S.written out.old) (S.written out.new)) }
+    ensures refused { IfErr result (IsRunUnwritten
+        (run_of_texts listing.now order.now GREATEST_TRACE_LIMIT)
+        (explained format listing.now selection) (S.written out.old) (S.written out.new)) }
     ensures untouched { IfErr result (λ fault. is_reported fault ≡ false → out.new ≡ out.old) }
     ensures failures { S.failures out.new ≡ S.failures out.old + failures_of_run result }
     ensures identity { S.identity out.new ≡ S.identity out.old }
 {
-    let (core, refused) = run_texts(alloc, listing, order, GREATEST_TRACE_LIMIT)?;
-    write_explained(alloc, &core, listing, selection, format, out)?;
-    Ok(refused)
+    let text = Explanation { selection, format };
+    run_and_write(alloc, listing, order, GREATEST_TRACE_LIMIT, &text, out)
 }

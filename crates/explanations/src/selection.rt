@@ -1,10 +1,17 @@
 //! Which events of a run are shown.
 
-ghost use Rattle.std.specs.Prelude.{◌≡◌, ◌&&◌, nat_le};
+#![tactic(auto, unfolding(crate::specs::Explanation::is_shown))]
+
+ghost use Rattle.std.specs.Prelude.{◌≡◌};
+ghost use Rattle.explanations.specs.Explanation.{is_shown};
 ghost use Rattle.explanations.specs.Filters.{passes};
+ghost use Rattle.explanations.specs.NextFacts.{explained_of};
+
+use crate::followed::EventAndFacts;
+use cheri_model::Event;
 
 /// Which facts an event must have to be shown.
-#[derive(Clone, Copy, Debug, PartialEq, Eq)]
+#[derive(Clone, Copy)]
 pub enum Filter {
     /// None: every event is shown.
     All,
@@ -31,7 +38,7 @@ impl Filter {
 }
 
 /// Which events of a run are shown. They are counted from 0, over the whole run.
-#[derive(Clone, Copy, Debug, PartialEq, Eq)]
+#[derive(Clone, Copy)]
 pub struct Selection {
     /// The first event that may be shown.
     pub first: u32,
@@ -42,13 +49,23 @@ pub struct Selection {
 }
 
 impl Selection {
-    /// Whether the event with this number is shown, if it trapped or cleared a tag so.
-    pub(crate) fn shows(self, number: usize, trapped: bool, cleared: bool) -> bool
-        ensures { result ≡ (nat_le self.first number && nat_le number self.last
-            && passes self.filter trapped cleared) }
+    /// Whether the event with this number is shown.
+    pub(crate) fn shows(self, number: usize, taken: &EventAndFacts<'_>) -> bool
+        ensures { result ≡ is_shown self number (explained_of taken.now).1 }
     {
+        let (trapped, cleared) = match taken.event {
+            Event::Step(_) => (taken.facts.traps.is_some(), taken.facts.clears.is_some()),
+            Event::Sweep { .. } => (false, !taken.places.is_empty()),
+        };
         self.first as usize <= number
             && number <= self.last as usize
             && self.filter.passes(trapped, cleared)
     }
+}
+
+/// Which events are shown, and the line of each instruction.
+#[derive(Clone, Copy)]
+pub(crate) struct Shown<'a> {
+    pub lines: &'a [u32],
+    pub selection: Selection,
 }

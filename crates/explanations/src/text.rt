@@ -1,15 +1,13 @@
 //! The text of an explanation.
 #![tactic(auto, unfolding(crate::proofs::Unfold::shown))]
 
-ghost use Rattle.std.specs.Prelude.{◌≡◌, ◌+◌, ◌++◌, OnOk, None, string_bytes};
+ghost use Rattle.std.specs.Prelude.{◌≡◌, ◌+◌, ◌≤◌, ◌++◌, OnOk, length, string_bytes};
 ghost use Rattle.std.specs.Io.KnownBytes.{Appends};
-ghost use Rattle.cheri_model.specs.declared.operation.Op.TheVariants as operation;
-ghost use Rattle.cheri_model.specs.runs.Replay.{operation_of, operations_of};
-ghost use Rattle.cores.specs.Cores.{refused, core_after};
+ghost use Rattle.cheri_model.specs.runs.Replay.{operations_of};
+ghost use Rattle.cores.specs.Cores.{opening_core};
 ghost use Rattle.sinks.specs.Sinks.{TakesAllBut, TakesPrefix};
 ghost use Rattle.sinks.specs.WriteFaults.{failures_of};
 ghost use Rattle.report_lines.specs.Lines.{event_line};
-ghost use Rattle.facts.specs.EventFacts.{step, sweep};
 ghost use Rattle.explanations.specs.FactLines.{swept_lines};
 ghost use Rattle.explanations.specs.Explanation.{
   shown_lines,
@@ -17,19 +15,18 @@ ghost use Rattle.explanations.specs.Explanation.{
   head_lines,
   explanation,
 };
-ghost use Rattle.explanations.specs.NextFacts.{next_facts};
+ghost use Rattle.explanations.specs.NextFacts.{explained_of};
 
 use crate::fact_lines::{write_step, write_swept};
-use crate::followed::follow;
-use crate::selection::Selection;
-use cheri_model::{Entry, Event, Image, NoMemory};
+use crate::followed::{EventAndFacts, Retaken, follow, take};
+use crate::selection::{Selection, Shown};
+use cheri_model::{Event, Image, NoMemory};
 use cores::Core;
 use facts::StepFacts;
-use following::{Follower, SweepFault};
 use origins::Place;
 use report_lines::{write_count_line, write_event_line, write_image_line};
 use sinks::{PIECE, Sink, WriteFault, make_room, put_whole};
-use std::alloc::{AllocError, Global};
+use std::alloc::Global;
 
 /// Appends the places that a sweep cleared.
 fn write_places(out: &mut String, places: &[Place]) -> Result<(), NoMemory>
@@ -56,123 +53,62 @@ fn write_sweep(
     write_places(out, places)
 }
 
-/// Appends a step and its facts, if it is shown.
-fn write_shown_step(
+/// Appends an event and its facts, if it is shown.
+fn write_event(
     out: &mut String,
-    lines: &[u32],
-    selection: Selection,
+    shown: Shown<'_>,
     number: usize,
-    event: &Event,
-    facts: &StepFacts,
+    taken: EventAndFacts<'_>,
 ) -> Result<(), NoMemory>
     ensures { OnOk result (string_bytes out.new ≡ string_bytes out.old
-        ++ shown_lines lines.now selection number (event.now, step facts.now)) }
+        ++ shown_lines shown.entry.lines.now shown.entry.selection number
+        (explained_of taken.entry)) }
 {
-    let _ = event;
-    let (trapped, cleared) = (facts.traps.is_some(), facts.clears.is_some());
-    if selection.shows(number, trapped, cleared) {
-        write_step(out, lines, number, facts)?;
+    if !shown.selection.shows(number, &taken) {
+        return Ok(());
+    }
+    match taken.event {
+        Event::Step(_) => write_step(out, shown.lines, number, taken.facts),
+        Event::Sweep { .. } => write_sweep(out, number, taken.event, taken.places.as_slice()),
+    }
+}
+
+/// Writes the events of a core's trace that are shown, each taken once more.
+fn put_retaken<S: Sink>(
+    alloc: Global,
+    out: &mut String,
+    sink: &mut S,
+    core: &Core,
+    shown: Shown<'_>,
+    retaken: &mut Retaken,
+) -> Result<(), WriteFault>
+    requires opened { retaken.old.follower ≡ opening_core core.now.image core.now.limit }
+    requires fits { length core.now.trace ≤ core.now.limit }
+    ensures whole { OnOk result (TakesAllBut (S.written sink.old) (S.written sink.new)
+        (string_bytes out.new) (string_bytes out.old
+        ++ events_lines core.now.image shown.entry.lines.now shown.entry.selection
+        (operations_of core.now.trace))) }
+    ensures prefix { TakesPrefix (S.written sink.old) (S.written sink.new) (string_bytes out.old
+        ++ events_lines core.now.image shown.entry.lines.now shown.entry.selection
+        (operations_of core.now.trace)) }
+    ensures failures { S.failures sink.new ≡ S.failures sink.old + failures_of result }
+    ensures identity { S.identity sink.new ≡ S.identity sink.old }
+{
+    let view = core.view();
+    for (number, event) in view.entries.iter().enumerate() {
+        let places = take(alloc, &mut retaken.follower, &mut retaken.facts, event)?;
+        let taken = EventAndFacts {
+            event,
+            facts: &retaken.facts,
+            places,
+        };
+        write_event(out, shown, number, taken)?;
+        make_room(out, sink)?;
     }
     Ok(())
 }
 
-/// Appends a sweep and what it cleared, if it is shown.
-fn write_shown_sweep(
-    out: &mut String,
-    lines: &[u32],
-    selection: Selection,
-    number: usize,
-    event: &Event,
-    places: &[Place],
-) -> Result<(), NoMemory>
-    ensures { OnOk result (string_bytes out.new ≡ string_bytes out.old
-        ++ shown_lines lines.now selection number (event.now, sweep places.now)) }
-{
-    let _ = lines;
-    if selection.shows(number, false, !places.is_empty()) {
-        write_sweep(out, number, event, places)?;
-    }
-    Ok(())
-}
-
-/// Takes a step and appends its facts, if it is shown.
-fn write_next_step(
-    out: &mut String,
-    lines: &[u32],
-    selection: Selection,
-    number: usize,
-    follower: &mut Follower,
-    facts: &mut StepFacts,
-    event: &Event,
-    hart: u8,
-) -> Result<(), NoMemory>
-    ensures text { OnOk result (refused follower.old (operation.Step hart) ≡ None
-        → string_bytes out.new ≡ string_bytes out.old ++ shown_lines lines.now selection number
-        (event.now, next_facts follower.old (operation.Step hart))) }
-    ensures after { OnOk result (refused follower.old (operation.Step hart) ≡ None
-        → follower.new ≡ core_after follower.old (operation.Step hart)) }
-{
-    match follower.step(hart, facts) {
-        Ok(()) => write_shown_step(out, lines, selection, number, event, facts),
-        Err(_) => Ok(()),
-    }
-}
-
-/// Takes a sweep and appends what it cleared, if it is shown.
-fn write_next_sweep(
-    alloc: Global,
-    out: &mut String,
-    lines: &[u32],
-    selection: Selection,
-    number: usize,
-    follower: &mut Follower,
-    event: &Event,
-    lo: u64,
-    hi: u128,
-) -> Result<(), NoMemory>
-    ensures text { OnOk result (refused follower.old (operation.Sweep lo hi) ≡ None
-        → string_bytes out.new ≡ string_bytes out.old ++ shown_lines lines.now selection number
-        (event.now, next_facts follower.old (operation.Sweep lo hi))) }
-    ensures after { OnOk result (refused follower.old (operation.Sweep lo hi) ≡ None
-        → follower.new ≡ core_after follower.old (operation.Sweep lo hi)) }
-{
-    match follower.sweep(alloc, lo, hi) {
-        Ok(places) => write_shown_sweep(out, lines, selection, number, event, &places),
-        Err(SweepFault::NoMemory) => Err(AllocError),
-        Err(SweepFault::Refused(_)) => Ok(()),
-    }
-}
-
-/// Takes the operation of an event and appends what is said of it, if it is shown.
-fn write_next(
-    alloc: Global,
-    out: &mut String,
-    lines: &[u32],
-    selection: Selection,
-    number: usize,
-    follower: &mut Follower,
-    facts: &mut StepFacts,
-    event: &Event,
-) -> Result<(), NoMemory>
-    ensures text { OnOk result (refused follower.old (operation_of event.now) ≡ None
-        → string_bytes out.new ≡ string_bytes out.old ++ shown_lines lines.now selection number
-        (event.now, next_facts follower.old (operation_of event.now))) }
-    ensures after { OnOk result (refused follower.old (operation_of event.now) ≡ None
-        → follower.new ≡ core_after follower.old (operation_of event.now)) }
-{
-    match event {
-        Event::Step(Entry { hart, .. }) => {
-            write_next_step(out, lines, selection, number, follower, facts, event, *hart)
-        }
-        Event::Sweep { lo, hi, .. } => {
-            write_next_sweep(
-                alloc, out, lines, selection, number, follower, event, *lo, *hi,
-            )
-        }
-    }
-}
-
-/// Writes the events of a core's trace that are shown, taking them once more.
+/// Writes the events of a core's trace that are shown, taking them once more from the opening on.
 fn put_events<S: Sink>(
     alloc: Global,
     out: &mut String,
@@ -189,23 +125,19 @@ fn put_events<S: Sink>(
     ensures failures { S.failures sink.new ≡ S.failures sink.old + failures_of result }
     ensures identity { S.identity sink.new ≡ S.identity sink.old }
 {
-    let view = core.view();
-    let mut follower = follow(alloc, core)?;
-    let mut facts = StepFacts::blank();
-    for (number, event) in view.entries.iter().enumerate() {
-        write_next(
-            alloc,
-            out,
-            lines,
-            selection,
-            number,
-            &mut follower,
-            &mut facts,
-            event,
-        )?;
-        make_room(out, sink)?;
-    }
-    Ok(())
+    let follower = follow(alloc, core)?;
+    let mut retaken = Retaken {
+        follower,
+        facts: StepFacts::blank(),
+    };
+    put_retaken(
+        alloc,
+        out,
+        sink,
+        core,
+        Shown { lines, selection },
+        &mut retaken,
+    )
 }
 
 /// Appends the lines before the first event.

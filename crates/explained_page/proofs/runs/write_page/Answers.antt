@@ -2,8 +2,7 @@
 use Rattle.std.proofs.Common.{refl, arith}
 use Rattle.std.proofs.lemmas.Result.{MatchResult-from_err, err_from_is_err_and}
 use Rattle.cores.specs.Runs.{Run}
-use Rattle.simulation.proofs.SimulationLemmas.{of_run, failures_are, none_fails, unrun_says, listing_means}
-use Rattle.explanations.proofs.RunLemmas.{listing_fits}
+use Rattle.simulation.proofs.SimulationLemmas.{of_run, failures_are, none_fails, unrun_says, listing_means, listing_fits}
 use Rattle.explained_page.proofs.PageLemmas.{tested}
 use Rattle.explained_page.proofs.runs.write_page.Goals as goal
 

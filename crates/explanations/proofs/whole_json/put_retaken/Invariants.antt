@@ -6,7 +6,7 @@ use Rattle.sinks.specs.Sinks.{TakesAllBut}
 use Rattle.explanations.specs.Explanation.{explained_events}
 use Rattle.explanations.specs.JsonText.{events_from}
 use Rattle.explanations.proofs.RunLemmas.{IsAt}
-use Rattle.explanations.proofs.whole_json.put_events.Given as goal
+use Rattle.explanations.proofs.whole_json.put_retaken.Given as goal
 
 abbrev pub invariant-loop-number : goal.invariant-loop-number
 invariant-loop-number g l =
@@ -14,9 +14,9 @@ invariant-loop-number g l =
     let events = explained_events l.core.image order in
     record {
       taken : TakesAllBut (g.S.Sink.written l.initial.sink) (g.S.Sink.written l.sink)
-          (string_bytes l.out ++ events_from l.lines l.selection l.later l.number (drop l.number events))
-          (string_bytes l.initial.out ++ events_from l.lines l.selection false 0 events);
+          (string_bytes l.out ++ events_from l.shown.lines.now l.shown.selection l.later l.number (drop l.number events))
+          (string_bytes l.initial.out ++ events_from l.shown.lines.now l.shown.selection false 0 events);
       failures : g.S.Sink.failures l.sink ≡ g.S.Sink.failures l.initial.sink;
       identity : g.S.Sink.identity l.sink ≡ g.S.Sink.identity l.initial.sink;
-      position : IsAt l.core.image l.core.limit order l.number l.follower;
+      position : IsAt l.core.image l.core.limit order l.number l.retaken.follower;
     }
