@@ -4,6 +4,8 @@
 #[cfg(test)]
 mod names;
 #[cfg(test)]
+mod statements;
+#[cfg(test)]
 mod tokens;
 #[cfg(test)]
 mod values;
