@@ -22,8 +22,8 @@ fn push_section(
     Ok(())
 }
 
-/// The order of chunks: sections by their numbers, and the chunks of each in the order of the files.
-/// Each file has a row of its chunks by their sections. Fails only when out of memory.
+/// The order of chunks: sections by their numbers, and the chunks of each in the order of the
+/// files. Each file has a row of its chunks by their sections. Fails only when out of memory.
 pub fn section_order(
     alloc: Global,
     sections: usize,

@@ -19,8 +19,8 @@ use asm_symbols::{Locals, Symbols, no_locals, no_symbols};
 use asm_tokens::{AsmFault, AsmFaultKind, Token};
 use std::alloc::{AllocError, Global};
 
-/// What the statements so far make: chunks and symbols of all files, and the local labels of the file
-/// that is read.
+/// What the statements so far make: chunks and symbols of all files, and the local labels of the
+/// file that is read.
 #[derive(Drop)]
 pub struct Draft<'a> {
     pub chunks: Chunks,
@@ -68,8 +68,8 @@ impl Draft<'_> {
         self.chunks.here().kind.rank() == kind.rank()
     }
 
-    /// Puts so many bytes into the chunk that the file goes on in. Fails with `Size`, at the token of a
-    /// number, where it would have too many.
+    /// Puts so many bytes into the chunk that the file goes on in. Fails with `Size`, at the token
+    /// of a number, where it would have too many.
     pub(crate) fn grow(&mut self, tokens: &[Token], at: usize, count: usize) -> Result<(), AsmFault>
         ensures { Drafts result (draft_parts self.new)
             (grown_at (map token_parts tokens.now) at count (draft_parts self.old)) }

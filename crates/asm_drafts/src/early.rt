@@ -109,8 +109,8 @@ impl<'b, 't, 'a> LookUp for EarlyNames<'b, 't, 'a> {
 }
 
 impl Draft<'_> {
-    /// The value of an expression while its file is read. Fails with `Expression` at the first token
-    /// whose value isn't known then.
+    /// The value of an expression while its file is read. Fails with `Expression` at the first
+    /// token whose value isn't known then.
     pub(crate) fn early_value(
         &self,
         alloc: Global,

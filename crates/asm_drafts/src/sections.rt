@@ -18,8 +18,8 @@ pub struct Entry {
 }
 
 impl Draft<'_> {
-    /// Goes on in a section, of which flags may say the kind. Fails with `Section`, at the token of a
-    /// number, where it has another kind in this file.
+    /// Goes on in a section, of which flags may say the kind. Fails with `Section`, at the token of
+    /// a number, where it has another kind in this file.
     pub(crate) fn enter(
         &mut self,
         tokens: &[Token],

@@ -114,8 +114,8 @@ impl<'a> Draft<'a> {
         }
     }
 
-    /// The statement of a number in its file. `entry` is the section that it names, if it names one.
-    /// Fails at the first token at which it can't go on.
+    /// The statement of a number in its file. `entry` is the section that it names, if it names
+    /// one. Fails at the first token at which it can't go on.
     pub fn put_statement(
         &mut self,
         alloc: Global,

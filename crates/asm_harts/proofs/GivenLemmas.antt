@@ -103,37 +103,38 @@ pub record Steps (registers : Registers) (places : HartPlaces) (hart : OpenHart)
   pub pcc : CapValue
   pub first : Registers
   pub second : Registers
+  pub made_at : pcc_at places.reach places.entry ≡ Ok pcc
   pub with_stack_is : with_stack registers (stack_of registers places) ≡ Ok first
   pub with_exit_is : with_exit first places.reach places.exit ≡ Ok second
   pub whole : hart_from pcc (stack_of registers places) (with_number second places.number) places.memory_end ≡ hart
 
 exit_step : (r : Result Registers MakeFault) (registers first : Registers) (places : HartPlaces) (hart : OpenHart) (pcc : CapValue)
-    → with_stack registers (stack_of registers places) ≡ Ok first
+    → pcc_at places.reach places.entry ≡ Ok pcc → with_stack registers (stack_of registers places) ≡ Ok first
     → with_exit first places.reach places.exit ≡ r
     → (r >>= λ linked. Ok (hart_from pcc (stack_of registers places) (with_number linked places.number) places.memory_end)) ≡ Ok hart
     → Steps registers places hart
-exit_step (Ok second) registers first places hart pcc s e h =
-    record { pcc = pcc; first = first; second = second; with_stack_is = s; with_exit_is = e; whole = cc }
-exit_step (Err fault) registers first places hart pcc s e h = absurd (cc)
+exit_step (Ok second) registers first places hart pcc m s e h =
+    record { pcc = pcc; first = first; second = second; made_at = m; with_stack_is = s; with_exit_is = e; whole = cc }
+exit_step (Err fault) registers first places hart pcc m s e h = absurd (cc)
 
 stack_step : (r : Result Registers MakeFault) (registers : Registers) (places : HartPlaces) (hart : OpenHart) (pcc : CapValue)
-    → with_stack registers (stack_of registers places) ≡ r
+    → pcc_at places.reach places.entry ≡ Ok pcc → with_stack registers (stack_of registers places) ≡ r
     → (r >>= λ stacked. with_exit stacked places.reach places.exit >>= λ linked.
     Ok (hart_from pcc (stack_of registers places) (with_number linked places.number) places.memory_end)) ≡ Ok hart
     → Steps registers places hart
-stack_step (Ok first) registers places hart pcc s h = exit_step (with_exit first places.reach places.exit) registers first places hart pcc s refl h
-stack_step (Err fault) registers places hart pcc s h = absurd (cc)
+stack_step (Ok first) registers places hart pcc m s h = exit_step (with_exit first places.reach places.exit) registers first places hart pcc m s refl h
+stack_step (Err fault) registers places hart pcc m s h = absurd (cc)
 
-pcc_step : (r : Result CapValue MakeFault) (registers : Registers) (places : HartPlaces) (hart : OpenHart)
+pcc_step : (r : Result CapValue MakeFault) (registers : Registers) (places : HartPlaces) (hart : OpenHart) → pcc_at places.reach places.entry ≡ r
     → (r >>= λ pcc. with_stack registers (stack_of registers places) >>= λ stacked. with_exit stacked places.reach places.exit >>= λ linked.
     Ok (hart_from pcc (stack_of registers places) (with_number linked places.number) places.memory_end)) ≡ Ok hart
     → Steps registers places hart
-pcc_step (Ok pcc) registers places hart h = stack_step (with_stack registers (stack_of registers places)) registers places hart pcc refl h
-pcc_step (Err fault) registers places hart h = absurd (cc)
+pcc_step (Ok pcc) registers places hart m h = stack_step (with_stack registers (stack_of registers places)) registers places hart pcc m refl h
+pcc_step (Err fault) registers places hart m h = absurd (cc)
 
 pub steps_of : (registers : Registers) (places : HartPlaces) (hart : OpenHart) → hart_of registers places ≡ Ok hart → Steps registers places hart
 unfolding hart_of
-steps_of registers places hart h = pcc_step (pcc_at places.reach places.entry) registers places hart h
+steps_of registers places hart h = pcc_step (pcc_at places.reach places.entry) registers places hart refl h
 
 pub given : (registers : Registers) (places : HartPlaces) (hart : OpenHart) (n : ℕ) → hart_of registers places ≡ Ok hart → IsGiven registers places hart n
 given registers places hart n h =

@@ -1,5 +1,5 @@
--- A hart before its first step: PCC at its entry, its stack, the exit, its number, and what a request
--- sets.
+-- A hart before its first step: PCC at its entry, its stack, the exit, its number, and what a
+-- request sets.
 use Rattle.std.specs.Prelude.{◌≡◌, ℕ, ◌+◌, ◌%◌, ◌^◌, ◌==◌, ◌||◌, if◌then◌else◌, Option, Some, None}
 use Rattle.std.specs.Prelude.{Result, Ok, Err}
 use Rattle.cap_model.specs.values.CapValue.{CapValue, raw}

@@ -51,13 +51,13 @@ pub struct OpenHart {
 }
 
 /// The register of stacks.
-const STACK: u8 = 2;
+pub const STACK: u8 = 2;
 
 /// The register of links.
-const LINK: u8 = 1;
+pub const LINK: u8 = 1;
 
 /// The register of the first argument.
-const ARGUMENT: u8 = 10;
+pub const ARGUMENT: u8 = 10;
 
 /// What the base of a stack is a multiple of.
 #[tactic(auto, unfolding(asm_capabilities::specs::Capabilities::stack_alignment))]

@@ -9,8 +9,8 @@ ghost use Rattle.asm_harts.specs.declared.hart.Stack.{Stack};
 ghost use Rattle.asm_harts.specs.Harts.{hart_of};
 ghost use Rattle.asm_harts.specs.Given.{IsGiven};
 
-/// A register of a hart holds what the request sets it to, the stack, the exit or the hart's number,
-/// and nothing else.
+/// A register of a hart holds what the request sets it to, the stack, the exit or the hart's
+/// number, and nothing else.
 pub fn registers_are_given()
     ensures { (registers : Registers) (places : HartPlaces) (hart : OpenHart) (place : ℕ)
         → hart_of registers places ≡ Ok hart → IsGiven registers places hart place }

@@ -6,5 +6,5 @@ pub mod laws;
 mod registers;
 
 pub use asm_capabilities::Reach;
-pub use hart::{HartPlaces, OpenHart, Stack, open_hart};
+pub use hart::{ARGUMENT, HartPlaces, LINK, OpenHart, STACK, Stack, open_hart};
 pub use registers::{Registers, no_registers};

@@ -71,8 +71,8 @@ impl Objects<'_> {
         }
     }
 
-    /// The capability of a symbol's bytes, at an address. Fails with `Expression` where it has none,
-    /// and with `Capability` where it can't be made exactly.
+    /// The capability of a symbol's bytes, at an address. Fails with `Expression` where it has
+    /// none, and with `Capability` where it can't be made exactly.
     fn data_of(&self, symbol: u32, address: u64) -> Result<Word, AsmFaultKind>
         ensures { result ≡ data_of (objects_parts self.now) symbol address }
     {
@@ -87,9 +87,9 @@ impl Objects<'_> {
     }
 
     /// The capability that a value is: of a number the integer, without a tag; of a place in code a
-    /// sentry; of another place that of the symbol by which it was named, at its address. Fails with
-    /// `Section` where nothing is kept of the place's chunk, with `Expression` where no symbol named
-    /// it, and with `Capability` where there is no such capability.
+    /// sentry; of another place that of the symbol by which it was named, at its address. Fails
+    /// with `Section` where nothing is kept of the place's chunk, with `Expression` where no symbol
+    /// named it, and with `Capability` where there is no such capability.
     pub fn capability_of(&self, value: Value) -> Result<Word, AsmFaultKind>
         ensures { result ≡ capability_of (objects_parts self.now) value }
     {

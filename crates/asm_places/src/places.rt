@@ -53,8 +53,8 @@ impl Places<'_> {
         Some(start.wrapping_add(offset))
     }
 
-    /// The number that a value is, a place its address. Fails with `Section` where nothing is kept of
-    /// the place's chunk.
+    /// The number that a value is, a place its address. Fails with `Section` where nothing is kept
+    /// of the place's chunk.
     pub fn address_of(&self, value: Value) -> Result<u64, AsmFaultKind>
         ensures { result ≡ address_of (places_parts self.now) value }
     {
@@ -77,9 +77,9 @@ impl Places<'_> {
         Some(to.wrapping_sub(from))
     }
 
-    /// The number of the instruction that a branch goes to, of a program of so many. The end of code
-    /// is one. Fails with `Expression` for a number, with `Section` where nothing is kept of the
-    /// place's chunk, and with `Range` for a place that is no instruction.
+    /// The number of the instruction that a branch goes to, of a program of so many. The end of
+    /// code is one. Fails with `Expression` for a number, with `Section` where nothing is kept of
+    /// the place's chunk, and with `Range` for a place that is no instruction.
     pub fn target_of(&self, value: Value, instructions: u64) -> Result<u64, AsmFaultKind>
         ensures { result ≡ target_of (places_parts self.now) value instructions }
     {

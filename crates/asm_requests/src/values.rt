@@ -1,4 +1,5 @@
-//! The values of capability registers: a symbol's capability, the table, or one that is written out.
+//! The values of capability registers: a symbol's capability, the table, or one that is written
+//! out.
 #![tactic(auto, unfolding(crate::proofs::Unfold::values))]
 
 ghost use Rattle.std.specs.Prelude.{◌≡◌, option_map};

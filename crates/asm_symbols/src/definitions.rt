@@ -43,8 +43,8 @@ pub struct Definition<'a> {
     pub bytes: Option<u32>,
 }
 
-/// The symbols of all files so far, by their numbers, and the names of the file that is read: of its
-/// own symbols, and those that it wants all files to see.
+/// The symbols of all files so far, by their numbers, and the names of the file that is read: of
+/// its own symbols, and those that it wants all files to see.
 #[derive(Drop)]
 pub struct Symbols<'a> {
     pub definitions: Vec<Definition<'a>>,
@@ -118,8 +118,8 @@ impl<'a> Symbols<'a> {
         })
     }
 
-    /// The value of a statement's expression, and what it is worth where that is known already. Says
-    /// whether the name was free.
+    /// The value of a statement's expression, and what it is worth where that is known already.
+    /// Says whether the name was free.
     pub fn assign(
         &mut self,
         name: &'a [u8],

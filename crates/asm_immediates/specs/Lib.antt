@@ -1,0 +1,2 @@
+-- The values of operands.
+pub mod Immediates

@@ -1,0 +1,2 @@
+-- What the laws ask of places and registers.
+pub mod Places

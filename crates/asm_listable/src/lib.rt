@@ -1,0 +1,4 @@
+//! Laws: what an assembled program begins with can be written as a listing.
+#![tactic(auto)]
+
+pub mod laws;
