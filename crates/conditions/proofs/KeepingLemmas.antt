@@ -26,6 +26,14 @@ if_not : {A : Type 0} (test : Bool) (x y : A) → test ≡ false → (if test th
 if_not false x y is = refl
 if_not true x y is = absurd (cc)
 
+and_false : (x : Bool) → (x && false) ≡ false
+and_false true = refl
+and_false false = refl
+
+and_true : (x : Bool) → (x && true) ≡ x
+and_true true = refl
+and_true false = refl
+
 -- ---- the parts of one hart
 
 pub two_of : (formula : Formula) (joint : Joint) (p q : Bor (List Entry)) → IsJoined formula (Some (joint, p, q))
@@ -135,22 +143,22 @@ module _ (wanted : Bool) (formula : Formula) (before after : HartState) (answer 
       ap (λ (f : Formula). keeps wanted (chain joint f) one before after && keeps wanted (chain joint f) other before after) of
       ∙ sym (unit_not wanted single (join joint one other) before after _ (here (join joint one other) of)) ∙ ap (λ (f : Formula). keeps wanted single f before after) (sym of)
 
-  pub keeps_not_first : (joint : Joint) (p q : Bor (List Entry)) (first : Bool) → IsParted formula (Some (parts.Joined joint p q))
-      → ((f : Formula) → p.now ≡ entries_of f → first ≡ keeps wanted (chain joint formula) f before after)
-      → first ≡ false → answer ≡ false → answer ≡ keeps wanted single formula before after
-  keeps_not_first joint p q first is one denied so =
+  pub keeps_not_second : (joint : Joint) (p q : Bor (List Entry)) (second : Bool) → IsParted formula (Some (parts.Joined joint p q))
+      → ((f : Formula) → q.now ≡ entries_of f → second ≡ keeps wanted (chain joint formula) f before after)
+      → second ≡ false → answer ≡ false → answer ≡ keeps wanted single formula before after
+  keeps_not_second joint p q second is other denied so =
       let of = is_joined formula joint p q is in
-      so ∙ ap (λ b. b && keeps wanted (chain joint formula) of.1 before after) (sym denied ∙ one of.0 of.3) ∙ two_kept joint of.0 of.1 of.2
+      so ∙ sym (and_false (keeps wanted (chain joint formula) of.0 before after))
+      ∙ ap (λ b. keeps wanted (chain joint formula) of.0 before after && b) (sym denied ∙ other of.1 of.4) ∙ two_kept joint of.0 of.1 of.2
 
-  pub keeps_second : (joint : Joint) (p q : Bor (List Entry)) (first : Bool) → IsParted formula (Some (parts.Joined joint p q))
-      → ((f : Formula) → p.now ≡ entries_of f → first ≡ keeps wanted (chain joint formula) f before after) → first ≡ true
-      → ((f : Formula) → q.now ≡ entries_of f → answer ≡ keeps wanted (chain joint formula) f before after)
+  pub keeps_first : (joint : Joint) (p q : Bor (List Entry)) (second : Bool) → IsParted formula (Some (parts.Joined joint p q))
+      → ((f : Formula) → q.now ≡ entries_of f → second ≡ keeps wanted (chain joint formula) f before after) → second ≡ true
+      → ((f : Formula) → p.now ≡ entries_of f → answer ≡ keeps wanted (chain joint formula) f before after)
       → answer ≡ keeps wanted single formula before after
-  keeps_second joint p q first is one holds other =
+  keeps_first joint p q second is other holds one =
       let of = is_joined formula joint p q is in
-      other of.1 of.4
-      ∙ ap (λ b. b && keeps wanted (chain joint formula) of.1 before after) (sym holds ∙ one of.0 of.3)
-      ∙ two_kept joint of.0 of.1 of.2
+      one of.0 of.3 ∙ sym (and_true (keeps wanted (chain joint formula) of.0 before after))
+      ∙ ap (λ b. keeps wanted (chain joint formula) of.0 before after && b) (sym holds ∙ other of.1 of.4) ∙ two_kept joint of.0 of.1 of.2
 
 pub keeps_counted : (wanted : Bool) (formula : Formula) (before after : HartState) (answer : Bool) (p : Bor (List Entry)) (d : Comparison) (n : ℕ)
     (up down one other : Bool) → IsParted formula (Some (parts.Counted p d n)) → up ≡ count_needs wanted d n true → down ≡ count_needs wanted d n false
@@ -219,19 +227,19 @@ module _ (wanted : Bool) (joint : Joint) (whole formula : Formula) (before after
       ∙ sym (unit_not wanted (chain joint whole) (join k one other) before after _ (alone_chain (join k one other) of none))
       ∙ ap (λ (f : Formula). keeps wanted (chain joint whole) f before after) (sym of)
 
-  pub chain_not_first : (k : Joint) (p q : Bor (List Entry)) (first : Bool) → IsJoined formula (Some (k, p, q)) → is_joint joint k ≡ true → None ≡ alone formula
-      → ((f : Formula) → p.now ≡ entries_of f → first ≡ keeps wanted (chain joint whole) f before after)
-      → first ≡ false → answer ≡ false → answer ≡ keeps wanted (chain joint whole) formula before after
-  chain_not_first k p q first is same none one denied so =
+  pub chain_not_second : (k : Joint) (p q : Bor (List Entry)) (second : Bool) → IsJoined formula (Some (k, p, q)) → is_joint joint k ≡ true → None ≡ alone formula
+      → ((f : Formula) → q.now ≡ entries_of f → second ≡ keeps wanted (chain joint whole) f before after)
+      → second ≡ false → answer ≡ false → answer ≡ keeps wanted (chain joint whole) formula before after
+  chain_not_second k p q second is same none other denied so =
       let of = two_of formula k p q is in
-      so ∙ ap (λ b. b && keeps wanted (chain joint whole) of.1 before after) (sym denied ∙ one of.0 of.3) ∙ chain_two k of.0 of.1 of.2 same none
+      so ∙ sym (and_false (keeps wanted (chain joint whole) of.0 before after))
+      ∙ ap (λ b. keeps wanted (chain joint whole) of.0 before after && b) (sym denied ∙ other of.1 of.4) ∙ chain_two k of.0 of.1 of.2 same none
 
-  pub chain_second : (k : Joint) (p q : Bor (List Entry)) (first : Bool) → IsJoined formula (Some (k, p, q)) → is_joint joint k ≡ true → None ≡ alone formula
-      → ((f : Formula) → p.now ≡ entries_of f → first ≡ keeps wanted (chain joint whole) f before after) → first ≡ true
-      → ((f : Formula) → q.now ≡ entries_of f → answer ≡ keeps wanted (chain joint whole) f before after)
+  pub chain_first : (k : Joint) (p q : Bor (List Entry)) (second : Bool) → IsJoined formula (Some (k, p, q)) → is_joint joint k ≡ true → None ≡ alone formula
+      → ((f : Formula) → q.now ≡ entries_of f → second ≡ keeps wanted (chain joint whole) f before after) → second ≡ true
+      → ((f : Formula) → p.now ≡ entries_of f → answer ≡ keeps wanted (chain joint whole) f before after)
       → answer ≡ keeps wanted (chain joint whole) formula before after
-  chain_second k p q first is same none one holds other =
+  chain_first k p q second is same none other holds one =
       let of = two_of formula k p q is in
-      other of.1 of.4
-      ∙ ap (λ b. b && keeps wanted (chain joint whole) of.1 before after) (sym holds ∙ one of.0 of.3)
-      ∙ chain_two k of.0 of.1 of.2 same none
+      one of.0 of.3 ∙ sym (and_true (keeps wanted (chain joint whole) of.0 before after))
+      ∙ ap (λ b. keeps wanted (chain joint whole) of.0 before after && b) (sym holds ∙ other of.1 of.4) ∙ chain_two k of.0 of.1 of.2 same none

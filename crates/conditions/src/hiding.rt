@@ -248,15 +248,15 @@ impl Step<'_> {
 
     /// Whether the parts of one hart are, together, after the step as they are wanted, where this
     /// is so of the harts that were looked at.
-    fn keeps_unit(&self, around: Around<'_>, who: Subject, seen: &mut Seen) -> bool
-        ensures keeps { (whole : Formula) → IsWhole around.entry whole →
-            AllKeep around.entry whole self.now.before.now self.now.after.now seen.old →
-            result ≡ unit_keeps around.entry.wanted around.entry.joint whole
+    fn keeps_unit(&self, around: &Around<'_>, who: Subject, seen: &mut Seen) -> bool
+        ensures keeps { (whole : Formula) → IsWhole around.now whole →
+            AllKeep around.now whole self.now.before.now self.now.after.now seen.old →
+            result ≡ unit_keeps around.now.wanted around.now.joint whole
             self.now.before.now self.now.after.now who }
-        ensures seen { (whole : Formula) → IsWhole around.entry whole →
-            AllKeep around.entry whole self.now.before.now self.now.after.now seen.old →
+        ensures seen { (whole : Formula) → IsWhole around.now whole →
+            AllKeep around.now whole self.now.before.now self.now.after.now seen.old →
             result ≡ true →
-            AllKeep around.entry whole self.now.before.now self.now.after.now seen.new }
+            AllKeep around.now whole self.now.before.now self.now.after.now seen.new }
     {
         if seen.has(who) {
             return true;
@@ -301,10 +301,10 @@ impl Step<'_> {
                     whole: entries,
                 };
                 let mut seen = Seen::none();
-                if !self.keeps_chain(around, first, &mut seen) {
+                if !self.keeps_chain(&around, second, &mut seen) {
                     return false;
                 }
-                self.keeps_chain(around, second, &mut seen)
+                self.keeps_chain(&around, first, &mut seen)
             }
             Some(Parts::Counted(part, comparison, number)) => {
                 let up = comparison.needs(wanted, number, true);
@@ -319,16 +319,16 @@ impl Step<'_> {
     /// The same of a part that is joined with others, where the harts that were looked at keep
     /// theirs; they do so after it, too, where it is so.
     #[cycle(hiding)]
-    fn keeps_chain(&self, around: Around<'_>, part: &[Entry], seen: &mut Seen) -> bool
-        ensures keeps { (whole formula : Formula) → IsWhole around.entry whole →
+    fn keeps_chain(&self, around: &Around<'_>, part: &[Entry], seen: &mut Seen) -> bool
+        ensures keeps { (whole formula : Formula) → IsWhole around.now whole →
             part.now ≡ entries_of formula →
-            AllKeep around.entry whole self.now.before.now self.now.after.now seen.old →
-            result ≡ part_keeps around.entry whole formula self.now.before.now self.now.after.now }
-        ensures seen { (whole formula : Formula) → IsWhole around.entry whole →
+            AllKeep around.now whole self.now.before.now self.now.after.now seen.old →
+            result ≡ part_keeps around.now whole formula self.now.before.now self.now.after.now }
+        ensures seen { (whole formula : Formula) → IsWhole around.now whole →
             part.now ≡ entries_of formula →
-            AllKeep around.entry whole self.now.before.now self.now.after.now seen.old →
+            AllKeep around.now whole self.now.before.now self.now.after.now seen.old →
             result ≡ true →
-            AllKeep around.entry whole self.now.before.now self.now.after.now seen.new }
+            AllKeep around.now whole self.now.before.now self.now.after.now seen.new }
     {
         if let Some(who) = alone(part) {
             return self.keeps_unit(around, who, seen);
@@ -339,10 +339,10 @@ impl Step<'_> {
         if !around.joint.is_joint(joint) {
             return self.keeps_parts(around.wanted, part);
         }
-        if !self.keeps_chain(around, first, seen) {
+        if !self.keeps_chain(around, second, seen) {
             return false;
         }
-        self.keeps_chain(around, second, seen)
+        self.keeps_chain(around, first, seen)
     }
 }
 
