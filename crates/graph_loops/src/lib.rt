@@ -6,8 +6,6 @@ mod edges;
 mod labels;
 mod scans;
 mod tables;
-#[cfg(test)]
-mod tests;
 
 pub use edges::{has_edge, target_of};
 pub use labels::{Round, judge_labels};

@@ -2,4 +2,3 @@ pub mod OrderLemmas
 pub mod SearchLemmas
 pub mod WitnessLemmas
 pub mod TreeLemmas
-pub mod DoublingLemmas

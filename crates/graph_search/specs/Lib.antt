@@ -2,4 +2,3 @@ pub mod Walks
 pub mod Graphs
 pub mod Trees
 pub mod Searches
-pub mod Doubling

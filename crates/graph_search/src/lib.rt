@@ -7,8 +7,6 @@ mod graphs;
 mod progress;
 mod reached;
 mod search;
-#[cfg(test)]
-mod tests;
 mod trees;
 
 pub use edges::Edge;

@@ -5,7 +5,5 @@
 mod chains;
 mod hashes;
 mod table;
-#[cfg(test)]
-mod tests;
 
 pub use table::Interner;

@@ -4,7 +4,5 @@
 mod components;
 mod judging;
 mod rounds;
-#[cfg(test)]
-mod tests;
 
 pub use judging::{FoundLoop, Verdict, search_loops};

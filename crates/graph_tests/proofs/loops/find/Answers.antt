@@ -1,7 +1,7 @@
 use Rattle.std.proofs.Common.{refl}
 use Rattle.graph_loops.specs.Loops.{AreMeant}
 use Rattle.loop_search.specs.Verdicts.{AreDistinct}
-use Rattle.loop_search.proofs.tests.judged.Goals as goal
+use Rattle.graph_tests.proofs.loops.find.Goals as goal
 
 pub search_loops-requires-clause-meant : goal.search_loops-requires-clause-meant
 unfolding AreMeant

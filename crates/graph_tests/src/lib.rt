@@ -1,0 +1,11 @@
+//! Tests of the crates of graphs, by their public calls alone, as their users make them.
+#![tactic(auto)]
+
+#[cfg(test)]
+mod loops;
+#[cfg(test)]
+mod routes;
+#[cfg(test)]
+mod rows;
+#[cfg(test)]
+mod walks;
