@@ -1,7 +1,10 @@
 -- What is answered to each question, of the image of a listing.
-use Rattle.std.specs.Prelude.{◌≡◌, List, map, Result, Ok, Err, Some, None}
+use Rattle.std.specs.Prelude.{◌≡◌, ℕ, List, map, Result, Ok, Err, Some, None}
 use Rattle.authority_texts.specs.Answers.{IsAuthorityAnswer}
-use Rattle.explore_line.specs.Requests.{AskedQuestion, Find, Outcomes, Authority}
+use Rattle.explore_checks.specs.Checks.{IsCheckAnswer}
+use Rattle.explore_line.specs.Requests.{AskedQuestion, Find, Outcomes, Authority, Check}
+use Rattle.explore_properties.specs.Properties.{PropertiesParts}
+use Rattle.explore_properties.specs.Reading.{properties_of}
 use Rattle.explore_sweeps.specs.declared.Sweep.{Sweep}
 use Rattle.condition_texts.specs.Conditions.{condition_of}
 use Rattle.condition_texts.specs.declared.fault.TextFault.TheVariants.{Condition, Place}

@@ -42,17 +42,17 @@ fn format_of(asked: command_line::Format) -> Format
 
 /// A good listing: its text, its labels and its image.
 #[derive(Clone, Copy)]
-struct Listing<'a> {
-    text: &'a [u8],
-    labels: &'a Labels<'a>,
-    image: &'a Image,
+struct Listing<'t, 'l, 'i> {
+    text: &'t [u8],
+    labels: &'l Labels<'l>,
+    image: &'i Image,
 }
 
 /// Answers a request about a listing.
 fn answer_labelled<S: Sink, P: Progress>(
     alloc: Global,
     request: &ExploreRequest<'_>,
-    listing: Listing<'_>,
+    listing: Listing<'_, '_, '_>,
     progress: &mut P,
     sink: &mut S,
 ) -> Result<Ending, Fault>
