@@ -40,19 +40,19 @@ fn format_of(asked: command_line::Format) -> Format
     }
 }
 
-/// A good listing: its text, its labels and its image.
+/// A good listing: its text and its image.
 #[derive(Clone, Copy)]
-struct Listing<'t, 'l, 'i> {
+struct Listing<'t, 'i> {
     text: &'t [u8],
-    labels: &'l Labels<'l>,
     image: &'i Image,
 }
 
-/// Answers a request about a listing.
+/// Answers a request about a listing, with the listing's labels.
 fn answer_labelled<S: Sink, P: Progress>(
     alloc: Global,
     request: &ExploreRequest<'_>,
-    listing: Listing<'_, '_, '_>,
+    listing: Listing<'_, '_>,
+    labels: &Labels<'_>,
     progress: &mut P,
     sink: &mut S,
 ) -> Result<Ending, Fault>
@@ -60,21 +60,17 @@ fn answer_labelled<S: Sink, P: Progress>(
     requires some { 1 ≤ request.now.states }
     requires few { length request.now.sweeps.items ≤ MAX_SWEEPS }
     ensures printed { IfOk result (λ ending. HasWhole
-        (IsRequestAnswer (label_parts listing.entry.labels.now) listing.entry.text.now
+        (IsRequestAnswer (label_parts labels.now) listing.entry.text.now
         listing.entry.image.now (explore_asked_by request.now)) ending
         (S.written sink.old) (S.written sink.new)) }
     ensures failed { IfErr result (λ fault. FailsBy (failure_of fault)
-        (IsRequestAnswer (label_parts listing.entry.labels.now) listing.entry.text.now
+        (IsRequestAnswer (label_parts labels.now) listing.entry.text.now
         listing.entry.image.now (explore_asked_by request.now)) fault
         (S.written sink.old) (S.written sink.new)) }
     ensures identity { S.identity sink.new ≡ S.identity sink.old }
 {
     let sweeps = ranges_of(alloc, request.sweeps.as_slice())?;
-    let Listing {
-        text,
-        labels,
-        image,
-    } = listing;
+    let Listing { text, image } = listing;
     let search = Search {
         image,
         sweeps: sweeps.as_slice(),
@@ -111,12 +107,8 @@ fn answer_listed<S: Sink, P: Progress>(
     ensures identity { S.identity sink.new ≡ S.identity sink.old }
 {
     let labels = labels_of(alloc, image, text)?;
-    let listing = Listing {
-        text,
-        labels: &labels,
-        image,
-    };
-    answer_labelled(alloc, request, listing, progress, sink)
+    let listing = Listing { text, image };
+    answer_labelled(alloc, request, listing, &labels, progress, sink)
 }
 
 /// Answers a request.
@@ -209,8 +201,9 @@ fn conclude<E: Write>(err: &mut E, ended: Result<Ending, Fault>) -> u8
 /// and gives the exit status: 0 where all was answered, 4 where not all states could be kept, 5
 /// where no state is one that was looked for, and then `out` got the whole answer and `err`
 /// nothing. Else `err` got the line of a fault, whether it took it or not: 1 where a text was
-/// refused, or where the whole answer tells of a property that is violated, 2 where the command line was, and 3 for every other fault. Where `err` is a terminal,
-/// `terminal` is the clock by which lines of how far a long search is come there before.
+/// refused, or where the whole answer tells of a property that is violated, 2 where the command
+/// line was, and 3 for every other fault. Where `err` is a terminal, `terminal` is the clock by
+/// which lines of how far a long search is come there before.
 pub fn perform<F: Files, O: Write, E: Write, C: Clock>(
     alloc: Global,
     args: &[String],
