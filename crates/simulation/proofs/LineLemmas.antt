@@ -15,5 +15,3 @@ line_begins old new text begun = begins_on old new text (10 ∷ []) begun
 pub line_stops : (old now new : Option (List ℕ)) (text : List ℕ) → Appends old now text → TakesPrefix now new (10 ∷ []) →
     TakesPrefix old new (line text)
 line_stops old now new text grown stop = stops_on old now new [] text (10 ∷ []) (puts_all old now [] text text refl refl grown) stop
-
-
