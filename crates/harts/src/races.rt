@@ -43,7 +43,8 @@ pub fn run_harts<G: Gate + Sync, R: Threads + Wait + Sync>(
     ensures reports { IfOk result (λ run.
         AreReports turns run.0.trace (length image.harts) run.1.items) }
 {
-    boot_and_race(rt, alloc, image, turns, limit, gate, &mut Nobody, false)
+    let race = Race { turns, limit, gate };
+    boot_and_race(rt, alloc, image, race, None::<&mut Nobody>)
 }
 
 /// Runs the harts of an image as `run_harts` does, while the calling thread has the viewer look on
@@ -65,39 +66,44 @@ pub fn run_watched<G: Gate + Sync, V: Viewer, R: Threads + Wait + Sync>(
     ensures reports { IfOk result (λ run.
         AreReports turns run.0.trace (length image.harts) run.1.items) }
 {
-    boot_and_race(rt, alloc, image, turns, limit, gate, viewer, true)
+    let race = Race { turns, limit, gate };
+    boot_and_race(rt, alloc, image, race, Some(viewer))
 }
 
-/// Boots an image and races its harts. Only where the race is watched, a watch is asked for and the
-/// viewer looks on through it.
+/// What a race is run with: how many turns each hart has at most, how many events the trace has
+/// room for, and the gate that is asked before each turn.
+#[derive(Drop)]
+struct Race<'a, G> {
+    turns: u32,
+    limit: u32,
+    gate: &'a G,
+}
+
+/// Boots an image and races its harts. Only where there is a viewer, a watch is asked for and it
+/// looks on through it.
 fn boot_and_race<G: Gate + Sync, V: Viewer, R: Threads + Wait + Sync>(
     rt: &R,
     alloc: Global,
     image: Image,
-    turns: u32,
-    limit: u32,
-    gate: &G,
-    viewer: &mut V,
-    is_watched: bool,
+    race: Race<'_, G>,
+    viewer: Option<&mut V>,
 ) -> Result<(Core, Vec<HartReport>), RunFault>
-    ensures limit { (result ≡ Err (RunFault.Boot BootFault.Limit)) ↔ (is_limit limit ≡ false) }
+    ensures limit { (result ≡ Err (RunFault.Boot BootFault.Limit))
+        ↔ (is_limit race.entry.limit ≡ false) }
     ensures image { IfOk result (λ run. run.0.image ≡ image) }
-    ensures room { IfOk result (λ run. run.0.limit ≡ limit) }
+    ensures room { IfOk result (λ run. run.0.limit ≡ race.entry.limit) }
     ensures replay { IfOk result (λ run. IsReplay run.0.image run.0.trace run.0.state) }
     ensures reports { IfOk result (λ run.
-        AreReports turns run.0.trace (length image.harts) run.1.items) }
+        AreReports race.entry.turns run.0.trace (length image.harts) run.1.items) }
 {
+    let limit = race.limit;
     let core = Core::boot(alloc, image, limit)?;
-    let given = core.view().image.copy(alloc)?;
-    let (core, reports) = race::<Brand, G, V, R>(
+    let (core, reports) = race_harts::<Brand, G, V, R>(
         rt,
         alloc,
         core,
-        given,
-        turns,
-        gate,
+        race,
         viewer,
-        is_watched,
         Blanks::new(),
     )?;
     if core.limit() != limit {
@@ -106,16 +112,13 @@ fn boot_and_race<G: Gate + Sync, V: Viewer, R: Threads + Wait + Sync>(
     Ok((core, reports))
 }
 
-/// Races the harts of a core that was just booted from an image that is given, too.
-fn race<J: Naming + Send + Sync, G: Gate + Sync, V: Viewer, R: Threads + Wait + Sync>(
+/// Races the harts of a core that was just booted.
+fn race_harts<J: Naming + Send + Sync, G: Gate + Sync, V: Viewer, R: Threads + Wait + Sync>(
     rt: &R,
     alloc: Global,
     core: Core,
-    given: Image,
-    turns: u32,
-    gate: &G,
-    viewer: &mut V,
-    is_watched: bool,
+    race: Race<'_, G>,
+    viewer: Option<&mut V>,
     blanks: Blanks,
 ) -> Result<(Core, Vec<HartReport>), RunFault>
     requires names { blanks ≡ J.names }
@@ -125,24 +128,18 @@ fn race<J: Naming + Send + Sync, G: Gate + Sync, V: Viewer, R: Threads + Wait + 
     ensures image { IfOk result (λ run. run.0.image ≡ J.image) }
     ensures replay { IfOk result (λ run. IsReplay run.0.image run.0.trace run.0.state) }
     ensures reports { IfOk result (λ run.
-        AreReports turns run.0.trace (length J.image.harts) run.1.items) }
+        AreReports race.entry.turns run.0.trace (length J.image.harts) run.1.items) }
 {
+    let given = core.view().image.copy(alloc)?;
     let (machine, shares, sweeper) = Machine::<J>::open(alloc, core, blanks)?;
     let shared = Shared::new(machine);
     let work = Work {
         rt,
         shared: &shared,
-        gate,
+        gate: race.gate,
     };
-    let onlooker = Onlooker {
-        viewer,
-        watch: if is_watched {
-            shared.watch(rt).ok()
-        } else {
-            None
-        },
-    };
-    let raced = race_all(&work, alloc, turns, shares, onlooker);
+    let onlooker = Onlooker::of(viewer, &shared, rt);
+    let raced = race_all(&work, alloc, race.turns, shares, onlooker);
     match raced {
         Err(fault) => {
             let _core = shared.into_machine().close(rt, Vec::new(alloc), sweeper);
@@ -164,7 +161,7 @@ fn race_all<J: Naming + Send + Sync, G: Gate + Sync, V: Viewer, R: Threads + Wai
     alloc: Global,
     turns: u32,
     shares: Vec<Share<J>>,
-    onlooker: Onlooker<'_, J, V>,
+    onlooker: Option<Onlooker<'_, J, V>>,
 ) -> Result<(Vec<HartReport>, Vec<Share<J>>), RunFault>
     requires { All (λ share. share.amount ≡ 0) shares.items }
     ensures fault { result ≢ Err (RunFault.Boot BootFault.Limit) }
@@ -218,7 +215,7 @@ fn work_all<J: Naming + Send + Sync, G: Gate + Sync, V: Viewer, R: Threads + Wai
     alloc: Global,
     turns: u32,
     shares: Vec<Share<J>>,
-    onlooker: Onlooker<'_, J, V>,
+    onlooker: Option<Onlooker<'_, J, V>>,
 ) -> Result<Vec<Worked<J>>, RunFault>
     requires { All (λ share. share.amount ≡ 0) shares.items }
     ensures fault { result ≢ Err (RunFault.Boot BootFault.Limit) }
@@ -255,7 +252,7 @@ fn work_rest<'s, E, J: Naming + Send + Sync, G: Gate + Sync, V: Viewer, R: Threa
     turns: u32,
     shares: Vec<Share<J>>,
     done: Vec<Worked<J>>,
-    onlooker: Onlooker<'_, J, V>,
+    onlooker: Option<Onlooker<'_, J, V>>,
 ) -> Result<Vec<Worked<J>>, RunFault>
     requires none { All (λ share. share.amount ≡ 0) shares.items }
     requires done { done.items ≡ [] }
@@ -268,7 +265,9 @@ fn work_rest<'s, E, J: Naming + Send + Sync, G: Gate + Sync, V: Viewer, R: Threa
 {
     let mut shares = shares;
     let Some(share) = shares.pop() else {
-        onlooker.look_on();
+        if let Some(onlooker) = onlooker {
+            onlooker.look_on();
+        }
         return Ok(done);
     };
     let worker = start_one(scope, work, turns, share)?;

@@ -1,6 +1,8 @@
 //! Who looks on at a race, from the thread that started it.
 
+use crate::lock::Shared;
 use shared_machine::{Naming, Watch};
+use std::sync::Wait;
 
 /// Who looks on at a race.
 pub trait Viewer {
@@ -18,19 +20,30 @@ impl Viewer for Nobody {
     }
 }
 
-/// A viewer, and the watch that it looks through, if one was given.
+/// A viewer, and the watch that it looks through.
 #[derive(Drop)]
 pub(crate) struct Onlooker<'a, J: Naming, V: Viewer> {
-    pub(crate) viewer: &'a mut V,
-    pub(crate) watch: Option<Watch<J>>,
+    viewer: &'a mut V,
+    watch: Watch<J>,
 }
 
-impl<J: Naming, V: Viewer> Onlooker<'_, J, V> {
-    /// Has the viewer look on once, where a watch was given.
+impl<'a, J: Naming, V: Viewer> Onlooker<'a, J, V> {
+    /// A viewer, if there is one, with a watch of a machine, if one is given.
+    pub(crate) fn of<R: Wait>(
+        viewer: Option<&'a mut V>,
+        shared: &Shared<J>,
+        rt: &R,
+    ) -> Option<Onlooker<'a, J, V>> {
+        let viewer = viewer?;
+        match shared.watch(rt) {
+            Ok(watch) => Some(Onlooker { viewer, watch }),
+            Err(_) => None,
+        }
+    }
+
+    /// Has the viewer look on once.
     pub(crate) fn look_on(self) {
         let Onlooker { viewer, watch } = self;
-        if let Some(watch) = watch {
-            let _ended = viewer.view(watch);
-        }
+        let _ended = viewer.view(watch);
     }
 }

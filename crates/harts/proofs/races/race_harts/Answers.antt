@@ -4,7 +4,7 @@ use Rattle.std.specs.Prelude.{All}
 use Rattle.cheri_model.specs.declared.operation.Event.{Event}
 use Rattle.shared_machine.specs.Shares.{ShareParts, shares_of}
 use Rattle.harts.proofs.ReportLemmas.{nothing_counted, reports_raced}
-use Rattle.harts.proofs.races.race.Goals as goal
+use Rattle.harts.proofs.races.race_harts.Goals as goal
 
 pub race_all-raced-requires-after_bounds : goal.race_all-raced-requires-after_bounds
 race_all-raced-requires-after_bounds g c = λ lifetimes bounds.
@@ -17,4 +17,4 @@ returns-clause-reports g c =
     let harts = length g.J.Naming.image.harts in
     let opened = c.in_ok-machine.ensures.shares ∙ ap (λ (trace : List Event). shares_of trace harts) c.requires.start in
     rw c.close-core-in-Ok.ensures.core
-    (reports_raced c.args.turns c.into_machine-in-Ok.result.core.trace harts _ _ _ opened c.in-Ok.ensures.harts c.in-Ok.ensures.counted c.close-core-in-Ok.ensures.counts c.in-Ok.ensures.within_turns)
+    (reports_raced c.args.race.turns c.into_machine-in-Ok.result.core.trace harts _ _ _ opened c.in-Ok.ensures.harts c.in-Ok.ensures.counted c.close-core-in-Ok.ensures.counts c.in-Ok.ensures.within_turns)
