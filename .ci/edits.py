@@ -18,7 +18,7 @@ from edit_choice import ROOT, Wanted, below, chosen, wanted_of
 from edit_functions import Function, functions_of, reached, refused_name, said_of_functions
 
 # What the edits of the crates that the last commit changed may take, in processor seconds.
-MOST_OF_CHANGED = 30 * 60
+MOST_OF_CHANGED = 15 * 60
 MOST_AT_ONCE = 4
 FLAGS = ["--jobs", "1"]
 
@@ -303,7 +303,7 @@ def tried(wanted: Wanted) -> Came:
             trial.run()
     came = trial.came
     for name in came.left:
-        print(f"edits {came.crate}/{name}: left, since 30 processor minutes are spent")
+        print(f"edits {came.crate}/{name}: left, since {MOST_OF_CHANGED // 60} processor minutes are spent")
     counts = f"{came.passed} refused, {len(came.failed)} failed, {came.seconds:.0f} processor seconds"
     print(f"edits {came.crate}: {counts}", flush=True)
     return came
