@@ -1,6 +1,5 @@
 -- Names for `unfolding(..)` that open what their own line names.
-use Rattle.std.specs.Prelude.{ℕ, List, Option, Vec}
-use Rattle.std.specs.Global.{Global}
+use Rattle.std.specs.Prelude.{ℕ, List, Option}
 use Rattle.asm_layout.specs.declared.chunk.Chunk.{Chunk}
 use Rattle.asm_chunks.specs.Chunks.{ChunksParts, with_here}
 use Rattle.asm_chunks.specs.Sections.{kind_in, added, entered, begun}
@@ -19,6 +18,6 @@ unfoldable pub growth : ChunksParts → Chunk → ChunksParts
 unfolding with_here grown raised padded
 growth parts chunk = with_here parts chunk
 
-unfoldable pub orders : ℕ → List (Vec (Option ℕ) Global) → List ℕ
+unfoldable pub orders : ℕ → List (List (Option ℕ)) → List ℕ
 unfolding of_section section_order
 orders section rows = of_section section rows

@@ -1,8 +1,8 @@
 //! The order of chunks, section by section.
 #![tactic(auto, unfolding(crate::proofs::Unfold::orders))]
 
-ghost use Rattle.std.specs.Prelude.{◌≡◌, ◌++◌, OnOk, IfOk};
-ghost use Rattle.asm_chunks.specs.Order.{of_section, section_order};
+ghost use Rattle.std.specs.Prelude.{◌≡◌, ◌++◌, OnOk, IfOk, map};
+ghost use Rattle.asm_chunks.specs.Order.{of_section, row_items, section_order};
 
 use std::alloc::{AllocError, Global};
 
@@ -12,7 +12,8 @@ fn push_section(
     section: usize,
     rows: &[Vec<Option<u32>>],
 ) -> Result<(), AllocError>
-    ensures { OnOk result (order.new.items ≡ order.old.items ++ of_section section rows.now) }
+    ensures { OnOk result (order.new.items
+        ≡ order.old.items ++ of_section section (map row_items rows.now)) }
 {
     for row in rows {
         if let Some(Some(number)) = row.get(section) {
@@ -29,7 +30,7 @@ pub fn section_order(
     sections: usize,
     rows: &[Vec<Option<u32>>],
 ) -> Result<Vec<u32>, AllocError>
-    ensures { IfOk result (λ order. order.items ≡ section_order sections rows.now) }
+    ensures { IfOk result (λ order. order.items ≡ section_order sections (map row_items rows.now)) }
 {
     let mut order = Vec::new(alloc);
     for section in 0..sections {

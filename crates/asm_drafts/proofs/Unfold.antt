@@ -9,6 +9,7 @@ use Rattle.asm_drafts.specs.Labels.{named, locally_labelled, labelled}
 use Rattle.asm_drafts.specs.Sections.{entered_at}
 use Rattle.asm_drafts.specs.Names.{unless_named, known, set_put, common_align, power_at}
 use Rattle.asm_drafts.specs.Names.{common_align_of, common_added, common_put, want_put}
+use Rattle.asm_drafts.specs.Kept.{kept_operand, known_number, kept_number}
 use Rattle.asm_drafts.specs.Padding.{holds_code_or_zeros, fill_judged, exponent_unit, byte_unit}
 use Rattle.asm_drafts.specs.Padding.{padded_at, padding_put, align_put, balign_put}
 use Rattle.asm_drafts.specs.Bytes.{unless_code, data_put, capability_at, chericap_put, zeros_put}
@@ -40,6 +41,10 @@ sections parts kind = is_here parts kind
 unfoldable pub names : DraftParts → ChunkKind → Bool
 unfolding unless_named known set_put common_align power_at common_align_of common_added common_put want_put
 names parts kind = is_here parts kind
+
+unfoldable pub kept : DraftParts → ChunkKind → Bool
+unfolding kept_operand known_number kept_number
+kept parts kind = is_here parts kind
 
 unfoldable pub padding : DraftParts → ChunkKind → Bool
 unfolding holds_code_or_zeros fill_judged exponent_unit byte_unit padded_at padding_put align_put balign_put chunk_fault

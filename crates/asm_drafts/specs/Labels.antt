@@ -29,13 +29,13 @@ named tokens parts at =
     (label_symbol parts.symbols (text_at tokens at) at parts.chunks.here (here_of parts.chunks).size)
 
 -- the local label of a token's digits there
-abbrev pub local_here : DraftParts → Local
-local_here parts =
-    record { chunk = parts.chunks.here; offset = (here_of parts.chunks).size }
+abbrev pub local_here : DraftParts → ℕ → Local
+local_here parts at =
+    record { chunk = parts.chunks.here; offset = (here_of parts.chunks).size; token = at }
 
 unfoldable pub locally_labelled : List TokenParts → DraftParts → ℕ → Result DraftParts AsmFault
 locally_labelled tokens parts at =
-    Ok (with_locals parts (with_local parts.locals (text_at tokens at) (local_here parts)))
+    Ok (with_locals parts (with_local parts.locals (text_at tokens at) (local_here parts at)))
 
 abbrev pub labelled_kind : List TokenParts → DraftParts → ℕ → TokenKind → Result DraftParts AsmFault
 labelled_kind tokens parts at (Number n) = locally_labelled tokens parts at

@@ -5,6 +5,7 @@ pub mod Operands
 pub mod Labels
 pub mod Sections
 pub mod Names
+pub mod Kept
 pub mod Padding
 pub mod Bytes
 pub mod Code

@@ -34,7 +34,12 @@ impl<'a> Draft<'a> {
     {
         let (chunk, offset) = (self.chunks.here, self.chunks.here().size);
         let digits = text_at(tokens, at);
-        self.locals.define(digits, Local { chunk, offset })?;
+        let place = Local {
+            chunk,
+            offset,
+            token: at,
+        };
+        self.locals.define(digits, place)?;
         Ok(())
     }
 
@@ -49,8 +54,9 @@ impl<'a> Draft<'a> {
         }
     }
 
-    /// Defines so many labels, of which the first is a token and each has a colon.
-    pub(crate) fn put_labels(
+    /// Defines so many labels, of which the first is a token and each has a colon. Fails with
+    /// `Twice` at a name that this file has.
+    pub fn put_labels(
         &mut self,
         tokens: &[Token<'a>],
         first: usize,

@@ -8,6 +8,7 @@ mod bytes;
 mod code;
 mod draft;
 mod early;
+mod kept;
 mod labels;
 mod names;
 mod operands;
@@ -16,4 +17,5 @@ mod sections;
 mod statements;
 
 pub use draft::{Draft, new_draft};
+pub use operands::{first_of, is_said, nodes_of};
 pub use sections::Entry;

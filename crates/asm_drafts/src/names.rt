@@ -71,7 +71,7 @@ impl<'a> Draft<'a> {
 
     /// The value of an expression, where it is known while the file is read. Fails only when out of
     /// memory.
-    fn known(
+    pub(crate) fn known(
         &self,
         alloc: Global,
         tokens: &[Token<'a>],

@@ -41,7 +41,7 @@ fn operand_end(statement: &Statement, operand: usize) -> usize
 }
 
 /// The nodes of an operand.
-pub(crate) fn nodes_of(statement: &Statement, operand: usize) -> &[Node]
+pub fn nodes_of(statement: &Statement, operand: usize) -> &[Node]
     ensures { result.now ≡ nodes_of (statement_parts statement.now) operand }
 {
     let start = match operand.checked_sub(1) {
@@ -57,7 +57,7 @@ pub(crate) fn nodes_of(statement: &Statement, operand: usize) -> &[Node]
 }
 
 /// The number of an operand's first token.
-pub(crate) fn first_of(statement: &Statement, operand: usize) -> usize
+pub fn first_of(statement: &Statement, operand: usize) -> usize
     ensures { result ≡ first_of (statement_parts statement.now) operand }
 {
     match statement.operands.get(operand) {
@@ -67,7 +67,7 @@ pub(crate) fn first_of(statement: &Statement, operand: usize) -> usize
 }
 
 /// Whether an operand is said, and not left out.
-pub(crate) fn is_said(statement: &Statement, operand: usize) -> bool
+pub fn is_said(statement: &Statement, operand: usize) -> bool
     ensures { result ≡ is_said (statement_parts statement.now) operand }
 {
     match statement.operands.get(operand) {

@@ -8,11 +8,13 @@ use crate::names::Names;
 use asm_tokens::without_zeros;
 use std::alloc::{AllocError, Global};
 
-/// The place of a local label: so many bytes from the beginning of a chunk.
+/// A local label: so many bytes from the beginning of a chunk, and the number of the token of its
+/// digits in its file.
 #[derive(Clone, Copy, Debug, PartialEq, Eq)]
 pub struct Local {
     pub chunk: u32,
     pub offset: u32,
+    pub token: usize,
 }
 
 /// The local labels so far, by their numbers, and the last one of each number that labels have.
