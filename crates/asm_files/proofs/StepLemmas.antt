@@ -1,0 +1,35 @@
+-- A step for each item: those so far, and those that are left.
+use Rattle.std.proofs.Common.{◌≡◌, ◌⊎◌, inl, inr, ℕ, ◌+◌, ◌<◌, ◌≤◌, List, [], ◌∷◌, length, drop, get_or, map, Ok, Err, sym, ap, ◌∙◌, drop-cons, add-one}
+use Rattle.std.specs.Prelude.{Result}
+use Rattle.std.proofs.Math.ListN.{drop_of_length-le}
+use Rattle.asm_tokens.specs.Faults.{◌>>=◌}
+use Rattle.asm_files.specs.Steps.{each_from}
+
+module _ {Y X S E : Type 0} (step : ℕ → X → S → Result S E) (view : Y → X) (items : List Y) (number : ℕ) (d item : Y) (state : S)
+    (whole : Result S E) (inside : number < length items) (here : item ≡ get_or items number d)
+    (so_far : each_from step number (map view (drop number items)) state ≡ whole) where
+  next_item : drop number items ≡ item ∷ drop (number + 1) items
+  next_item = rw (here, add-one) (drop-cons items number d inside)
+
+  from_here : (step number (view item) state >>= λ next. each_from step (number + 1) (map view (drop (number + 1) items)) next) ≡ whole
+  unfolding each_from
+  from_here = ap (λ (rest : List Y). each_from step number (map view rest) state) (sym next_item) ∙ so_far
+
+  pub each_next : (next : S) → step number (view item) state ≡ Ok next
+      → each_from step (number + 1) (map view (drop (number + 1) items)) next ≡ whole
+  each_next next done = rw done at from_here
+
+  pub each_failed : (fault : E) → step number (view item) state ≡ Err fault → whole ≡ Err fault
+  each_failed fault refused = sym (rw refused at from_here)
+
+  pub each_refused : (N : Type 0) (fault : E) → N ⊎ (step number (view item) state ≡ Err fault) → N ⊎ (whole ≡ Err fault)
+  each_refused N fault (inl none) = inl none
+  each_refused N fault (inr refused) = inr (each_failed fault refused)
+
+-- no item is left
+pub each_done : {Y X S E : Type 0} (step : ℕ → X → S → Result S E) (view : Y → X) (items : List Y) (number : ℕ) (state : S)
+    (whole : Result S E) → length items ≤ number → each_from step number (map view (drop number items)) state ≡ whole → whole ≡ Ok state
+unfolding each_from
+each_done step view items number state whole ended so_far =
+    let none : drop number items ≡ [] = drop_of_length-le items ended in
+    sym (rw none at so_far)

@@ -1,0 +1,21 @@
+use Rattle.std.proofs.lemmas.Result.{err_from_is_err_and}
+use Rattle.asm_files.specs.Programs.{file_parts}
+use Rattle.asm_files.specs.Files.{request_step, all_requests}
+use Rattle.asm_files.proofs.StepLemmas.{each_next, each_refused, each_done}
+use Rattle.asm_files.proofs.requests.read_requests.Goals as goal
+
+pub loop-number-preserved : goal.loop-number-preserved
+loop-number-preserved c =
+    each_next (request_step) file_parts c.args.files.now c.loop-number.number c.index-files-number.result c.index-files-number.result _ _ c.loop-number-test.true c.index-files-number.is
+    c.loop-number.invariant _ c.in_ok-put_file.ensures
+
+pub returns-in_err-put_file : goal.returns-in_err-put_file
+unfolding all_requests
+returns-in_err-put_file c =
+    let p = err_from_is_err_and c.from_residual.result c.from_residual.ensures.1 in
+    rw (p.1, p.2) (each_refused (request_step) file_parts c.args.files.now c.loop-number.number c.index-files-number.result c.index-files-number.result _ _ c.loop-number-test.true c.index-files-number.is
+    c.loop-number.invariant _ _ c.in_err-put_file.ensures)
+
+pub returns : goal.returns
+unfolding all_requests
+returns c = each_done (request_step) file_parts c.args.files.now c.loop-number.number _ _ c.loop-number-test.false c.loop-number.invariant
