@@ -1,0 +1,4 @@
+pub mod Unfold
+pub mod TextLemmas
+pub mod DraftLemmas
+pub mod ReadingLemmas
