@@ -1,0 +1,3 @@
+pub mod Unfold
+pub mod Places
+pub mod Gaps

@@ -1,0 +1,5 @@
+-- The instructions of an assembled program.
+pub mod Sources
+pub mod Overwriting
+pub mod Exits
+pub mod Origins

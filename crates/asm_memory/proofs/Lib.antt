@@ -1,0 +1,2 @@
+pub mod Rulesets
+pub mod Unfold

@@ -1,0 +1,4 @@
+-- Short names for `using(..)`.
+use Rattle.std.proofs.lemmas.List.{length-replicate}
+
+pub ruleset lengths = (length-replicate)

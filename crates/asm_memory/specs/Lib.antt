@@ -1,0 +1,3 @@
+-- The bytes and capabilities of an assembled program.
+pub mod Memory
+pub mod Numbers
