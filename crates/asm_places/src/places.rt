@@ -26,7 +26,7 @@ pub struct Places<'a> {
 
 impl Places<'_> {
     /// The kind of a chunk.
-    pub(crate) fn kind_of(&self, chunk: u32) -> ChunkKind
+    pub fn kind_of(&self, chunk: u32) -> ChunkKind
         ensures { result ≡ kind_of (places_parts self.now) chunk }
     {
         match self.chunks.get(chunk as usize) {
