@@ -21,9 +21,9 @@ use Rattle.asm_listable.specs.Places.{AreNumbers, AreWritable}
 use Rattle.asm_listable.proofs.Capabilities.{pcc_writable, sentry_writable, stack_writable}
 
 -- 31 writable values
-record Values (r : Registers) : Type 0 where
-  count : length r.values ≡ 31
-  all : All IsWritable r.values
+pub record Values (r : Registers) : Type 0 where
+  pub count : length r.values ≡ 31
+  pub all : All IsWritable r.values
 
 put_by : (none : Bool) (r : Registers) (register : ℕ) (v : CapValue) → (register == 0) ≡ none → IsWritable v → Values r
     → Values (with_register r register v)
@@ -35,7 +35,7 @@ put_by false r register v e w h =
       all = All-set IsWritable r.values (register - 1) v w h.all;
     })
 
-put : (r : Registers) (register : ℕ) (v : CapValue) → IsWritable v → Values r → Values (with_register r register v)
+pub put : (r : Registers) (register : ℕ) (v : CapValue) → IsWritable v → Values r → Values (with_register r register v)
 put r register v w h = put_by (register == 0) r register v refl w h
 
 or_put_by : (there : Bool) (r : Registers) (register : ℕ) (v : CapValue) → is_set r register ≡ there → IsWritable v → Values r

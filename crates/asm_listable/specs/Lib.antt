@@ -1,2 +1,4 @@
--- What the laws ask of places and registers.
+-- What the laws ask of places and registers, and what registers may hold.
 pub mod Places
+pub mod Asked
+pub mod Plain

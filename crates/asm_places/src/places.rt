@@ -46,7 +46,7 @@ impl Places<'_> {
     }
 
     /// The address of a place in a chunk, if the chunk is kept.
-    pub(crate) fn address_in(&self, chunk: u32, offset: u64) -> Option<u64>
+    pub fn address_in(&self, chunk: u32, offset: u64) -> Option<u64>
         ensures { result ≡ address_in (places_parts self.now) chunk offset }
     {
         let start = self.chunk_address(chunk)?;

@@ -1,0 +1,3 @@
+pub mod Unfold
+pub mod LabelLemmas
+pub mod BeforeLemmas

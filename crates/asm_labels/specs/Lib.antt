@@ -1,0 +1,3 @@
+-- The last label before each instruction.
+pub mod Labels
+pub mod Before

@@ -1,0 +1,6 @@
+-- What the harts of an assembled program begin with, by requests.
+pub mod Known
+pub mod Values
+pub mod Words
+pub mod Starts
+pub mod Ram
