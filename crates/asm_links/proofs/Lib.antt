@@ -1,0 +1,4 @@
+pub mod Unfold
+pub mod LocalLemmas
+pub mod SeenLemmas
+pub mod RowLemmas
