@@ -20,6 +20,8 @@ from edit_functions import Function, functions_of, reached, refused_name, said_o
 # What the edits of the crates that the last commit changed may take, in processor seconds.
 MOST_OF_CHANGED = 15 * 60
 MOST_AT_ONCE = 4
+# Whether a crate's checks begin with what rt check has kept of it, and not from nothing.
+BEGINS_KEPT = "--kept" in sys.argv
 FLAGS = ["--jobs", "1"]
 
 
@@ -108,7 +110,12 @@ class Trial:
         self.reached: list[set[int]] = []
         self.texts: dict[str, str] = {}
         self.refused: list[tuple[Edit, str]] = []
-        os.mkdir(self.kept)
+        start = f"{self.crate.folder}/out/incremental"
+        self.has_start = BEGINS_KEPT and os.path.isdir(start)
+        if self.has_start:
+            RT.linked(start, self.kept)
+        else:
+            os.mkdir(self.kept)
 
     def say(self, edit: Edit, text: str) -> None:
         print(f"edits {self.wanted.crate}/{edit.name}: {text}", flush=True)
@@ -258,14 +265,14 @@ class Trial:
 
     def run(self) -> None:
         """Tries all: the largest group from nothing, and the others over copies of what that kept, once the crate as
-        it stands is proved over it."""
+        it stands is proved over it. Where there is something kept to begin with, all are tried over copies."""
         self.read()
         edits = [it for it in map(self.edit_of, self.wanted.files) if it]
         many = [it for it in edits if it.functions] if len(edits) > 1 else []
         alone = [it for it in edits if it not in many]
         groups = sorted(self.grouped(many), key=len, reverse=True)
-        hidden = self.try_many(groups.pop(0), self.kept) if groups else []
-        is_sound = len(edits) < 2 or self.stands()
+        hidden = self.try_many(groups.pop(0), self.kept) if groups and not self.has_start else []
+        is_sound = len(edits) < 2 and not self.has_start or self.stands()
         files = RT.listing(self.kept)
         if is_sound:
             hidden += self.try_over_copies(groups)
@@ -317,7 +324,7 @@ def begin(limited) -> None:
 
 def main(words: list[str]) -> int:
     is_list = "--list" in words
-    wanted = chosen([it for it in words if it != "--list"], wanted_of(below()))
+    wanted = chosen([it for it in words if it not in ("--list", "--kept")], wanted_of(below()))
     if is_list:
         for it in wanted:
             names = " ".join(os.path.basename(file).removesuffix(".edit") for file in it.files)
