@@ -1,5 +1,5 @@
 -- the kinds so far, and then those of the others
-use Rattle.std.proofs.Common.{◌≡◌, drop, map}
+use Rattle.std.proofs.Common.{◌≡◌, drop}
 use Rattle.asm_files.specs.Steps.{each_from}
 use Rattle.asm_links.specs.Sections.{own_judged}
 use Rattle.asm_links.proofs.sections.judge_row.Given as goal

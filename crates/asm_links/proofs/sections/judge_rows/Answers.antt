@@ -1,4 +1,3 @@
-use Rattle.std.proofs.Common.{map}
 use Rattle.std.proofs.lemmas.Result.{err_from_is_err_and}
 use Rattle.asm_chunks.specs.Order.{row_items}
 use Rattle.asm_links.specs.Sections.{row_judged, rows_judged}

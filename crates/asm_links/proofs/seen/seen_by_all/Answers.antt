@@ -14,5 +14,5 @@ pub returns-in-Err : goal.returns-in-Err
 unfolding wants
 returns-in-Err c =
     let refused = publish_refused (program_parts c.args.program.now) c.in-Err.fault
-        (rw (c.as_slice.ensures.value, c.as_slice-symbols.ensures.value) at c.in-Err.ensures) in
+    (rw (c.as_slice.ensures.value, c.as_slice-symbols.ensures.value) at c.in-Err.ensures) in
     rw c.publish_fault.ensures refused
