@@ -1,0 +1,5 @@
+pub mod Unfold
+pub mod SceneLemmas
+pub mod ReachLemmas
+pub mod LengthLemmas
+pub mod ValueLemmas
