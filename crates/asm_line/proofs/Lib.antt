@@ -1,0 +1,2 @@
+-- How `clap` reads the arguments of `cheri_asm`.
+pub mod ReadArgs

@@ -1,0 +1,2 @@
+-- What the arguments of `cheri_asm` ask for.
+pub mod Requests
