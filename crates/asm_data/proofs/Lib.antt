@@ -1,0 +1,4 @@
+pub mod Rulesets
+pub mod Unfold
+pub mod EachLemmas
+pub mod StringLemmas

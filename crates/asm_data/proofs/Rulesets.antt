@@ -1,0 +1,4 @@
+-- Short names for `using(..)`.
+use Rattle.std.proofs.Common.{append_assoc}
+
+pub ruleset strings = (append_assoc)
