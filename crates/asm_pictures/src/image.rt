@@ -1,7 +1,8 @@
 //! The image of a program: its sizes, its memory, its listing.
 #![tactic(auto, unfolding(crate::proofs::Unfold::images))]
 
-ghost use Rattle.std.specs.Prelude.{◌≡◌, ◌<◌, ◌≤◌, ◌^◌, map};
+ghost use Rattle.std.specs.Prelude.{◌≡◌, ◌<◌, ◌≤◌, ◌^◌, IfOk, string_bytes};
+ghost use Rattle.canonical.specs.Canon.{canon};
 ghost use Rattle.asm_files.specs.Faults.{GivesAll};
 ghost use Rattle.asm_pictures.specs.Image.{
   exit_address,
@@ -111,8 +112,9 @@ pub fn image_of(
     granules: Vec<(u64, Value)>,
     harts: Vec<HartImage>,
 ) -> Result<Picture, AssemblyFault>
-    ensures { GivesAll picture_parts result
+    ensures meant { GivesAll picture_parts result
         (image_made program.items ram granules.items harts.items) }
+    ensures listing { IfOk result (λ made. string_bytes made.listing ≡ canon made.image) }
 {
     let Some(image) = Image::new(program, ram, granules, harts) else {
         return Err(whole(AsmFaultKind::Size));
