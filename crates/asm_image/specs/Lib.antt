@@ -1,0 +1,2 @@
+-- From files of assembly to the image that they mean.
+pub mod Whole
