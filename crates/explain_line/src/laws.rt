@@ -19,6 +19,7 @@ pub fn known_explain_lines()
         ≡ Some (record {
           listing = codes "first.lst";
           order = codes "zeros.txt";
+          map = None;
           first = 0;
           last = 99999;
           form = ExplainFormat.Text Filter.All;
@@ -28,6 +29,7 @@ pub fn known_explain_lines()
         ≡ Some (record {
           listing = codes "first.lst";
           order = codes "zeros.txt";
+          map = None;
           first = 0;
           last = 99999;
           form = ExplainFormat.Text Filter.All;
@@ -37,6 +39,7 @@ pub fn known_explain_lines()
         ≡ Some (record {
           listing = codes "first.lst";
           order = codes "zeros.txt";
+          map = None;
           first = 7;
           last = 99999;
           form = ExplainFormat.Text Filter.All;
@@ -47,6 +50,7 @@ pub fn known_explain_lines()
         ≡ Some (record {
           listing = codes "first.lst";
           order = codes "zeros.txt";
+          map = None;
           first = 3;
           last = 3;
           form = ExplainFormat.Text Filter.All;
@@ -56,6 +60,7 @@ pub fn known_explain_lines()
         ≡ Some (record {
           listing = codes "first.lst";
           order = codes "zeros.txt";
+          map = None;
           first = 0;
           last = 99999;
           form = ExplainFormat.Json Filter.All;
@@ -65,6 +70,7 @@ pub fn known_explain_lines()
         ≡ Some (record {
           listing = codes "first.lst";
           order = codes "zeros.txt";
+          map = None;
           first = 0;
           last = 99999;
           form = ExplainFormat.Text Filter.Traps;
@@ -74,6 +80,7 @@ pub fn known_explain_lines()
         ≡ Some (record {
           listing = codes "first.lst";
           order = codes "zeros.txt";
+          map = None;
           first = 0;
           last = 99999;
           form = ExplainFormat.Json Filter.Clears;
@@ -83,6 +90,7 @@ pub fn known_explain_lines()
         ≡ Some (record {
           listing = codes "first.lst";
           order = codes "zeros.txt";
+          map = None;
           first = 0;
           last = 99999;
           form = ExplainFormat.Text Filter.TrapsOrClears;
@@ -92,10 +100,24 @@ pub fn known_explain_lines()
         ≡ Some (record {
           listing = codes "first.lst";
           order = codes "zeros.txt";
+          map = None;
           first = 1;
           last = 99999;
           form = ExplainFormat.Page;
         }) }
+    ensures mapped { explain_asked (codes "cheri_explain" ∷ codes "first.lst" ∷ codes "--order"
+        ∷ codes "zeros.txt" ∷ codes "--map" ∷ codes "first.map" ∷ [])
+        ≡ Some (record {
+          listing = codes "first.lst";
+          order = codes "zeros.txt";
+          map = Some (codes "first.map");
+          first = 0;
+          last = 99999;
+          form = ExplainFormat.Text Filter.All;
+        }) }
+    ensures page_of_a_map { explain_asked (codes "cheri_explain" ∷ codes "first.lst"
+        ∷ codes "--order" ∷ codes "zeros.txt" ∷ codes "--html" ∷ codes "--map=first.map" ∷ [])
+        ≡ None }
     ensures page_of_json { explain_asked (codes "cheri_explain" ∷ codes "first.lst"
         ∷ codes "--order" ∷ codes "zeros.txt" ∷ codes "--html" ∷ codes "--json" ∷ [])
         ≡ None }

@@ -11,6 +11,7 @@ ghost use Rattle.explain_line.specs.Requests.{
   explain_program,
   filter_named,
   filter_of,
+  name_of,
 };
 
 use clap::{ArgMatches, Command};
@@ -47,17 +48,20 @@ pub enum ExplainFormat {
 }
 
 /// What a command line asks for: to run the image of a listing in an order, each in the file of
-/// this name, and to explain in this form the events whose numbers lie from `first` to `last`.
+/// this name, and to explain in this form the events whose numbers lie from `first` to `last`, by
+/// what the map of this name, if there is one, says that instructions come from.
 #[derive(Clone, Copy, Debug, PartialEq, Eq)]
 pub struct ExplainRequest<'a> {
     pub listing: &'a str,
     pub order: &'a str,
+    pub map: Option<&'a str>,
     pub first: u32,
     pub last: u32,
     pub form: ExplainFormat,
 }
 
-/// `cheri_explain LISTING --order FILE [--from I] [--to J] [--only WORDS] [--json] [--html]`.
+/// `cheri_explain LISTING --order FILE [--from I] [--to J] [--only WORDS] [--json] [--html]
+/// [--map MAP]`.
 pub(crate) fn explain_command<'a>(alloc: Global) -> Result<Command<'a>, AllocError>
     ensures { IfOk result (λ command. app_of command ≡ explain_program) }
 {
@@ -67,7 +71,8 @@ pub(crate) fn explain_command<'a>(alloc: Global) -> Result<Command<'a>, AllocErr
     let with_to = with_from.arg(single_option(alloc, "to"))?;
     let with_only = with_to.arg(single_option(alloc, "only"))?;
     let with_json = with_only.arg(flag(alloc, "json"))?;
-    with_json.arg(flag(alloc, "html"))
+    let with_html = with_json.arg(flag(alloc, "html"))?;
+    with_html.arg(single_option(alloc, "map"))
 }
 
 /// The events that the words of `--only` name.
@@ -92,12 +97,13 @@ fn filter_of(only: Option<&str>) -> Option<Filter>
     }
 }
 
-/// The form of an explanation. A page has no other form, and shows all events.
-fn form_of(html: bool, json: bool, only: Option<&str>) -> Option<ExplainFormat>
-    ensures { result ≡ explain_form html json (option_map (λ words. words.now) only.entry) }
+/// The form of an explanation. A page has no other form, shows all events, and knows no map.
+fn form_of(html: bool, json: bool, only: Option<&str>, map: Option<&str>) -> Option<ExplainFormat>
+    ensures { result ≡ explain_form html json (option_map (λ words. words.now) only.entry)
+        (option_map name_of map.entry) }
 {
     if html {
-        return if json || only.is_some() {
+        return if json || only.is_some() || map.is_some() {
             None
         } else {
             Some(ExplainFormat::Page)
@@ -129,11 +135,13 @@ pub(crate) fn explain_of<'a>(found: &ArgMatches<'a>) -> Option<ExplainRequest<'a
     let last = event_or(LAST_EVENT, found, "to")?;
     let html = flag_found(found, "html");
     let json = flag_found(found, "json");
-    let form = form_of(html, json, value_found(found, "only"))?;
+    let map = value_found(found, "map");
+    let form = form_of(html, json, value_found(found, "only"), map)?;
     if first <= last {
         Some(ExplainRequest {
             listing,
             order,
+            map,
             first,
             last,
             form,

@@ -14,25 +14,25 @@ use Rattle.program_io.proofs.RunLemmas.{answer_is, refused_more, run_more, run_u
 use Rattle.explain_line.specs.declared.requests.ExplainFormat.TheVariants as forms
 use Rattle.explanations.specs.declared.runs.Format.{Format}
 use Rattle.explanations.specs.declared.selection.Selection.{Selection}
-use Rattle.explanations.specs.ExplainedRuns.{explained}
+use Rattle.explanations.specs.ExplainedRuns.{mapped}
 use Rattle.explained_page.specs.declared.runs.PageEnd.TheVariants.{Written, TooLong}
 use Rattle.explained_page.specs.PagedRuns.{IsPageEnd, is_unpaged, paged}
 use Rattle.explain_program.specs.declared.faults.OwnFault.TheVariants as faults
 use Rattle.explain_program.specs.Faults.{failure_of, own_failure}
-use Rattle.explain_program.specs.Explaining.{Answer, IsExplained, IsListed, answer_in, answer_of_list, answer_of_run}
+use Rattle.explain_program.specs.Explaining.{Answer, Sources, IsExplained, IsListed, answer_in, answer_of_list, answer_of_run}
 
 -- ---- text and JSON
 
-module _ (format : Format) (selection : Selection) (listing order : List ℕ) where
+module _ (format : Format) (sources : Sources) (selection : Selection) (listing order : List ℕ) where
   abbrev answer_of : Result Run SimFault → Answer
-  answer_of run = answer_of_list format listing selection run
+  answer_of run = answer_of_list format sources listing selection run
 
   abbrev text : Run → List ℕ
-  text run = explained format listing selection run
+  text run = mapped format sources listing selection run
 
   pub listed_written : (stop : Option Stop) (old new : Option (List ℕ))
       → IsRunAnd (longest_run listing order) (λ run. (run.1 ≡ stop) × Appends old new (text run))
-      → HasWhole (IsListed format listing order selection) stop old new
+      → HasWhole (IsListed format sources listing order selection) stop old new
   listed_written stop old new so =
       run_written own_failure answer_of (λ fault. refl) listing order text old new stop
       (run_more (longest_run listing order) _ _ (λ run p. (refl, p.0, p.1)) so)
@@ -40,7 +40,7 @@ module _ (format : Format) (selection : Selection) (listing order : List ℕ) wh
   pub listed_unwritten : (refused : SimFault) (old new : Option (List ℕ))
       → IsRefusedRun (longest_run listing order) (λ run. TakesPrefix old new (text run)) refused
       → (is_reported refused ≡ false → new ≡ old)
-      → FailsBy (failure_of (sim_fault refused)) (IsListed format listing order selection) (sim_fault refused) old new
+      → FailsBy (failure_of (sim_fault refused)) (IsListed format sources listing order selection) (sim_fault refused) old new
   listed_unwritten refused old new so same =
       run_unwritten own_failure answer_of (λ fault. refl) listing order text old new refused
       (refused_more (longest_run listing order) _ _ (λ run p. (refl, p)) refused so) same
@@ -51,20 +51,20 @@ page_by : (too_long : Bool) (text : List ℕ) (stop : Option Stop) → too_long 
     → ◌≡◌ {A = Answer} (if too_long then Err (Own faults.TooLong) else Ok (text, stop)) (Ok (text, stop))
 page_by too_long text stop is = rw is refl
 
-page_is : (first last : ℕ) (listing : List ℕ) (run : Run) → is_unpaged first last run ≡ false
-    → answer_in forms.Page first last listing run ≡ Ok (paged listing first last run, run.1)
-page_is first last listing run is = page_by (is_unpaged first last run) (paged listing first last run) run.1 is
+page_is : (sources : Sources) (first last : ℕ) (listing : List ℕ) (run : Run) → is_unpaged first last run ≡ false
+    → answer_in forms.Page sources first last listing run ≡ Ok (paged listing first last run, run.1)
+page_is sources first last listing run is = page_by (is_unpaged first last run) (paged listing first last run) run.1 is
 
 too_long_by : (too_long : Bool) (text : List ℕ) (stop : Option Stop) → too_long ≡ true
     → ◌≡◌ {A = Answer} (Err (Own faults.TooLong)) (if too_long then Err (Own faults.TooLong) else Ok (text, stop))
 too_long_by too_long text stop is = rw is refl
 
-module _ (first last : ℕ) (listing order : List ℕ) where
+module _ (sources : Sources) (first last : ℕ) (listing order : List ℕ) where
   abbrev PagedSo : Answer → Type 0
-  PagedSo answer = IsExplained forms.Page first last listing order answer
+  PagedSo answer = IsExplained forms.Page sources first last listing order answer
 
   abbrev page_answer : Result Run SimFault → Answer
-  page_answer run = answer_of_run forms.Page first last listing run
+  page_answer run = answer_of_run forms.Page sources first last listing run
 
   abbrev page : Run → List ℕ
   page run = paged listing first last run
@@ -74,7 +74,7 @@ module _ (first last : ℕ) (listing order : List ℕ) where
       → HasWhole PagedSo stop old new
   page_written stop old new so =
       run_written own_failure page_answer (λ fault. refl) listing order page old new stop
-      (run_more (longest_run listing order) _ _ (λ run p. (page_is first last listing run p.0, p.1, p.2)) so)
+      (run_more (longest_run listing order) _ _ (λ run p. (page_is sources first last listing run p.0, p.1, p.2)) so)
 
   by_run : (old new : Option (List ℕ)) (meaning : Result Run SimFault) → longest_run listing order ≡ meaning
       → IsRunAnd meaning (λ run. IsPageEnd listing first last run old new TooLong)
@@ -96,6 +96,6 @@ module _ (first last : ℕ) (listing order : List ℕ) where
       → (is_reported refused ≡ false → new ≡ old) → FailsBy (failure_of (sim_fault refused)) PagedSo (sim_fault refused) old new
   page_unwritten refused old new so same =
       run_unwritten own_failure page_answer (λ fault. refl) listing order page old new refused
-      (refused_more (longest_run listing order) _ _ (λ run p. (page_is first last listing run p.0, p.1)) refused so) same
+      (refused_more (longest_run listing order) _ _ (λ run p. (page_is sources first last listing run p.0, p.1)) refused so) same
 
 pub ruleset prints = (listed_written, listed_unwritten, page_written, page_too_long, page_unwritten)

@@ -1,12 +1,16 @@
 -- What the program prints, as the ending of a request.
-use Rattle.std.proofs.Common.{◌≡◌, ◌≢◌, ◌≤◌, arith, ℕ, List, refl, inl, inr, true}
-use Rattle.std.specs.Prelude.{◌⊎◌, IfErr, IfOk, IfSome, Option, Some, None, Result, Ok, Err}
+use Rattle.std.proofs.Common.{◌≡◌, ◌≢◌, ◌≤◌, arith, ℕ, List, refl, inl, inr, true, subst, sym}
+use Rattle.cheri_model.specs.runs.Image.{ImageParts}
+use Rattle.asm_map_reader.specs.Reading.{map_meaning}
+use Rattle.asm_map_reader.specs.Sources.{SourceParts}
+use Rattle.printing.proofs.EndingLemmas.{IsEarly, early}
+use Rattle.std.specs.Prelude.{◌⊎◌, IfErr, IfOk, IfSome, Option, Some, None, option_map, Result, Ok, Err}
 use Rattle.report_lines.specs.Texts.{line}
 use Rattle.sinks.specs.Sinks.{TakesPrefix}
 use Rattle.cores.specs.Runs.{Stop}
 use Rattle.printing.specs.Endings.{FailsBy, HasWhole}
 use Rattle.inputs.specs.Files.{KnownFiles, AreBytesOf}
-use Rattle.inputs.specs.Reading.{AreTextsUnread}
+use Rattle.inputs.specs.Reading.{AreTextsUnread, image_meant}
 use Rattle.inputs.specs.declared.fault.InputFault.{InputFault}
 use Rattle.inputs.proofs.InputLemmas.{texts_fail}
 use Rattle.explain_line.specs.Requests.{ExplainAsked}
@@ -15,15 +19,16 @@ use Rattle.program_io.specs.Faults.{no_memory, text_of, status_of as status_by}
 use Rattle.program_io.specs.declared.fault.Fault.TheVariants.{Usage, Input, Own}
 use Rattle.program_io.proofs.EndingLemmas.{told, told_ends, told_most, told_some}
 use Rattle.program_io.proofs.FaultLemmas.{reported}
-use Rattle.explain_program.specs.declared.faults.OwnFault.TheVariants.{Step}
+use Rattle.explain_program.specs.declared.faults.OwnFault.TheVariants.{Map, Step}
 use Rattle.explain_program.specs.Faults.{Fault, failure_of, fault_text, is_refusal, own_failure, own_text, status_of}
 use Rattle.explain_program.specs.Explaining.{Answer, IsExplained}
-use Rattle.explain_program.specs.Program.{Concludes, FailsWith, IsAnswer}
+use Rattle.explain_program.specs.Mapped.{IsMapUnread, OfSources, shown_by, shown_of, shown_sources}
+use Rattle.explain_program.specs.Program.{Concludes, FailsWith, IsAnswer, IsMapAnswer, IsMapped}
 
 module _ (files : KnownFiles) (asked : ExplainAsked) where
   -- the answers of two texts are those of their files
   pub of_files : (listing order : List ℕ) → AreBytesOf (files asked.listing) listing → AreBytesOf (files asked.order) order
-      → (answer : Answer) → IsExplained asked.form asked.first asked.last listing order answer → IsAnswer files (Some asked) answer
+      → (answer : Answer) → IsMapAnswer (option_map files asked.map) asked listing order answer → IsAnswer files (Some asked) answer
   of_files listing order first second answer is = inr (listing, first, inr (order, second, is))
 
   -- files that were not read
@@ -31,7 +36,77 @@ module _ (files : KnownFiles) (asked : ExplainAsked) where
       → new ≡ old → FailsBy (failure_of (Input fault)) (IsAnswer files (Some asked)) (Input fault) old new
   texts_unread old new fault is same =
       texts_fail (λ f. Input f) failure_of true (reported own_failure true) old new
-      (λ answer first second. IsExplained asked.form asked.first asked.last first second answer) (files asked.listing) (files asked.order) fault is same
+      (λ answer first second. IsMapAnswer (option_map files asked.map) asked first second answer) (files asked.listing) (files asked.order) fault is same
+
+-- ---- a map
+
+of_line : (meaning : Result (List SourceParts) ℕ) (fault : Fault) → shown_of meaning ≡ Err fault → IsEarly (failure_of fault)
+of_line (Ok sources) fault is = absurd cc
+of_line (Err line) fault is =
+    let same : Own (Map line) ≡ fault = cc in
+    subst (λ (f : Fault). IsEarly (failure_of f)) same tt
+
+of_image : (bytes : List ℕ) (meaning : Result ImageParts InputFault) (fault : Fault) → shown_by bytes meaning ≡ Err fault → IsEarly (failure_of fault)
+of_image bytes (Ok image) fault is = of_line (map_meaning _ bytes) fault is
+of_image bytes (Err refused) fault is =
+    let same : Input refused ≡ fault = cc in
+    subst (λ (f : Fault). IsEarly (failure_of f)) same ((reported own_failure true).early refused)
+
+module _ (asked : ExplainAsked) (bytes listing order : List ℕ) (old new : Option (List ℕ)) where
+  -- a listing or a map that is wrong
+  pub map_fails : (fault : Fault) → (fault ≡ no_memory) ⊎ (shown_sources listing bytes ≡ Err fault) → new ≡ old
+      → FailsBy (failure_of fault) (IsMapped bytes asked listing order) fault old new
+  unfolding shown_sources
+  map_fails fault (inl none) same =
+      subst (λ (f : Fault). FailsBy (failure_of f) (IsMapped bytes asked listing order) f old new) (sym none) (inl same)
+  map_fails fault (inr is) same =
+      early (IsMapped bytes asked listing order) (failure_of fault) fault old new (of_image bytes (image_meant listing) fault is)
+      (subst (λ (r : Result (List (List ℕ)) Fault). OfSources {A = Answer} (λ f. Err f) r
+      (λ sources. IsExplained asked.form (Some sources) asked.first asked.last listing order (Err fault)) (Err fault)) (sym is) refl)
+      same
+
+-- what a map says is an answer
+pub of_map : (asked : ExplainAsked) (bytes listing order : List ℕ) (sources : List (List ℕ)) → shown_sources listing bytes ≡ Ok sources
+    → (answer : Answer) → IsExplained asked.form (Some sources) asked.first asked.last listing order answer → IsMapped bytes asked listing order answer
+of_map asked bytes listing order sources is answer so =
+    subst (λ (r : Result (List (List ℕ)) Fault). OfSources {A = Answer} (λ f. Err f) r
+        (λ s. IsExplained asked.form (Some s) asked.first asked.last listing order answer) answer) (sym is) so
+
+module _ (file : Option (List ℕ)) (asked : ExplainAsked) (listing order : List ℕ) where
+  -- a map that was read answers for its file
+  pub of_map_file : (bytes : List ℕ) → AreBytesOf file bytes → (answer : Answer)
+      → IsMapped bytes asked listing order answer → IsMapAnswer (Some file) asked listing order answer
+  of_map_file bytes are answer so = inr (bytes, are, so)
+
+  -- a map's file that was not read
+  pub map_unread : (old new : Option (List ℕ)) (fault : Fault) → IsMapUnread file fault → new ≡ old
+      → FailsBy (failure_of fault) (IsMapAnswer (Some file) asked listing order) fault old new
+  map_unread old new fault (inl none) same =
+      subst (λ (f : Fault). FailsBy (failure_of f) (IsMapAnswer (Some file) asked listing order) f old new) (sym none) (inl same)
+  map_unread old new fault (inr is) same =
+      subst (λ (f : Fault). FailsBy (failure_of f) (IsMapAnswer (Some file) asked listing order) f old new) (sym is.0)
+      (inl (is.1, refl), same)
+
+-- a request that names no map
+pub of_no_map : (files : KnownFiles) (asked : ExplainAsked) (listing order : List ℕ) → asked.map ≡ None → (answer : Answer)
+    → IsExplained asked.form None asked.first asked.last listing order answer
+    → IsMapAnswer (option_map files asked.map) asked listing order answer
+of_no_map files asked listing order is answer so =
+    subst (λ (m : Option (List ℕ)). IsMapAnswer (option_map files m) asked listing order answer) (sym is) so
+
+-- a request that names one
+module _ (files : KnownFiles) (asked : ExplainAsked) (name listing order : List ℕ) (is : asked.map ≡ Some name) where
+  pub of_named_map : (bytes : List ℕ) → AreBytesOf (files name) bytes → (answer : Answer)
+      → IsMapped bytes asked listing order answer → IsMapAnswer (option_map files asked.map) asked listing order answer
+  of_named_map bytes are answer so =
+      subst (λ (m : Option (List ℕ)). IsMapAnswer (option_map files m) asked listing order answer) (sym is)
+      (of_map_file (files name) asked listing order bytes are answer so)
+
+  pub named_map_unread : (old new : Option (List ℕ)) (fault : Fault) → IsMapUnread (files name) fault → new ≡ old
+      → FailsBy (failure_of fault) (IsMapAnswer (option_map files asked.map) asked listing order) fault old new
+  named_map_unread old new fault unread same =
+      subst (λ (m : Option (List ℕ)). FailsBy (failure_of fault) (IsMapAnswer (option_map files m) asked listing order) fault old new)
+      (sym is) (map_unread (files name) asked listing order old new fault unread same)
 
 -- what is said of a fault
 pub told_of : (fault : Fault) (status : ℕ) (old new : Option (List ℕ)) → status ≡ status_by is_refusal fault
@@ -96,4 +171,4 @@ pub asked_something : {A : Type 0} (request : Option ExplainAsked) (asked : Expl
 asked_something request asked is none = absurd cc
 
 -- all of the program's endings
-pub ruleset endings = (texts_unread, told_of)
+pub ruleset endings = (texts_unread, map_fails, told_of)

@@ -1,4 +1,5 @@
 -- The program: what it is asked for, what it prints, and how it ends.
 pub mod Faults
 pub mod Explaining
+pub mod Mapped
 pub mod Program

@@ -1,17 +1,19 @@
 //! The explanation of two texts, written in the form that was asked for.
 #![tactic(auto, using(crate::proofs::ExplainLemmas::prints))]
 
-ghost use Rattle.std.specs.Prelude.{◌≡◌, IfOk, IfErr};
+ghost use Rattle.std.specs.Prelude.{◌≡◌, IfOk, IfErr, option_map};
 ghost use Rattle.printing.specs.Endings.{FailsBy, HasWhole};
 ghost use Rattle.explain_line.specs.declared.requests.ExplainFormat.TheVariants as forms;
-ghost use Rattle.explain_program.specs.Explaining.{IsExplained, IsListed, selection_of};
+ghost use Rattle.explain_program.specs.Explaining.{IsExplained, IsListed, Sources, selection_of};
+ghost use Rattle.explanations.specs.InstructionLines.{shown_sources};
 ghost use Rattle.explain_program.specs.Faults.{failure_of};
 
 use crate::faults::{Fault, OwnFault};
+use asm_map_reader::Source;
 use cores::StepFault;
 use explain_line::{ExplainFormat, ExplainRequest, Filter as Words};
 use explained_page::{PageEnd, write_page};
-use explanations::{Filter, Format, Selection, explain};
+use explanations::{Explanation, Filter, Format, Selection, explain_mapped};
 use sinks::Sink;
 use std::alloc::Global;
 
@@ -37,19 +39,20 @@ fn write_listed<S: Sink>(
     alloc: Global,
     listing: &[u8],
     order: &[u8],
-    selection: Selection,
-    format: Format,
+    text: &Explanation<'_>,
     sink: &mut S,
 ) -> Result<Option<(usize, StepFault)>, Fault>
     ensures printed { IfOk result (λ end. HasWhole
-        (IsListed format listing.now order.now selection) end
+        (IsListed text.now.format (option_map shown_sources text.now.sources)
+        listing.now order.now text.now.selection) end
         (S.written sink.old) (S.written sink.new)) }
     ensures failed { IfErr result (λ fault. FailsBy (failure_of fault)
-        (IsListed format listing.now order.now selection) fault
+        (IsListed text.now.format (option_map shown_sources text.now.sources)
+        listing.now order.now text.now.selection) fault
         (S.written sink.old) (S.written sink.new)) }
     ensures identity { S.identity sink.new ≡ S.identity sink.old }
 {
-    let refused = explain(alloc, listing, order, selection, format, sink)?;
+    let refused = explain_mapped(alloc, listing, order, text, sink)?;
     Ok(refused)
 }
 
@@ -62,11 +65,11 @@ fn write_paged<S: Sink>(
     last: u32,
     sink: &mut S,
 ) -> Result<Option<(usize, StepFault)>, Fault>
-    ensures printed { IfOk result (λ end. HasWhole
-        (IsExplained forms.Page first last listing.now order.now) end
+    ensures printed { (sources : Sources) → IfOk result (λ end. HasWhole
+        (IsExplained forms.Page sources first last listing.now order.now) end
         (S.written sink.old) (S.written sink.new)) }
-    ensures failed { IfErr result (λ fault. FailsBy (failure_of fault)
-        (IsExplained forms.Page first last listing.now order.now) fault
+    ensures failed { (sources : Sources) → IfErr result (λ fault. FailsBy (failure_of fault)
+        (IsExplained forms.Page sources first last listing.now order.now) fault
         (S.written sink.old) (S.written sink.new)) }
     ensures identity { S.identity sink.new ≡ S.identity sink.old }
 {
@@ -77,32 +80,43 @@ fn write_paged<S: Sink>(
     }
 }
 
-/// Explains a listing in an order in the form that is asked for. Answers the step that was refused,
-/// if one was.
+/// Explains a listing in an order in the form that is asked for, by what a map says that its
+/// instructions come from, if there is one. Answers the step that was refused, if one was.
 pub fn write_asked<S: Sink>(
     alloc: Global,
     request: ExplainRequest<'_>,
+    sources: Option<&[Source<'_>]>,
     listing: &[u8],
     order: &[u8],
     sink: &mut S,
 ) -> Result<Option<(usize, StepFault)>, Fault>
     ensures printed { IfOk result (λ end. HasWhole (IsExplained request.entry.form
+        (option_map shown_sources sources.entry)
         request.entry.first request.entry.last listing.now order.now) end
         (S.written sink.old) (S.written sink.new)) }
     ensures failed { IfErr result (λ fault. FailsBy (failure_of fault) (IsExplained
-        request.entry.form request.entry.first request.entry.last listing.now order.now) fault
+        request.entry.form (option_map shown_sources sources.entry)
+        request.entry.first request.entry.last listing.now order.now) fault
         (S.written sink.old) (S.written sink.new)) }
     ensures identity { S.identity sink.new ≡ S.identity sink.old }
 {
     let (first, last) = (request.first, request.last);
     match request.form {
         ExplainFormat::Text(words) => {
-            let selection = selection_of(first, last, words);
-            write_listed(alloc, listing, order, selection, Format::Text, sink)
+            let text = Explanation {
+                selection: selection_of(first, last, words),
+                format: Format::Text,
+                sources,
+            };
+            write_listed(alloc, listing, order, &text, sink)
         }
         ExplainFormat::Json(words) => {
-            let selection = selection_of(first, last, words);
-            write_listed(alloc, listing, order, selection, Format::Json, sink)
+            let text = Explanation {
+                selection: selection_of(first, last, words),
+                format: Format::Json,
+                sources,
+            };
+            write_listed(alloc, listing, order, &text, sink)
         }
         ExplainFormat::Page => write_paged(alloc, listing, order, first, last, sink),
     }

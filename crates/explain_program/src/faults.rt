@@ -17,6 +17,10 @@ pub enum OwnFault {
     TooLong,
     /// The step at this place of the order, counted from 0, was refused.
     Step(usize, StepFault),
+    /// The map's file cannot be read.
+    CannotReadMap,
+    /// The map's line of this number is none of a map of this program.
+    Map(usize),
 }
 
 impl fmt::Display for OwnFault {
@@ -28,6 +32,8 @@ impl fmt::Display for OwnFault {
         match *self {
             OwnFault::TooLong => { f.write_str("too many events for a page: use --from and --to") }
             OwnFault::Step(place, fault) => write!(f, "order step {place}: {fault}"),
+            OwnFault::CannotReadMap => f.write_str("cannot read map"),
+            OwnFault::Map(line) => write!(f, "map line {line}"),
         }
     }
 }
@@ -37,7 +43,8 @@ impl ProgramFault for OwnFault {
 
     fn is_refusal(self) -> bool {
         match self {
-            OwnFault::TooLong | OwnFault::Step(_, _) => true,
+            OwnFault::TooLong | OwnFault::Step(_, _) | OwnFault::Map(_) => true,
+            OwnFault::CannotReadMap => false,
         }
     }
 }

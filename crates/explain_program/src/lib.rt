@@ -3,6 +3,7 @@
 
 mod explaining;
 mod faults;
+mod mapped;
 mod program;
 
 pub use faults::{Fault, OwnFault};

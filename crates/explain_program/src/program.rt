@@ -1,16 +1,18 @@
 //! The program: explains one run, or reports why it failed.
 #![tactic(auto, using(crate::proofs::ProgramLemmas::endings))]
 
-ghost use Rattle.std.specs.Prelude.{◌≡◌, ◌≢◌, ◌≤◌, ◌⊎◌, IfErr, IfOk, Err, None, Some};
+ghost use Rattle.std.specs.Prelude.{◌≡◌, ◌≢◌, ◌≤◌, ◌⊎◌, IfErr, IfOk, Err, None, Some, option_map};
 ghost use Rattle.explain_line.specs.Requests.{explain_asked, explain_asked_by};
 ghost use Rattle.printing.specs.Endings.{FailsBy, HasWhole};
 ghost use Rattle.program_io.specs.Faults.{no_memory};
 ghost use Rattle.program_io.specs.declared.fault.Fault.TheVariants.{Usage};
 ghost use Rattle.explain_program.specs.Faults.{failure_of};
 ghost use Rattle.explain_program.specs.Program.{command_line, IsAnswer, Concludes, FailsWith};
+ghost use Rattle.explain_program.specs.Program.{IsMapAnswer, IsMapped};
 
 use crate::explaining::write_asked;
 use crate::faults::{Fault, OwnFault};
+use crate::mapped::{read_map_text, sources_of};
 use cores::StepFault;
 use explain_line::{ExplainRequest, explain_request};
 use inputs::{Files, command_args, read_texts};
@@ -19,6 +21,63 @@ use program_io::{finish, report_fault};
 use sinks::{Sink, ToWrite};
 use std::alloc::Global;
 use std::io::Write;
+
+/// Explains a listing in an order by the map of the listing's program. The listing is judged before
+/// the map, and the map before the order.
+fn explain_by<S: Sink>(
+    alloc: Global,
+    request: ExplainRequest<'_>,
+    map: &[u8],
+    listing: &[u8],
+    order: &[u8],
+    sink: &mut S,
+) -> Result<Option<(usize, StepFault)>, Fault>
+    ensures printed { IfOk result (λ end. HasWhole
+        (IsMapped map.now (explain_asked_by request.entry) listing.now order.now) end
+        (S.written sink.old) (S.written sink.new)) }
+    ensures failed { IfErr result (λ fault. FailsBy (failure_of fault)
+        (IsMapped map.now (explain_asked_by request.entry) listing.now order.now) fault
+        (S.written sink.old) (S.written sink.new)) }
+    ensures identity { S.identity sink.new ≡ S.identity sink.old }
+{
+    let sources = sources_of(alloc, listing, map)?;
+    write_asked(
+        alloc,
+        request,
+        Some(sources.as_slice()),
+        listing,
+        order,
+        sink,
+    )
+}
+
+/// Explains a listing in an order, by the map that a request names, if it names one.
+fn explain_texts<F: Files, S: Sink>(
+    alloc: Global,
+    request: ExplainRequest<'_>,
+    files: &mut F,
+    listing: &[u8],
+    order: &[u8],
+    sink: &mut S,
+) -> Result<Option<(usize, StepFault)>, Fault>
+    ensures printed { IfOk result (λ end. HasWhole
+        (IsMapAnswer (option_map (F.bytes_of files.old) (explain_asked_by request.entry).map)
+        (explain_asked_by request.entry) listing.now order.now) end
+        (S.written sink.old) (S.written sink.new)) }
+    ensures failed { IfErr result (λ fault. FailsBy (failure_of fault)
+        (IsMapAnswer (option_map (F.bytes_of files.old) (explain_asked_by request.entry).map)
+        (explain_asked_by request.entry) listing.now order.now) fault
+        (S.written sink.old) (S.written sink.new)) }
+    ensures identity { S.identity sink.new ≡ S.identity sink.old }
+{
+    match request.map {
+        None => write_asked(alloc, request, None, listing, order, sink),
+        Some(name) => {
+            let map = read_map_text(files, name)?;
+            explain_by(alloc, request, map.as_slice(), listing, order, sink)
+        }
+    }
+}
 
 /// Explains what a request asks for.
 fn explain<F: Files, S: Sink>(
@@ -37,7 +96,7 @@ fn explain<F: Files, S: Sink>(
 {
     let texts = read_texts(files, request.listing, request.order)?;
     let (listing, order) = (texts.listing.as_slice(), texts.order.as_slice());
-    write_asked(alloc, request, listing, order, sink)
+    explain_texts(alloc, request, files, listing, order, sink)
 }
 
 /// Does what the arguments ask for. The command line is judged first. Answers the step that was

@@ -16,6 +16,7 @@ use Rattle.cheri_model.proofs.Runs.Replays.{length-operations_of}
 use Rattle.origins.specs.Origins.{replayed_origins}
 use Rattle.explanations.specs.declared.selection.Selection.{Selection}
 use Rattle.explanations.specs.Explanation.{Explained, explained_events, is_shown, shown_from}
+use Rattle.explanations.specs.InstructionLines.{unmapped}
 use Rattle.explanations.specs.JsonText.{events_from}
 use Rattle.explained_page.specs.State.{state_data}
 use Rattle.explained_page.specs.Look.{next_line, line_or_null, next_data, look_data, look_head, look_end}
@@ -66,7 +67,7 @@ none_shown selection number (explained ∷ rest) less =
     (none_shown selection (number + 1) rest less)
 
 pub none_from : (lines : List ℕ) (selection : Selection) (number : ℕ) (events : List Explained) → selection.last < selection.first
-    → events_from lines selection false number events ≡ 93 ∷ []
+    → events_from (unmapped lines) selection false number events ≡ 93 ∷ []
 none_from lines selection number events less = rw (none_shown selection number events less) refl
 
 -- ---- the whole
@@ -78,12 +79,12 @@ regrouped a b c d e at events next state = simp append_assoc
 
 look_parts : (image : ImageParts) (lines : List ℕ) (at : ℕ) (selection : Selection) (order : List Op)
     → compact_text (look_data image lines at selection order)
-    ≡ look_head (min at (length order)) ++ (events_from lines selection false 0 (explained_events image order)
+    ≡ look_head (min at (length order)) ++ (events_from (unmapped lines) selection false 0 (explained_events image order)
     ++ look_end lines (replayed_origins image (take at order)) (replayed_state image (take at order)))
 unfolding look_data look_head look_end serde_json_on_literals
 look_parts image lines at selection order =
     regrouped (codes "{\"at\":") (codes ",\"events\":[") (codes ",\"next\":") (codes ",\"state\":") (codes "}")
-    (decimal (min at (length order))) (events_from lines selection false 0 (explained_events image order))
+    (decimal (min at (length order))) (events_from (unmapped lines) selection false 0 (explained_events image order))
     (compact_text (next_data lines (replayed_state image (take at order)).harts))
     (compact_text (state_data (replayed_origins image (take at order)) (replayed_state image (take at order))))
 
@@ -91,11 +92,11 @@ look_parts image lines at selection order =
 pub core_parts : (image : ImageParts) (lines : List ℕ) (at taken : ℕ) (selection : Selection) (trace entries : List Event)
     → entries ≡ trace → taken ≡ min at (length entries)
     → compact_text (look_data image lines at selection (operations_of trace))
-    ≡ look_head taken ++ (events_from lines selection false 0 (explained_events image (operations_of trace))
+    ≡ look_head taken ++ (events_from (unmapped lines) selection false 0 (explained_events image (operations_of trace))
     ++ look_end lines (replayed_origins image (take at (operations_of trace))) (replayed_state image (take at (operations_of trace))))
 core_parts image lines at taken selection trace entries same is =
     let count : min at (length (operations_of trace)) ≡ taken =
     ap (min at) (length-operations_of trace ∙ ap length (sym same)) ∙ sym is in
     look_parts image lines at selection (operations_of trace)
-    ∙ ap (λ n. look_head n ++ (events_from lines selection false 0 (explained_events image (operations_of trace))
+    ∙ ap (λ n. look_head n ++ (events_from (unmapped lines) selection false 0 (explained_events image (operations_of trace))
     ++ look_end lines (replayed_origins image (take at (operations_of trace))) (replayed_state image (take at (operations_of trace))))) count

@@ -34,6 +34,8 @@ use Rattle.explanations.specs.declared.selection.Selection.{Selection}
 use Rattle.explanations.specs.Names.{swept_name, origin_name, spot_name}
 use Rattle.explanations.specs.Reasons.{why_text}
 use Rattle.explanations.specs.FactData.{spot_key, put_any, named_data, put_named, place_data, put_names, origin_data, extent_data, cleared_data, instruction_data, line_data, why_data, step_data, put_swept, put_clears, sweep_data}
+use Rattle.explanations.specs.InstructionLines.{unmapped}
+use Rattle.explanations.proofs.FactLemmas.{no_source}
 use Rattle.explanations.specs.Explanation.{Explained, event_data, shown_from, explained_events, explanation_data, explanation_json}
 use Rattle.explained_page.specs.ScriptText.{has_mark}
 use Rattle.explained_page.specs.State.{put_value, put_registers, hart_data, harts_from, put_granules, state_data}
@@ -96,7 +98,7 @@ names name (One x) members key others = put_plain name (object (put_named x no_m
 names name (Two x y) members key others =
     put_plain name (object (put_named y (put_named x no_members))) members key (one y (put_named x no_members) (one x no_members refl)) others
 
-step_plain : (lines : List ℕ) (number : ℕ) (facts : StepFacts) → marked (step_data lines number facts) ≡ false
+step_plain : (lines : List ℕ) (number : ℕ) (facts : StepFacts) → marked (step_data (unmapped lines) number facts) ≡ false
 unfolding step_data
 step_plain lines number facts =
     let m0 : Members = event_members (event.Step facts.entry) in
@@ -105,15 +107,16 @@ step_plain lines number facts =
     let m3 : Members = put_any (codes "finds") place_data facts.finds m2 in
     let m4 : Members = put_any (codes "instruction") instruction_data facts.fetched m3 in
     let m5 : Members = put_any (codes "leaves") place_data facts.leaves m4 in
-    let m6 : Members = put_any (codes "line") (line_data lines) facts.fetched m5 in
+    let m6 : Members = put_any (codes "line") (line_data (unmapped lines)) facts.fetched m5 in
     let m7 : Members = put (codes "number") (count number) m6 in
     let m8 : Members = put_names (codes "reads") facts.reads m7 in
     let m9 : Members = put_names (codes "sets") facts.sets m8 in
-    any (codes "why") why_data facts.traps m9 refl (λ x. trap_why_plain x.why)
+    rw (no_source (unmapped lines) facts.fetched refl)
+    (any (codes "why") why_data facts.traps m9 refl (λ x. trap_why_plain x.why)
     (names (codes "sets") facts.sets m8 refl
     (names (codes "reads") facts.reads m7 refl
     (put_plain (codes "number") (count number) m6 refl (count_plain number)
-    (any (codes "line") (line_data lines) facts.fetched m5 refl (λ x. decimal_plain _)
+    (any (codes "line") (line_data (unmapped lines)) facts.fetched m5 refl (λ x. decimal_plain _)
     (any (codes "leaves") place_data facts.leaves m4 refl (λ x. one x no_members refl)
     (any (codes "instruction") instruction_data facts.fetched m3 refl (λ x. form_plain (form_of x.instr))
     (any (codes "finds") place_data facts.finds m2 refl (λ x. one x no_members refl)
@@ -121,7 +124,7 @@ step_plain lines number facts =
     (any (codes "at") extent_data facts.at m0 refl
     (λ x. put_plain (codes "bytes") (count x.bytes) (put (codes "address") (string (hex_text 16 x.address)) no_members) refl (count_plain x.bytes)
     (put_plain (codes "address") (string (hex_text 16 x.address)) no_members refl (hex_plain 16 x.address) refl))
-    (event_plain (event.Step facts.entry)))))))))))
+    (event_plain (event.Step facts.entry))))))))))))
 
 swept : (places : List Place) (members : Members) → ArePlain members → ArePlain (put_swept places members)
 unfolding put_swept
@@ -143,18 +146,18 @@ sweep_plain number e places =
 
 -- ---- an explanation
 
-facts_plain : (lines : List ℕ) (number : ℕ) (e : Event) (f : EventFacts) → marked (event_data lines number (e, f)) ≡ false
+facts_plain : (lines : List ℕ) (number : ℕ) (e : Event) (f : EventFacts) → marked (event_data (unmapped lines) number (e, f)) ≡ false
 facts_plain lines number e (step facts) = step_plain lines number facts
 facts_plain lines number e (sweep places) = sweep_plain number e places
 
 pub explanation_plain : (image : ImageParts) (lines : List ℕ) (selection : Selection) (order : List Op)
-    → has_mark (explanation_json image lines selection order) ≡ false
+    → has_mark (explanation_json image (unmapped lines) selection order) ≡ false
 unfolding explanation_data
 explanation_plain image lines selection order =
     let shown : List (ℕ × Explained) = shown_from selection 0 (explained_events image order) in
-    let events = each_plain (λ e. event_data lines e.0 e.1) (λ e. facts_plain lines e.0 e.1.0 e.1.1) shown in
-    joined (compact_text (explanation_data image lines selection order)) (10 ∷ [])
-    (text_plain (explanation_data image lines selection order)
+    let events = each_plain (λ e. event_data (unmapped lines) e.0 e.1) (λ e. facts_plain lines e.0 e.1.0 e.1.1) shown in
+    joined (compact_text (explanation_data image (unmapped lines) selection order)) (10 ∷ [])
+    (text_plain (explanation_data image (unmapped lines) selection order)
     (rw (decimal_plain (length order), events, decimal_plain 1, image_plain image) refl)) refl
 
 -- ---- a state

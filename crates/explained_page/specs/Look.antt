@@ -19,7 +19,7 @@ use Rattle.report_lines.specs.ValueData.{count}
 use Rattle.origins.specs.Origins.{Origins, replayed_origins}
 use Rattle.explanations.specs.declared.selection.Selection.{Selection}
 use Rattle.explanations.specs.Explanation.{explained_events, shown_from, events_data}
-use Rattle.explanations.specs.FactLines.{line_of}
+use Rattle.explanations.specs.InstructionLines.{line_of, unmapped}
 use Rattle.explained_page.specs.State.{state_data}
 use Rattle.explained_page.specs.PagedRuns.{range}
 
@@ -29,7 +29,7 @@ use Rattle.explained_page.specs.PagedRuns.{range}
 unfoldable pub line_at : List ℕ → ℕ → Option ℕ
 line_at lines addr =
     if is_in_code (length lines) addr && (addr % INSTRUCTION_BYTES == 0)
-    then Some (line_of lines ((addr - code_base) / INSTRUCTION_BYTES))
+    then Some (line_of (unmapped lines) ((addr - code_base) / INSTRUCTION_BYTES))
     else None
 
 -- that of a hart's next instruction, which a hart that has stopped doesn't have
@@ -55,7 +55,7 @@ unfoldable pub look_data : ImageParts → List ℕ → ℕ → Selection → Lis
 look_data image lines at selection order = object
     (member (codes "at") (count (min at (length order)))
     (member (codes "events")
-    (array (events_data lines (shown_from selection 0 (explained_events image order))))
+    (array (events_data (unmapped lines) (shown_from selection 0 (explained_events image order))))
     (member (codes "next") (next_data lines (replayed_state image (take at order)).harts)
     (member (codes "state") (state_data (replayed_origins image (take at order))
     (replayed_state image (take at order))) no_members))))

@@ -7,6 +7,7 @@ use Rattle.cheri_model.specs.runs.Replay.{replayed_state}
 use Rattle.report_lines.specs.Texts.{◌+++◌}
 use Rattle.origins.specs.Origins.{replayed_origins}
 use Rattle.explanations.specs.declared.selection.Selection.{Selection}
+use Rattle.explanations.specs.InstructionLines.{unmapped}
 use Rattle.explanations.specs.Explanation.{explanation_json}
 use Rattle.explained_page.specs.State.{state_data}
 use Rattle.explained_page.specs.ScriptText.{script_text}
@@ -36,7 +37,7 @@ state_text image count order =
 -- its three parts: each has a text, after what goes before it
 unfoldable pub explanation_part : ImageParts → List ℕ → Selection → List Op → List ℕ
 explanation_part image lines selection order =
-    page_head +++ explanation_json image lines selection order
+    page_head +++ explanation_json image (unmapped lines) selection order
 
 abbrev pub state_part : ImageParts → ℕ → List Op → List ℕ
 state_part image count order = page_state +++ state_text image count order

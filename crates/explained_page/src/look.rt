@@ -16,6 +16,7 @@ ghost use Rattle.simulation.specs.Simulation.{is_reported, failures_of_run};
 ghost use Rattle.cores.specs.declared.cores.TheConstants.{GREATEST_TRACE_LIMIT};
 ghost use Rattle.following.specs.Following.{origins_now};
 ghost use Rattle.explanations.specs.Explanation.{explained_events};
+ghost use Rattle.explanations.specs.InstructionLines.{unmapped};
 ghost use Rattle.explanations.specs.JsonText.{events_from};
 ghost use Rattle.explained_page.specs.Look.{
   line_at,
@@ -33,7 +34,7 @@ use crate::positions::follow_to;
 use crate::state::write_state;
 use cheri_model::{CODE_BASE, INSTRUCTION_BYTES, NoMemory, Status};
 use cores::{Core, GREATEST_TRACE_LIMIT, StepFault};
-use explanations::{Filter, Selection, put_events};
+use explanations::{Filter, InstructionLines, Selection, put_events};
 use following::Follower;
 use hart::Hart;
 use listings::instruction_lines;
@@ -127,10 +128,11 @@ fn put_selected<S: Sink>(
     selection: Selection,
 ) -> Result<(), WriteFault>
     ensures whole { OnOk result (TakesAllBut (S.written sink.old) (S.written sink.new)
-        (string_bytes out.new) (string_bytes out.old ++ events_from lines.now selection false 0
+        (string_bytes out.new) (string_bytes out.old
+        ++ events_from (unmapped lines.now) selection false 0
         (explained_events core.now.image (operations_of core.now.trace)))) }
     ensures prefix { TakesPrefix (S.written sink.old) (S.written sink.new) (string_bytes out.old
-        ++ events_from lines.now selection false 0
+        ++ events_from (unmapped lines.now) selection false 0
         (explained_events core.now.image (operations_of core.now.trace))) }
     ensures failures { S.failures sink.new ≡ S.failures sink.old + failures_of result }
     ensures identity { S.identity sink.new ≡ S.identity sink.old }
@@ -139,7 +141,8 @@ fn put_selected<S: Sink>(
         out.push_str("]")?;
         return Ok(());
     }
-    put_events(alloc, out, sink, core, lines, selection)
+    let lines = InstructionLines::new(lines, None);
+    put_events(alloc, out, sink, core, &lines, selection)
 }
 
 /// Appends what is after them.

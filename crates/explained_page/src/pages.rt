@@ -19,7 +19,7 @@ use crate::positions::follow_to;
 use crate::script_text::write_script_text;
 use crate::state::write_state;
 use cores::Core;
-use explanations::{Selection, write_json};
+use explanations::{InstructionLines, Selection, write_json};
 use sinks::{Sink, WriteFault, put_whole};
 use std::alloc::Global;
 
@@ -51,7 +51,8 @@ fn put_explanation<S: Sink>(
     ensures identity { S.identity sink.new ≡ S.identity sink.old }
 {
     put_whole(sink, page_head().as_bytes())?;
-    write_json(alloc, core, lines, selection, sink)?;
+    let lines = InstructionLines::new(lines, None);
+    write_json(alloc, core, &lines, selection, sink)?;
     Ok(())
 }
 

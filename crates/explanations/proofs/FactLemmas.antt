@@ -1,5 +1,6 @@
 -- Facts in JSON have no float.
 use Rattle.std.proofs.Common.{◌≡◌, ℕ, List, [], ◌∷◌, codes, false, Option, Some, None, refl}
+use Rattle.std.specs.Prelude.{is_some}
 use Rattle.serde_json.specs.Data.{Data, object, string, Members, no_members, put}
 use Rattle.serde_json.specs.Written.{has_float, members_have_float}
 use Rattle.cheri_model.specs.declared.operation.Event.{Event}
@@ -11,9 +12,21 @@ use Rattle.origins.specs.declared.place.Place.{Place}
 use Rattle.facts.specs.declared.step_facts.NamedValue.{NamedValue}
 use Rattle.facts.specs.declared.step_facts.UpToTwo.{UpToTwo}
 use Rattle.facts.specs.declared.step_facts.UpToTwo.TheVariants.{Zero, One, Two}
+use Rattle.facts.specs.declared.step_facts.Fetched.{Fetched}
 use Rattle.facts.specs.declared.step_facts.StepFacts.{StepFacts}
+use Rattle.explanations.specs.InstructionLines.{LineParts, source_in, source_of}
 use Rattle.explanations.specs.Names.{swept_name}
-use Rattle.explanations.specs.FactData.{spot_key, put_any, named_data, put_named, place_data, put_names, origin_data, extent_data, cleared_data, instruction_data, line_data, why_data, step_data, put_swept, put_clears, sweep_data}
+use Rattle.explanations.specs.FactData.{spot_key, put_any, named_data, put_named, place_data, put_names, origin_data, extent_data, cleared_data, instruction_data, line_data, fetched_source, why_data, step_data, put_swept, put_clears, sweep_data}
+
+-- no map says what an instruction comes from
+none_in : (sources : Option (List (List ℕ))) (number : ℕ) → is_some sources ≡ false → source_in sources number ≡ None
+none_in (Some sources) number none = absurd cc
+none_in None number none = refl
+
+pub no_source : (lines : LineParts) (fetched : Option Fetched) → is_some lines.sources ≡ false → fetched_source lines fetched ≡ None
+unfolding source_of
+no_source lines (Some fetched) none = none_in lines.sources fetched.number none
+no_source lines None none = refl
 
 abbrev AreFloatless : Members → Type 0
 AreFloatless members = members_have_float members ≡ false
@@ -37,7 +50,7 @@ names name (One x) members others = put_no_float name (object (put_named x no_me
 names name (Two x y) members others =
     put_no_float name (object (put_named y (put_named x no_members))) members (one y (put_named x no_members) (one x no_members refl)) others
 
-pub step_no_float : (lines : List ℕ) (number : ℕ) (facts : StepFacts) → has_float (step_data lines number facts) ≡ false
+pub step_no_float : (lines : LineParts) (number : ℕ) (facts : StepFacts) → has_float (step_data lines number facts) ≡ false
 unfolding step_data
 step_no_float lines number facts =
     let m0 : Members = event_members (event.Step facts.entry) in
@@ -50,7 +63,9 @@ step_no_float lines number facts =
     let m7 : Members = put (codes "number") (count number) m6 in
     let m8 : Members = put_names (codes "reads") facts.reads m7 in
     let m9 : Members = put_names (codes "sets") facts.sets m8 in
-    any (codes "why") why_data facts.traps m9 (λ x. refl)
+    let m10 : Members = put_any (codes "source") (λ source. string source) (fetched_source lines facts.fetched) m9 in
+    any (codes "why") why_data facts.traps m10 (λ x. refl)
+    (any (codes "source") (λ source. string source) (fetched_source lines facts.fetched) m9 (λ x. refl)
     (names (codes "sets") facts.sets m8
     (names (codes "reads") facts.reads m7
     (put_no_float (codes "number") (count number) m6 refl
@@ -60,7 +75,7 @@ step_no_float lines number facts =
     (any (codes "finds") place_data facts.finds m2 (λ x. one x no_members refl)
     (any (codes "clears") cleared_data facts.clears m1 (λ x. refl)
     (any (codes "at") extent_data facts.at m0 (λ x. refl)
-    (event_no_float (event.Step facts.entry)))))))))))
+    (event_no_float (event.Step facts.entry))))))))))))
 
 swept : (places : List Place) (members : Members) → AreFloatless members → AreFloatless (put_swept places members)
 unfolding put_swept

@@ -9,6 +9,7 @@ use Rattle.report_lines.specs.EventData.{image_data}
 use Rattle.sinks.specs.Sinks.{TakesAllBut, TakesPrefix}
 use Rattle.sinks.proofs.SinkLemmas.{takes_then, stops_then}
 use Rattle.explanations.specs.declared.selection.Selection.{Selection}
+use Rattle.explanations.specs.InstructionLines.{LineParts}
 use Rattle.explanations.specs.Explanation.{Explained, explained_events, is_shown, shown_from, event_data, events_data, explanation_data, explanation_json}
 use Rattle.explanations.specs.JsonText.{json_head, shown_item, events_from, json_end}
 
@@ -21,21 +22,21 @@ or_false true = refl
 or_false false = refl
 
 -- one event more, by whether it is shown
-by_shown : (lines : List ℕ) (shown later : Bool) (item : ℕ × Explained) (rest : List (ℕ × Explained))
+by_shown : (lines : LineParts) (shown later : Bool) (item : ℕ × Explained) (rest : List (ℕ × Explained))
     → items_text later (events_data lines (cond shown (item ∷ rest) rest))
     ≡ cond shown (comma_if later ++ compact_text (event_data lines item.0 item.1)) [] ++ items_text (later || shown) (events_data lines rest)
 by_shown lines true later item rest =
     rw (or_true later) (sym (append_assoc (comma_if later) (compact_text (event_data lines item.0 item.1)) (items_text true (events_data lines rest))))
 by_shown lines false later item rest = rw (or_false later) refl
 
-one_more : (lines : List ℕ) (selection : Selection) (later : Bool) (number : ℕ) (facts : Explained) (rest : List Explained)
+one_more : (lines : LineParts) (selection : Selection) (later : Bool) (number : ℕ) (facts : Explained) (rest : List Explained)
     → events_from lines selection later number (facts ∷ rest)
     ≡ shown_item lines selection later number facts ++ events_from lines selection (later || is_shown selection number facts.1) (number + 1) rest
 unfolding shown_from shown_item
 one_more lines selection later number facts rest =
     by_shown lines (is_shown selection number facts.1) later (number, facts) (shown_from selection (number + 1) rest)
 
-module _ (lines : List ℕ) (selection : Selection) (all : List Explained) (number : ℕ) (d facts : Explained) (later : Bool)
+module _ (lines : LineParts) (selection : Selection) (all : List Explained) (number : ℕ) (d facts : Explained) (later : Bool)
     (kept written whole : List ℕ) (before now after : Option (List ℕ)) (room : number < length all) (is : facts ≡ get_or all number d)
     (more : written ≡ kept ++ shown_item lines selection later number facts)
     (so_far : TakesAllBut before now (kept ++ events_from lines selection later number (drop number all)) whole) where
@@ -56,7 +57,7 @@ module _ (lines : List ℕ) (selection : Selection) (all : List Explained) (numb
   event_stops stop = stops_then before now after written _ _ whole joined so_far stop
 
 -- no event is left but the bracket after them
-pub events_end : (lines : List ℕ) (selection : Selection) (all : List Explained) (number : ℕ) (later : Bool) (kept whole : List ℕ)
+pub events_end : (lines : LineParts) (selection : Selection) (all : List Explained) (number : ℕ) (later : Bool) (kept whole : List ℕ)
     (before now : Option (List ℕ)) → length all ≤ number
     → TakesAllBut before now (kept ++ events_from lines selection later number (drop number all)) whole
     → TakesAllBut before now (kept ++ 93 ∷ []) whole
@@ -72,7 +73,7 @@ regrouped : (a b c d e f entries events one image : List ℕ)
     ≡ (a ++ (entries ++ b)) ++ (events ++ (c ++ (one ++ (d ++ (image ++ (e ++ f))))))
 regrouped a b c d e f entries events one image = simp append_assoc
 
-pub json_parts : (image : ImageParts) (lines : List ℕ) (selection : Selection) (order : List Op)
+pub json_parts : (image : ImageParts) (lines : LineParts) (selection : Selection) (order : List Op)
     → explanation_json image lines selection order
     ≡ json_head (length order) ++ (events_from lines selection false 0 (explained_events image order) ++ json_end image)
 unfolding explanation_data json_end serde_json_on_literals

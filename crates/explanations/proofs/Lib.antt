@@ -1,5 +1,6 @@
 pub mod FactLemmas
 pub mod JsonParts
+pub mod LineLemmas
 pub mod Unfold
 pub mod Parts
 pub mod PieceLemmas

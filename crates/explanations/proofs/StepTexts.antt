@@ -1,6 +1,6 @@
 -- A step in JSON, member by member: the members in the order of their keys, of which some may be absent, and their texts.
 use Rattle.std.proofs.Common.{◌≡◌, Less, Greater, ℕ, true, false, List, [], ◌∷◌, ◌++◌, Option, Some, None, codes, decimal, refl, ap, ◌∙◌, append_assoc, append-nil}
-use Rattle.std.specs.Prelude.{⊤}
+use Rattle.std.specs.Prelude.{⊤, is_some}
 use Rattle.std.specs.Option.{option_map}
 use Rattle.std.specs.Ordering.{nat_cmp}
 use Rattle.std.specs.Cmp.Lexicographic.{slice_cmp}
@@ -16,8 +16,10 @@ use Rattle.facts.specs.declared.step_facts.NamedValue.{NamedValue}
 use Rattle.facts.specs.declared.step_facts.UpToTwo.{UpToTwo}
 use Rattle.facts.specs.declared.step_facts.UpToTwo.TheVariants.{Zero, One, Two}
 use Rattle.facts.specs.declared.step_facts.StepFacts.{StepFacts}
-use Rattle.explanations.specs.FactData.{put_any, put_names, place_data, extent_data, cleared_data, instruction_data, line_data, step_data}
+use Rattle.explanations.specs.FactData.{put_any, put_names, place_data, extent_data, cleared_data, instruction_data, line_data, fetched_source, step_data}
+use Rattle.explanations.specs.InstructionLines.{LineParts}
 use Rattle.explanations.specs.JsonText.{if_there, names_data}
+use Rattle.explanations.proofs.FactLemmas.{no_source}
 use Rattle.explanations.proofs.PlainTexts as plain
 
 -- ---- members that may be absent
@@ -272,7 +274,8 @@ unfolding serde_json_on_literals
 pc_then pc rest = rw (plain.hex 16 pc) (ap (λ (t : List ℕ). 34 ∷ t) (append_assoc (hex_text 16 pc) (34 ∷ []) rest))
 
 -- a step that was done
-pub done_text : (lines : List ℕ) (number : ℕ) (facts : StepFacts) → facts.entry.outcome ≡ outcome.Done → facts.traps ≡ None
+pub done_text : (lines : LineParts) (number : ℕ) (facts : StepFacts) → facts.entry.outcome ≡ outcome.Done → facts.traps ≡ None
+    → is_some lines.sources ≡ false
     → compact_text (step_data lines number facts)
     ≡ codes "{" ++ (if_there (codes "\"at\":") (codes ",") (option_map extent_data facts.at)
     ++ (if_there (codes "\"clears\":") (codes ",") (option_map cleared_data facts.clears)
@@ -286,7 +289,7 @@ pub done_text : (lines : List ℕ) (number : ℕ) (facts : StepFacts) → facts.
     ++ (if_there (codes ",\"reads\":") [] (names_data facts.reads)
     ++ (if_there (codes ",\"sets\":") [] (names_data facts.sets) ++ codes "}")))))))))))))))
 unfolding step_data event_members serde_json_on_literals
-done_text lines number facts done untrapped =
+done_text lines number facts done untrapped unmapped =
     let at = option_map extent_data facts.at in
     let clears = option_map cleared_data facts.clears in
     let finds = option_map place_data facts.finds in
@@ -299,6 +302,7 @@ done_text lines number facts done untrapped =
     let sets = names_data facts.sets in
     rw (
       untrapped,
+      no_source lines facts.fetched unmapped,
       done,
       names_are (codes "sets") facts.sets,
       names_are (codes "reads") facts.reads,

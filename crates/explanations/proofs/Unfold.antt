@@ -5,6 +5,7 @@ use Rattle.cheri_model.specs.declared.names.Mnemonic.{Mnemonic}
 use Rattle.cheri_model.specs.instructions.Names.{mnemonic_table, name_among, name_of}
 use Rattle.notation.specs.Instructions.{form_text}
 use Rattle.explanations.specs.declared.selection.Selection.{Selection}
+use Rattle.explanations.specs.InstructionLines.{LineParts}
 use Rattle.explanations.specs.Explanation.{Explained, is_shown, shown_lines, head_lines}
 use Rattle.explanations.specs.JsonText.{shown_item}
 use Rattle.report_lines.specs.ValueData.{value_members}
@@ -14,11 +15,11 @@ use Rattle.facts.specs.declared.why.Why.{Why}
 use Rattle.explanations.specs.FactData.{named_data, step_data, put_swept, sweep_data}
 use Rattle.explanations.specs.Reasons.{why_text, trap_why_text}
 
-unfoldable pub shown : List ℕ → Selection → ℕ → Explained → List ℕ
+unfoldable pub shown : LineParts → Selection → ℕ → Explained → List ℕ
 unfolding is_shown shown_lines head_lines
 shown lines selection number facts = shown_lines lines selection number facts
 
-unfoldable pub item : List ℕ → Selection → Bool → ℕ → Explained → List ℕ
+unfoldable pub item : LineParts → Selection → Bool → ℕ → Explained → List ℕ
 unfolding is_shown shown_item
 item lines selection later number facts = shown_item lines selection later number facts
 

@@ -15,6 +15,7 @@ use Rattle.facts.specs.EventFacts.{EventFacts, step, sweep, replayed_facts}
 use Rattle.cheri_model.specs.declared.operation.Event.{Event}
 use Rattle.cheri_model.specs.runs.Replay.{replayed_events}
 use Rattle.explanations.specs.declared.selection.Selection.{Selection}
+use Rattle.explanations.specs.InstructionLines.{LineParts}
 use Rattle.explanations.specs.Filters.{passes}
 use Rattle.explanations.specs.FactLines.{step_lines, swept_lines}
 use Rattle.explanations.specs.FactData.{step_data, sweep_data}
@@ -50,17 +51,17 @@ is_shown selection number facts =
 -- ---- the text
 
 -- an event and its facts, in a listing that has the instructions on these lines
-abbrev pub event_lines : List ℕ → ℕ → Explained → List ℕ
+abbrev pub event_lines : LineParts → ℕ → Explained → List ℕ
 event_lines lines number (event, step facts) = step_lines lines number facts
 event_lines lines number (event, sweep places) = event_line number event ++ swept_lines places
 
 -- nothing where it isn't shown
-unfoldable pub shown_lines : List ℕ → Selection → ℕ → Explained → List ℕ
+unfoldable pub shown_lines : LineParts → Selection → ℕ → Explained → List ℕ
 shown_lines lines selection number explained =
     if is_shown selection number explained.1 then event_lines lines number explained else []
 
 -- those of the run of an order
-abbrev pub events_lines : ImageParts → List ℕ → Selection → List Op → List ℕ
+abbrev pub events_lines : ImageParts → LineParts → Selection → List Op → List ℕ
 events_lines image lines selection order =
     numbered (shown_lines lines selection) 0 (explained_events image order)
 
@@ -70,7 +71,7 @@ head_lines image count =
     line (codes "cheri-sim explanation 1") +++ image_line image +++ count_line count
 
 -- of the run of an order, all of whose operations are taken
-unfoldable pub explanation : ImageParts → List ℕ → Selection → List Op → List ℕ
+unfoldable pub explanation : ImageParts → LineParts → Selection → List Op → List ℕ
 explanation image lines selection order =
     head_lines image (length order) +++ events_lines image lines selection order
     +++ line (codes "end")
@@ -85,14 +86,14 @@ shown_from selection number (explained ∷ rest) =
     then (number, explained) ∷ shown_from selection (number + 1) rest
     else shown_from selection (number + 1) rest
 
-abbrev pub event_data : List ℕ → ℕ → Explained → Data
+abbrev pub event_data : LineParts → ℕ → Explained → Data
 event_data lines number (event, step facts) = step_data lines number facts
 event_data lines number (event, sweep places) = sweep_data number event places
 
-abbrev pub events_data : List ℕ → List (ℕ × Explained) → Items
+abbrev pub events_data : LineParts → List (ℕ × Explained) → Items
 events_data lines shown = items_of (map (λ e. event_data lines e.0 e.1) shown)
 
-unfoldable pub explanation_data : ImageParts → List ℕ → Selection → List Op → Data
+unfoldable pub explanation_data : ImageParts → LineParts → Selection → List Op → Data
 explanation_data image lines selection order = object
     (member (codes "entries") (count (length order))
     (member (codes "events")
@@ -101,6 +102,6 @@ explanation_data image lines selection order = object
     (member (codes "image") (image_data image) no_members))))
 
 -- its text, which a newline ends
-abbrev pub explanation_json : ImageParts → List ℕ → Selection → List Op → List ℕ
+abbrev pub explanation_json : ImageParts → LineParts → Selection → List Op → List ℕ
 explanation_json image lines selection order =
     line (compact_text (explanation_data image lines selection order))

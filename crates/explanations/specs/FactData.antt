@@ -22,7 +22,7 @@ use Rattle.facts.specs.declared.step_facts.Cleared.{Cleared}
 use Rattle.facts.specs.declared.step_facts.StepFacts.{StepFacts}
 use Rattle.explanations.specs.Names.{spot_name, swept_name, origin_name}
 use Rattle.explanations.specs.Reasons.{h64, why_text, trap_why_text}
-use Rattle.explanations.specs.FactLines.{line_of}
+use Rattle.explanations.specs.InstructionLines.{LineParts, line_of, source_of}
 
 -- the members with one more, if there is one
 abbrev pub put_any : {X : Type 0} → List ℕ → (X → Data) → Option X → Members → Members
@@ -71,16 +71,22 @@ cleared_data cleared =
 abbrev pub instruction_data : Fetched → Data
 instruction_data fetched = string (form_text (form_of fetched.instr))
 
-abbrev pub line_data : List ℕ → Fetched → Data
+abbrev pub line_data : LineParts → Fetched → Data
 line_data lines fetched = count (line_of lines fetched.number)
+
+-- what an instruction comes from, if a map says so
+abbrev pub fetched_source : LineParts → Option Fetched → Option (List ℕ)
+fetched_source lines (Some fetched) = source_of lines fetched.number
+fetched_source lines None = None
 
 abbrev pub why_data : Trapped → Data
 why_data trapped = string (trap_why_text trapped.why)
 
 -- a step: the members of the report's entry, its number, and its facts
-unfoldable pub step_data : List ℕ → ℕ → StepFacts → Data
+unfoldable pub step_data : LineParts → ℕ → StepFacts → Data
 step_data lines number facts = object
     (put_any (codes "why") why_data facts.traps
+    (put_any (codes "source") (λ source. string source) (fetched_source lines facts.fetched)
     (put_names (codes "sets") facts.sets
     (put_names (codes "reads") facts.reads
     (put (codes "number") (count number)
@@ -90,7 +96,7 @@ step_data lines number facts = object
     (put_any (codes "finds") place_data facts.finds
     (put_any (codes "clears") cleared_data facts.clears
     (put_any (codes "at") extent_data facts.at
-    (event_members (event.Step facts.entry))))))))))))
+    (event_members (event.Step facts.entry)))))))))))))
 
 -- ---- sweeps
 

@@ -1,5 +1,5 @@
 -- Facts in words, a line each.
-use Rattle.std.specs.Prelude.{ℕ, List, [], ◌∷◌, ◌++◌, codes, decimal, slice_index, Option, Some, None}
+use Rattle.std.specs.Prelude.{ℕ, List, [], ◌∷◌, ◌++◌, codes, decimal, Option, Some, None}
 use Rattle.cheri_model.specs.declared.operation.Event.TheVariants as event
 use Rattle.cheri_model.specs.instructions.Form.{form_of}
 use Rattle.notation.specs.Instructions.{form_text}
@@ -16,6 +16,7 @@ use Rattle.facts.specs.declared.step_facts.Fetched.{Fetched}
 use Rattle.facts.specs.declared.step_facts.Trapped.{Trapped}
 use Rattle.facts.specs.declared.step_facts.Cleared.{Cleared}
 use Rattle.facts.specs.declared.step_facts.StepFacts.{StepFacts}
+use Rattle.explanations.specs.InstructionLines.{LineParts, line_of, source_of}
 use Rattle.explanations.specs.Names.{spot_name, swept_name, origin_name}
 use Rattle.explanations.specs.Reasons.{h64, why_text, trap_why_text}
 
@@ -74,22 +75,23 @@ swept_line place = fact (codes "clears " +++ swept_name place +++ codes ": swept
 
 -- ---- events
 
--- the listing's line of an instruction, by the instruction's number
-abbrev pub line_of : List ℕ → ℕ → ℕ
-line_of lines number = slice_index lines number
+-- what stands before an instruction: what it comes from, if a map says so, else its line
+abbrev pub start_text : Option (List ℕ) → ℕ → List ℕ
+start_text (Some source) line = codes " | " +++ source +++ codes ": "
+start_text None line = codes " | line " +++ decimal line +++ codes ": "
 
--- an instruction, after the number of its line
-abbrev pub fetched_text : List ℕ → Fetched → List ℕ
+-- an instruction, after that
+abbrev pub fetched_text : LineParts → Fetched → List ℕ
 fetched_text lines fetched =
-    codes " | line " +++ decimal (line_of lines fetched.number) +++ codes ": "
+    start_text (source_of lines fetched.number) (line_of lines fetched.number)
     +++ form_text (form_of fetched.instr)
 
 -- the report's line of a step, and where its fetch passed the instruction
-unfoldable pub step_head : List ℕ → ℕ → StepFacts → List ℕ
+unfoldable pub step_head : LineParts → ℕ → StepFacts → List ℕ
 step_head lines number facts =
     line (event_text number (event.Step facts.entry) +++ if_any (fetched_text lines) facts.fetched)
 
-unfoldable pub step_lines : List ℕ → ℕ → StepFacts → List ℕ
+unfoldable pub step_lines : LineParts → ℕ → StepFacts → List ℕ
 step_lines lines number facts =
     step_head lines number facts
     +++ up_to_two reads_line facts.reads

@@ -8,6 +8,7 @@ use Rattle.report_lines.specs.EventData.{image_data}
 use Rattle.facts.specs.declared.step_facts.NamedValue.{NamedValue}
 use Rattle.facts.specs.declared.step_facts.UpToTwo.{UpToTwo}
 use Rattle.facts.specs.declared.step_facts.UpToTwo.TheVariants.{Zero, One, Two}
+use Rattle.explanations.specs.InstructionLines.{LineParts}
 use Rattle.explanations.specs.FactData.{put_named}
 use Rattle.explanations.specs.declared.selection.Selection.{Selection}
 use Rattle.explanations.specs.Explanation.{Explained, is_shown, shown_from, event_data}
@@ -29,14 +30,14 @@ abbrev pub json_head : ℕ → List ℕ
 json_head count = codes "{\"entries\":" ++ (decimal count ++ codes ",\"events\":[")
 
 -- an event, after a comma where one is before it; nothing where it isn't shown
-unfoldable pub shown_item : List ℕ → Selection → Bool → ℕ → Explained → List ℕ
+unfoldable pub shown_item : LineParts → Selection → Bool → ℕ → Explained → List ℕ
 shown_item lines selection later number explained =
     if is_shown selection number explained.1
     then comma_if later ++ compact_text (event_data lines number explained)
     else []
 
 -- the events from one on, of which the first has this number, and the bracket after them
-abbrev pub events_from : List ℕ → Selection → Bool → ℕ → List Explained → List ℕ
+abbrev pub events_from : LineParts → Selection → Bool → ℕ → List Explained → List ℕ
 events_from lines selection later number events =
     items_text later (events_data lines (shown_from selection number events))
 

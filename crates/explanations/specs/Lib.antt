@@ -1,3 +1,4 @@
+pub mod InstructionLines
 pub mod Names
 pub mod Pieces
 pub mod Reasons

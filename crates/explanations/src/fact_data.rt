@@ -2,7 +2,7 @@
 #![tactic(auto, unfolding(crate::proofs::Unfold::in_json))]
 
 ghost use Rattle.std.specs.Prelude.{◌≡◌, ◌++◌, [], ◌∷◌, codes, map, drop, IfOk, OnOk, string_bytes};
-ghost use Rattle.serde_json.specs.Data.{object, no_members, put as with_member};
+ghost use Rattle.serde_json.specs.Data.{object, no_members, string, put as with_member};
 ghost use Rattle.serde_json.specs.View.{members_view, view as data_of};
 ghost use Rattle.explanations.specs.FactData.{
   put_any,
@@ -14,6 +14,7 @@ ghost use Rattle.explanations.specs.FactData.{
   cleared_data,
   instruction_data,
   line_data,
+  fetched_source,
   why_data,
   step_data,
   put_swept,
@@ -22,7 +23,7 @@ ghost use Rattle.explanations.specs.FactData.{
   spot_key,
 };
 
-use crate::fact_lines::line_of;
+use crate::lines::InstructionLines;
 use crate::names::{SpotName, SweptName, write_origin};
 use crate::reasons::{write_trap_why, write_why};
 use cheri_model::{Event, NoMemory};
@@ -215,15 +216,34 @@ fn put_instruction(
 fn put_line(
     alloc: Global,
     members: &mut Map<String, Value>,
-    lines: &[u32],
+    lines: &InstructionLines<'_>,
     fetched: Option<Fetched>,
 ) -> Result<(), NoMemory>
     ensures { OnOk result (members_view members.new.entries
         ≡ put_any (codes "line") (line_data lines.now) fetched (members_view members.old.entries)) }
 {
     if let Some(Fetched { number, .. }) = fetched {
-        let line = line_of(lines, number);
-        put(members, alloc, "line", Value::from(line))?;
+        put(members, alloc, "line", Value::from(lines.line_of(number)))?;
+    }
+    Ok(())
+}
+
+/// Puts what an instruction comes from, where its fetch passed and a map says so.
+fn put_source(
+    alloc: Global,
+    members: &mut Map<String, Value>,
+    lines: &InstructionLines<'_>,
+    fetched: Option<Fetched>,
+) -> Result<(), NoMemory>
+    ensures { OnOk result (members_view members.new.entries
+        ≡ put_any (codes "source") (λ source. string source)
+        (fetched_source lines.now fetched) (members_view members.old.entries)) }
+{
+    if let Some(Fetched { number, .. }) = fetched {
+        if let Some(source) = lines.source_of(number) {
+            let text = source.to_string(alloc)?;
+            put(members, alloc, "source", Value::String(text))?;
+        }
     }
     Ok(())
 }
@@ -231,7 +251,7 @@ fn put_line(
 /// A step: the members of the report's entry, its number, and its facts.
 pub(crate) fn step_json(
     alloc: Global,
-    lines: &[u32],
+    lines: &InstructionLines<'_>,
     number: usize,
     facts: &StepFacts,
 ) -> Result<Value, NoMemory>
@@ -247,6 +267,7 @@ pub(crate) fn step_json(
     put(&mut members, alloc, "number", Value::from(number))?;
     put_names(alloc, &mut members, "reads", facts.reads)?;
     put_names(alloc, &mut members, "sets", facts.sets)?;
+    put_source(alloc, &mut members, lines, facts.fetched)?;
     put_why(alloc, &mut members, facts.traps)?;
     Ok(Value::Object(members))
 }

@@ -1,6 +1,7 @@
 //! Facts in words, a line each.
 
 ghost use Rattle.std.specs.Prelude.{◌≡◌, ◌++◌, OnOk, Some, codes, string_bytes};
+ghost use Rattle.explanations.specs.InstructionLines.{line_of, source_of};
 ghost use Rattle.explanations.specs.Names.{spot_name};
 ghost use Rattle.explanations.specs.FactLines.{
   if_any,
@@ -15,13 +16,14 @@ ghost use Rattle.explanations.specs.FactLines.{
   sets_line,
   clears_line,
   swept_line,
-  line_of,
+  start_text,
   fetched_text,
   step_head,
   step_lines,
 };
 
 use crate::forms::write_form;
+use crate::lines::InstructionLines;
 use crate::names::{SpotName, SweptName, write_origin, write_spot};
 use crate::pieces::{write_from_register, write_line_start, write_register_start};
 use crate::reasons::{write_trap_why, write_why};
@@ -213,25 +215,35 @@ pub(crate) fn write_swept(out: &mut String, place: Place) -> Result<(), NoMemory
     Ok(())
 }
 
-/// The listing's line of an instruction, by the instruction's number: 0 where it has none.
-pub(crate) fn line_of(lines: &[u32], number: usize) -> u32
-    ensures { result ≡ line_of lines.now number }
+/// Appends what stands before an instruction: what it comes from, if a map says so, else its line.
+fn write_start(
+    out: &mut String,
+    lines: &InstructionLines<'_>,
+    number: usize,
+) -> Result<(), NoMemory>
+    ensures { OnOk result (string_bytes out.new ≡ string_bytes out.old
+        ++ start_text (source_of lines.now number) (line_of lines.now number)) }
 {
-    if number < lines.len() {
-        lines[number]
-    } else {
-        0
+    match lines.source_of(number) {
+        Some(source) => {
+            write!(out, " | {source}: ")?;
+            Ok(())
+        }
+        None => write_line_start(out, lines.line_of(number)),
     }
 }
 
-/// Appends an instruction after the number of its line, where its fetch passed.
-fn write_fetched(out: &mut String, lines: &[u32], fetched: Option<Fetched>) -> Result<(), NoMemory>
+/// Appends an instruction after what stands before it, where its fetch passed.
+fn write_fetched(
+    out: &mut String,
+    lines: &InstructionLines<'_>,
+    fetched: Option<Fetched>,
+) -> Result<(), NoMemory>
     ensures { OnOk result (string_bytes out.new
         ≡ string_bytes out.old ++ if_any (fetched_text lines.now) fetched) }
 {
     if let Some(Fetched { number, instr }) = fetched {
-        let line = line_of(lines, number);
-        write_line_start(out, line)?;
+        write_start(out, lines, number)?;
         write_form(out, instr.form())?;
     }
     Ok(())
@@ -240,7 +252,7 @@ fn write_fetched(out: &mut String, lines: &[u32], fetched: Option<Fetched>) -> R
 /// Appends the report's line of a step, and the instruction where its fetch passed.
 fn write_head(
     out: &mut String,
-    lines: &[u32],
+    lines: &InstructionLines<'_>,
     number: usize,
     facts: &StepFacts,
 ) -> Result<(), NoMemory>
@@ -256,7 +268,7 @@ fn write_head(
 /// Appends a step and its facts.
 pub(crate) fn write_step(
     out: &mut String,
-    lines: &[u32],
+    lines: &InstructionLines<'_>,
     number: usize,
     facts: &StepFacts,
 ) -> Result<(), NoMemory>

@@ -6,6 +6,7 @@ mod fact_data;
 mod fact_lines;
 mod followed;
 mod forms;
+mod lines;
 mod mnemonics;
 mod named_json;
 mod names;
@@ -20,6 +21,7 @@ mod whole_json;
 
 pub use fact_data::named_value_json;
 pub use followed::{follow, take};
-pub use runs::{Format, explain};
+pub use lines::InstructionLines;
+pub use runs::{Explanation, Format, explain, explain_mapped};
 pub use selection::{Filter, Selection};
 pub use whole_json::{put_events, write_json};

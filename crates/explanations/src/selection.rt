@@ -8,6 +8,7 @@ ghost use Rattle.explanations.specs.Filters.{passes};
 ghost use Rattle.explanations.specs.NextFacts.{explained_of};
 
 use crate::followed::EventAndFacts;
+use crate::lines::InstructionLines;
 use cheri_model::Event;
 
 /// Which facts an event must have to be shown.
@@ -66,6 +67,6 @@ impl Selection {
 /// Which events are shown, and the line of each instruction.
 #[derive(Clone, Copy)]
 pub(crate) struct Shown<'a> {
-    pub lines: &'a [u32],
+    pub lines: &'a InstructionLines<'a>,
     pub selection: Selection,
 }

@@ -1,7 +1,7 @@
 //! A step that was done as JSON text, piece by piece.
 #![tactic(auto, using(crate::proofs::FactLemmas::floatless))]
 
-ghost use Rattle.std.specs.Prelude.{◌≡◌, ◌++◌, OnOk, None, Some, codes, decimal, string_bytes};
+ghost use Rattle.std.specs.Prelude.{◌≡◌, ◌++◌, OnOk, None, Some, codes, decimal, false, is_some, string_bytes};
 ghost use Rattle.std.specs.Option.{option_map};
 ghost use Rattle.serde_json.specs.Written.{compact_text};
 ghost use Rattle.cheri_model.specs.declared.trace.Outcome.TheVariants as outcome;
@@ -17,8 +17,8 @@ ghost use Rattle.explanations.specs.FactData.{
 ghost use Rattle.explanations.specs.JsonText.{if_there, names_data};
 
 use crate::fact_data::step_json;
-use crate::fact_lines::line_of;
 use crate::forms::write_form;
+use crate::lines::InstructionLines;
 use crate::named_json::{write_place, write_places};
 use crate::names::write_spot;
 use crate::reasons::write_why;
@@ -120,7 +120,11 @@ fn write_instruction(out: &mut String, fetched: &Option<Fetched>) -> Result<(), 
 }
 
 /// Appends the number of an instruction's line, where its fetch passed.
-fn write_line(out: &mut String, lines: &[u32], fetched: &Option<Fetched>) -> Result<(), NoMemory>
+fn write_line(
+    out: &mut String,
+    lines: &InstructionLines<'_>,
+    fetched: &Option<Fetched>,
+) -> Result<(), NoMemory>
     ensures { OnOk result (string_bytes out.new ≡ string_bytes out.old
         ++ if_there (codes ",\"line\":") (codes "")
         (option_map (line_data lines.now) fetched.now)) }
@@ -128,7 +132,7 @@ fn write_line(out: &mut String, lines: &[u32], fetched: &Option<Fetched>) -> Res
     match fetched {
         Some(fetched) => {
             out.push_str(",\"line\":")?;
-            out.push_str(Buffer::new().format(line_of(lines, fetched.number)))
+            out.push_str(Buffer::new().format(lines.line_of(fetched.number)))
         }
         None => Ok(()),
     }
@@ -170,7 +174,11 @@ fn write_before_hart(out: &mut String, facts: &StepFacts) -> Result<(), NoMemory
 }
 
 /// Appends the members from the hart's to that of the instruction's line.
-fn write_from_hart(out: &mut String, lines: &[u32], facts: &StepFacts) -> Result<(), NoMemory>
+fn write_from_hart(
+    out: &mut String,
+    lines: &InstructionLines<'_>,
+    facts: &StepFacts,
+) -> Result<(), NoMemory>
     ensures { OnOk result (string_bytes out.new ≡ string_bytes out.old
         ++ (codes "\"hart\":" ++ (decimal facts.now.entry.hart
         ++ (if_there (codes ",\"instruction\":") (codes "")
@@ -219,16 +227,17 @@ fn write_from_number(
     write_names(alloc, out, ",\"sets\":", &facts.sets)
 }
 
-/// Appends a step that was done, as most are.
+/// Appends a step that was done, as most are, where no map is there.
 fn write_done(
     alloc: Global,
     out: &mut String,
-    lines: &[u32],
+    lines: &InstructionLines<'_>,
     number: usize,
     facts: &StepFacts,
 ) -> Result<(), NoMemory>
     requires done { facts.now.entry.outcome ≡ outcome.Done }
     requires untrapped { facts.now.traps ≡ None }
+    requires unmapped { is_some lines.now.sources ≡ false }
     ensures { OnOk result (string_bytes out.new
         ≡ string_bytes out.old ++ compact_text (step_data lines.now number facts.now)) }
 {
@@ -244,7 +253,7 @@ fn write_done(
 fn write_any(
     alloc: Global,
     out: &mut String,
-    lines: &[u32],
+    lines: &InstructionLines<'_>,
     number: usize,
     facts: &StepFacts,
 ) -> Result<(), NoMemory>
@@ -258,13 +267,16 @@ fn write_any(
 pub(crate) fn write_step_json(
     alloc: Global,
     out: &mut String,
-    lines: &[u32],
+    lines: &InstructionLines<'_>,
     number: usize,
     facts: &StepFacts,
 ) -> Result<(), NoMemory>
     ensures { OnOk result (string_bytes out.new
         ≡ string_bytes out.old ++ compact_text (step_data lines.now number facts.now)) }
 {
+    if lines.has_sources() {
+        return write_any(alloc, out, lines, number, facts);
+    }
     match facts.entry.outcome {
         Outcome::Done => match &facts.traps {
             None => write_done(alloc, out, lines, number, facts),

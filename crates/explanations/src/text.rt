@@ -19,6 +19,7 @@ ghost use Rattle.explanations.specs.NextFacts.{explained_of};
 
 use crate::fact_lines::{write_step, write_swept};
 use crate::followed::{EventAndFacts, Retaken, follow, take};
+use crate::lines::InstructionLines;
 use crate::selection::{Selection, Shown};
 use cheri_model::{Event, Image, NoMemory};
 use cores::Core;
@@ -114,7 +115,7 @@ fn put_events<S: Sink>(
     out: &mut String,
     sink: &mut S,
     core: &Core,
-    lines: &[u32],
+    lines: &InstructionLines<'_>,
     selection: Selection,
 ) -> Result<(), WriteFault>
     ensures whole { OnOk result (TakesAllBut (S.written sink.old) (S.written sink.new)
@@ -154,7 +155,7 @@ fn write_head(out: &mut String, image: &Image, count: usize) -> Result<(), NoMem
 pub(crate) fn write_text<S: Sink>(
     alloc: Global,
     core: &Core,
-    lines: &[u32],
+    lines: &InstructionLines<'_>,
     selection: Selection,
     sink: &mut S,
 ) -> Result<(), WriteFault>

@@ -30,6 +30,7 @@ ghost use Rattle.explanations.specs.NextFacts.{explained_of};
 
 use crate::fact_data::sweep_json;
 use crate::followed::{EventAndFacts, Retaken, follow, take};
+use crate::lines::InstructionLines;
 use crate::selection::{Selection, Shown};
 use crate::step_json::write_step_json;
 use cheri_model::{Event, Image, NoMemory};
@@ -43,7 +44,7 @@ use std::alloc::Global;
 fn write_taken(
     alloc: Global,
     out: &mut String,
-    lines: &[u32],
+    lines: &InstructionLines<'_>,
     number: usize,
     taken: &EventAndFacts<'_>,
 ) -> Result<(), NoMemory>
@@ -127,7 +128,7 @@ pub fn put_events<S: Sink>(
     out: &mut String,
     sink: &mut S,
     core: &Core,
-    lines: &[u32],
+    lines: &InstructionLines<'_>,
     selection: Selection,
 ) -> Result<(), WriteFault>
     ensures whole { OnOk result (TakesAllBut (S.written sink.old) (S.written sink.new)
@@ -177,7 +178,7 @@ fn write_end(alloc: Global, out: &mut String, image: &Image) -> Result<(), NoMem
 pub fn write_json<S: Sink>(
     alloc: Global,
     core: &Core,
-    lines: &[u32],
+    lines: &InstructionLines<'_>,
     selection: Selection,
     sink: &mut S,
 ) -> Result<(), WriteFault>

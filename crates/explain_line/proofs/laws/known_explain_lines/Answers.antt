@@ -100,3 +100,11 @@ returns-clause-help c = refl
 pub returns-clause-alone : goal.returns-clause-alone
 unfolding clap_on_literals explain_asked explain_asked_of filter_named decimal_within number_in
 returns-clause-alone c = refl
+
+pub returns-clause-mapped : goal.returns-clause-mapped
+unfolding clap_on_literals explain_asked explain_asked_of filter_named decimal_within number_in
+returns-clause-mapped c = refl
+
+pub returns-clause-page_of_a_map : goal.returns-clause-page_of_a_map
+unfolding clap_on_literals explain_asked explain_asked_of filter_named decimal_within number_in
+returns-clause-page_of_a_map c = refl

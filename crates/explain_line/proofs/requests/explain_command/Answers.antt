@@ -17,6 +17,8 @@ returns c =
     ∙ ap₂ with_rule to_added c.single_option-3.ensures.rule in
     let json_added = c.in_ok-with_json.ensures.shape c.flag.ensures.local
     ∙ ap₂ with_rule only_added c.flag.ensures.rule in
-    IfOk-weaker c.arg-7.result _ _
-    (λ command added. added.shape c.flag-2.ensures.local ∙ ap₂ with_rule json_added c.flag-2.ensures.rule)
-    c.arg-7.ensures
+    let html_added = c.in_ok-with_html.ensures.shape c.flag-2.ensures.local
+    ∙ ap₂ with_rule json_added c.flag-2.ensures.rule in
+    IfOk-weaker c.arg-8.result _ _
+    (λ command added. added.shape c.single_option-4.ensures.local ∙ ap₂ with_rule html_added c.single_option-4.ensures.rule)
+    c.arg-8.ensures

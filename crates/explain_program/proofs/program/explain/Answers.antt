@@ -10,11 +10,13 @@ returns-clause-printed g c =
     all_whole (λ stop. stop) own_failure true _ _
     (of_files (g.F.Files.bytes_of c.args.files.now) (explain_asked_by c.args.request) c.as_slice-listing.result.now
     c.as_slice-order.result.now (rw c.as_slice-listing.ensures.value c.in_ok-texts.ensures.listing)
-    (rw c.as_slice-order.ensures.value c.in_ok-texts.ensures.order)) _ _ c.write_asked.result c.write_asked.ensures.printed
+    (rw c.as_slice-order.ensures.value c.in_ok-texts.ensures.order)) _ _ c.explain_texts.result
+    (rw c.in_ok-texts.ensures.kept at c.explain_texts.ensures.printed)
 
 pub returns-clause-failed : goal.returns-clause-failed
 returns-clause-failed g c =
     all_fail (λ stop. stop) own_failure true _ _
     (of_files (g.F.Files.bytes_of c.args.files.now) (explain_asked_by c.args.request) c.as_slice-listing.result.now
     c.as_slice-order.result.now (rw c.as_slice-listing.ensures.value c.in_ok-texts.ensures.listing)
-    (rw c.as_slice-order.ensures.value c.in_ok-texts.ensures.order)) _ _ c.write_asked.result c.write_asked.ensures.failed
+    (rw c.as_slice-order.ensures.value c.in_ok-texts.ensures.order)) _ _ c.explain_texts.result
+    (rw c.in_ok-texts.ensures.kept at c.explain_texts.ensures.failed)

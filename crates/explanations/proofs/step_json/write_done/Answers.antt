@@ -11,4 +11,4 @@ returns c =
       c.in_ok-push_str.ensures.bytes,
     ) at c.in_ok-push_str-2.ensures.bytes in
     let grouped = simp append_assoc at e in
-    rw (done_text c.args.lines.now c.args.number c.args.facts.now c.requires.done c.requires.untrapped) grouped
+    rw (done_text c.args.lines.now c.args.number c.args.facts.now c.requires.done c.requires.untrapped c.requires.unmapped) grouped

@@ -6,11 +6,12 @@ use Rattle.cheri_model.proofs.Runs.Replays.{length-operations_of}
 use Rattle.report_lines.specs.Texts.{line}
 use Rattle.sinks.proofs.SinkLemmas.{takes_none}
 use Rattle.explanations.specs.declared.selection.Selection.{Selection}
+use Rattle.explanations.specs.InstructionLines.{LineParts}
 use Rattle.explanations.specs.Explanation.{explanation, head_lines, events_lines}
 use Rattle.explanations.proofs.Parts.{parts_begin, parts_stop, parts_end}
 use Rattle.explanations.proofs.text.write_text.Goals as goal
 
-parts : (image : ImageParts) (lines : List ℕ) (selection : Selection) (trace : List Event)
+parts : (image : ImageParts) (lines : LineParts) (selection : Selection) (trace : List Event)
     → explanation image lines selection (operations_of trace)
     ≡ head_lines image (length trace) ++ (events_lines image lines selection (operations_of trace) ++ line (codes "end"))
 unfolding explanation

@@ -5,13 +5,14 @@ use Rattle.cheri_model.specs.runs.Replay.{operations_of}
 use Rattle.cheri_model.proofs.Runs.Replays.{length-operations_of}
 use Rattle.sinks.proofs.SinkLemmas.{takes_none}
 use Rattle.explanations.specs.declared.selection.Selection.{Selection}
+use Rattle.explanations.specs.InstructionLines.{LineParts}
 use Rattle.explanations.specs.Explanation.{explained_events, explanation_json}
 use Rattle.explanations.specs.JsonText.{json_head, events_from, json_end}
 use Rattle.explanations.proofs.JsonParts.{json_parts}
 use Rattle.explanations.proofs.Parts.{parts_begin, parts_stop, parts_end}
 use Rattle.explanations.proofs.whole_json.write_json.Goals as goal
 
-parts : (image : ImageParts) (lines : List ℕ) (selection : Selection) (trace : List Event)
+parts : (image : ImageParts) (lines : LineParts) (selection : Selection) (trace : List Event)
     → explanation_json image lines selection (operations_of trace)
     ≡ json_head (length trace) ++ (events_from lines selection false 0 (explained_events image (operations_of trace)) ++ json_end image)
 parts image lines selection trace =
