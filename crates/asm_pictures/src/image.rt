@@ -47,11 +47,7 @@ fn total(instructions: u64, exit: bool) -> u64
 
 /// Judges the sizes of a program: so many instructions, guard and exit aside, and memory that is
 /// taken up to an address. Fails with `Size`.
-pub fn judge_sizes(
-    instructions: u64,
-    exit: bool,
-    memory_end: u64,
-) -> Result<(), AssemblyFault>
+pub fn judge_sizes(instructions: u64, exit: bool, memory_end: u64) -> Result<(), AssemblyFault>
     ensures { result ≡ sizes_judged instructions exit memory_end }
 {
     let most = MAX_INSTRUCTIONS as u64;

@@ -1,4 +1,3 @@
-use Rattle.std.proofs.Common.{map}
 use Rattle.std.proofs.lemmas.Result.{err_from_is_err_and}
 use Rattle.asm_files.specs.Requests.{hart_request_parts}
 use Rattle.asm_starts.specs.Values.{scene_parts}
