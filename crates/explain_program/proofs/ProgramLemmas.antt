@@ -70,7 +70,7 @@ pub of_map : (asked : ExplainAsked) (bytes listing order : List ℕ) (sources : 
     → (answer : Answer) → IsExplained asked.form (Some sources) asked.first asked.last listing order answer → IsMapped bytes asked listing order answer
 of_map asked bytes listing order sources is answer so =
     subst (λ (r : Result (List (List ℕ)) Fault). OfSources {A = Answer} (λ f. Err f) r
-        (λ s. IsExplained asked.form (Some s) asked.first asked.last listing order answer) answer) (sym is) so
+    (λ s. IsExplained asked.form (Some s) asked.first asked.last listing order answer) answer) (sym is) so
 
 module _ (file : Option (List ℕ)) (asked : ExplainAsked) (listing order : List ℕ) where
   -- a map that was read answers for its file
