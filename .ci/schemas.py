@@ -92,7 +92,8 @@ def explanation_text(explanation):
     lines = [f"cheri-sim explanation {explanation['explanation']}", image_text(explanation["image"])]
     lines.append(f"entries {explanation['entries']}")
     for event in explanation["events"]:
-        place = f" | line {event['line']}: {event['instruction']}" if "line" in event else ""
+        where = event.get("source") or f"line {event.get('line')}"
+        place = f" | {where}: {event['instruction']}" if "line" in event else ""
         lines.append(event_text(event["number"], event) + place)
         lines += ["  " + line for line in fact_lines(event)]
     return "\n".join(lines) + "\nend\n"
