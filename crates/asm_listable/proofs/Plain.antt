@@ -21,7 +21,7 @@ use Rattle.asm_capabilities.specs.Capabilities.{reach_length, reach_permissions,
 use Rattle.asm_listable.specs.Plain.{IsPlain, IsPlainCode, IsPlainData}
 
 -- what was made has these permissions and this type
-made_is : (base len addr perms otype : ℕ) (v : CapValue) → made base len addr perms otype ≡ Ok v
+pub made_is : (base len addr perms otype : ℕ) (v : CapValue) → made base len addr perms otype ≡ Ok v
     → valid (capability_with base len addr (known_permissions perms) otype) ≡ v
 unfolding made
 made_is base len addr perms otype v e =

@@ -1,0 +1,2 @@
+-- What assembly promises of the images that it means.
+pub mod Given

@@ -1,0 +1,38 @@
+//! Laws over what files of assembly mean: the functions do nothing, and their contracts are the
+//! laws.
+
+ghost use Rattle.std.specs.Prelude.{◌≡◌, ℕ, List, Ok};
+ghost use Rattle.std.specs.List.{All};
+ghost use Rattle.asm_pictures.specs.Asked.{HartsParts};
+ghost use Rattle.asm_image.specs.Whole.{AssembledParts, assembly_meaning};
+ghost use Rattle.asm_promises.specs.Given.{
+  IsGivenHart,
+  IsHeld,
+  IsPlainHart,
+  IsPlainValue,
+  NoneIsWritten,
+  objects_in,
+};
+
+/// Nothing is given but what is written: a granule of an image holds an integer, a sentry with
+/// PCC's bounds, or a symbol's capability, whose bounds are that symbol's bytes; a hart begins with
+/// a PCC, and its registers hold one of these, the capability table, a hart's stack, or what a word
+/// of a request writes out by `cap:`.
+pub fn nothing_is_given_but_what_is_written()
+    ensures granules { (texts : List (List ℕ)) (harts : HartsParts) (a : AssembledParts)
+        → assembly_meaning texts harts ≡ Ok a
+        → All (λ g. IsHeld (objects_in a) g.1) a.image.granules }
+    ensures harts { (texts : List (List ℕ)) (harts : HartsParts) (a : AssembledParts)
+        → assembly_meaning texts harts ≡ Ok a → All (IsGivenHart harts a) a.image.harts }
+{}
+
+/// Where no request writes out a capability, none of an image has a right to seal or a type that
+/// sealing gives; none but code can be run, and nothing can be written through code.
+pub fn nothing_seals_unless_it_is_written()
+    ensures granules { (texts : List (List ℕ)) (harts : HartsParts) (a : AssembledParts)
+        → assembly_meaning texts harts ≡ Ok a
+        → All (λ g. IsPlainValue (objects_in a) g.1) a.image.granules }
+    ensures harts { (texts : List (List ℕ)) (harts : HartsParts) (a : AssembledParts)
+        → assembly_meaning texts harts ≡ Ok a → NoneIsWritten harts a
+        → All (IsPlainHart (objects_in a)) a.image.harts }
+{}
