@@ -107,7 +107,7 @@ at_writable o location (Ok addr) v a e =
     code_or_data (rank (kind_of o.places location.chunk) == rank kinds.Code) o addr location.symbol v (located_low o.places location addr a) e
 at_writable o location (Err fault) v a e = absurd (cc)
 
-place_writable : (o : ObjectsParts) (location : Location) (v : CapValue) → capability_of o (At location) ≡ Ok v → IsWritable v
+pub place_writable : (o : ObjectsParts) (location : Location) (v : CapValue) → capability_of o (At location) ≡ Ok v → IsWritable v
 unfolding capability_of
 place_writable o location v e = at_writable o location (address_of o.places (At location)) v refl e
 

@@ -4,3 +4,15 @@ pub mod Held
 pub mod Registers
 pub mod Given
 pub mod Plain
+pub mod Tokens
+pub mod Nodes
+pub mod Parts
+pub mod Statements
+pub mod Operations
+pub mod Sound
+pub mod Values
+pub mod Drafts
+pub mod Late
+pub mod Readable
+pub mod Instructions
+pub mod Runs

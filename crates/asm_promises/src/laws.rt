@@ -1,8 +1,11 @@
 //! Laws over what files of assembly mean: the functions do nothing, and their contracts are the
 //! laws.
 
-ghost use Rattle.std.specs.Prelude.{◌≡◌, ℕ, List, Ok};
+ghost use Rattle.std.specs.Prelude.{◌≡◌, ◌≤◌, ℕ, List, length, Ok};
 ghost use Rattle.std.specs.List.{All};
+ghost use Rattle.listings.specs.Meaning.{listing_limit, listing_meaning};
+ghost use Rattle.canonical.specs.Canon.{canon};
+ghost use Rattle.canonical.specs.Listable.{IsListable};
 ghost use Rattle.asm_pictures.specs.Asked.{HartsParts};
 ghost use Rattle.asm_image.specs.Whole.{AssembledParts, assembly_meaning};
 ghost use Rattle.asm_promises.specs.Given.{
@@ -13,6 +16,18 @@ ghost use Rattle.asm_promises.specs.Given.{
   NoneIsWritten,
   objects_in,
 };
+
+/// Every image runs: it is one that listings can write, its canonical listing is no longer than a
+/// listing may be, and that listing means this image again. So a run of what was printed is the run
+/// of the image that the files mean.
+pub fn every_image_runs()
+    ensures listable { (texts : List (List ℕ)) (harts : HartsParts) (a : AssembledParts)
+        → assembly_meaning texts harts ≡ Ok a → IsListable a.image }
+    ensures short { (texts : List (List ℕ)) (harts : HartsParts) (a : AssembledParts)
+        → assembly_meaning texts harts ≡ Ok a → length (canon a.image) ≤ listing_limit }
+    ensures means { (texts : List (List ℕ)) (harts : HartsParts) (a : AssembledParts)
+        → assembly_meaning texts harts ≡ Ok a → listing_meaning (canon a.image) ≡ Ok a.image }
+{}
 
 /// Nothing is given but what is written: a granule of an image holds an integer, a sentry with
 /// PCC's bounds, or a symbol's capability, whose bounds are that symbol's bytes; a hart begins with
