@@ -114,6 +114,12 @@ module _ (state : MachineState) (each : ℕ) (formula : Formula) where
       let of = is_counted formula p comparison number is in
       so ∙ ap (λ n. compares comparison n number) (holds of.0 of.2) ∙ ap (is_so state each) (sym of.1)
 
+-- how many harts of one thing alone
+pub many_said : (state : MachineState) (formula : Formula) (a : Bor Atom) (n many : ℕ) → IsParted formula (Some (parts.Says a))
+    → many ≡ how_many (λ hart. atom_holds state hart a.now) n → many ≡ how_many (λ hart. is_so state hart formula) n
+unfolding is_so
+many_said state formula a n many is holds = holds ∙ ap (λ (f : Formula). how_many (λ hart. is_so state hart f) n) (sym (is_said formula a is))
+
 -- how many harts: none, and one more
 pub many_none : (p : ℕ → Bool) → 0 ≡ how_many p 0
 unfolding how_many

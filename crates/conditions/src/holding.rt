@@ -129,13 +129,29 @@ fn one_more(count: usize, holds: bool) -> usize
     if holds { count + 1 } else { count }
 }
 
-/// Of how many harts the condition of some entries holds, each being `h` in turn.
+/// Of how many harts one thing is so, each being `h` in turn.
+fn how_many_say<V: StateView>(view: &V, atom: &Atom) -> usize
+    ensures { result ≡ how_many (λ hart. atom_holds (V.state view.now) hart atom.now)
+        (length (V.state view.now).harts) }
+{
+    let mut count = 0;
+    for hart in 0..view.hart_count() {
+        count = one_more(count, atom.holds(view, hart));
+    }
+    count
+}
+
+/// Of how many harts the condition of some entries holds, each being `h` in turn. One thing alone,
+/// which most ask for, is looked at without its entries.
 #[cycle(holding)]
 fn how_many<V: StateView>(view: &V, entries: &[Entry]) -> usize
     ensures { (formula : Formula) → entries.now ≡ entries_of formula → result
         ≡ how_many (λ hart. is_so (V.state view.now) hart formula)
         (length (V.state view.now).harts) }
 {
+    if let Some(Parts::Says(atom)) = parts_of(entries) {
+        return how_many_say(view, atom);
+    }
     let mut count = 0;
     for hart in 0..view.hart_count() {
         count = one_more(count, is_so(view, hart, entries));

@@ -139,6 +139,8 @@ impl Place {
         ensures { result ≡ number_at self (V.state view.now) }
     {
         match self {
+            // The address needs no bounds to be decoded.
+            Place::Value(holder, Field::Addr) => u128::from(holder.value(view).addr()),
             Place::Value(holder, field) => field.value(holder.value(view)),
             Place::Data(addr, width) => u128::from(data(view, addr, width)),
         }
@@ -177,6 +179,7 @@ impl Source {
         match self {
             Source::Value(held, field) => Place::Value(held, field).number(view),
             Source::Data(addr, width) => Place::Data(addr, width).number(view),
+            Source::Each(own, Field::Addr) => u128::from(own.value(view, each).addr()),
             Source::Each(own, field) => field.value(own.value(view, each)),
         }
     }

@@ -1,7 +1,11 @@
 use Rattle.std.proofs.Common.{sym, ◌∙◌, arith}
 use Rattle.conditions.proofs.PartLemmas.{is_none}
-use Rattle.conditions.proofs.HoldingLemmas.{many_none, many_step, many_bound, many_all, so_said, so_denied, so_enclosed, so_decided, so_joined, so_counted}
+use Rattle.conditions.proofs.HoldingLemmas.{many_none, many_step, many_bound, many_all, many_said, so_said, so_denied, so_enclosed, so_decided, so_joined, so_counted}
 use Rattle.conditions.proofs.holding.+holding.Goals as goal
+
+pub how_many-returns-in-Some-Says : goal.how_many-returns-in-Some-Says
+how_many-returns-in-Some-Says g t c = λ formula is.
+    many_said _ formula c.in-Some-Says.atom _ _ (rw c.in-Some-Says.field-0-is at c.in-Some-Says.ensures.parted formula is) c.how_many_say.ensures
 
 pub how_many-loop-hart-init : goal.how_many-loop-hart-init
 how_many-loop-hart-init g t c = (omega arith, λ formula is. many_none _)
