@@ -2,7 +2,7 @@
 #
 #   int scores[4] = {90, 72, 85, 61};
 #   int total(const int *p, int n) { int s = 0; for (int i = 0; i <= n; i++) s += p[i]; return s; }
-#   int main(void) { return total(scores, 4) / 4; }
+#   int main(void) { return total(scores, 4) >> 2; }
 #
 # Elsewhere the fifth load reads what comes after the array, here `bonus`, and nobody is told.
 # Look at
