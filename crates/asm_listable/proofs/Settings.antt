@@ -15,6 +15,8 @@ use Rattle.asm_names.specs.declared.registers.RegisterKind.{RegisterKind}
 use Rattle.asm_names.specs.declared.registers.RegisterKind.TheVariants as kinds
 use Rattle.asm_names.specs.declared.registers.RegisterName.{RegisterName}
 use Rattle.asm_names.specs.Registers.{register_named}
+use Rattle.cheri_model.specs.declared.memory.TheConstants.{MAX_RAM_BYTES}
+use Rattle.asm_capabilities.specs.Capabilities.{is_stack_size}
 use Rattle.asm_requests.specs.Steps.{◌>>=◌}
 use Rattle.asm_requests.specs.Numbers.{in_range, number_up_to, integer_of, stack_of, begins, negated}
 use Rattle.asm_requests.specs.Values.{HeldParts, symbol, table, written, if_read, typed, operand_of, operands_of, literal_of, symbol_from, symbol_of, begins_cap, held_of}
@@ -28,7 +30,7 @@ IsReadHeld (written parts) = (operand : TypeOperand) × ArePartsOf operand parts
 
 abbrev pub IsReadSetting : SettingParts → Type 0
 IsReadSetting (entry name) = Unit {0}
-IsReadSetting (stack size) = Unit {0}
+IsReadSetting (stack size) = size ≤ MAX_RAM_BYTES
 IsReadSetting (exit given) = Unit {0}
 IsReadSetting (integer register bits) = bits < 2 ^ 64
 IsReadSetting (capability register held) = IsReadHeld held
@@ -79,6 +81,16 @@ integer_by false text n m e =
 
 integer_low : (text : List ℕ) (n : ℕ) → integer_of text ≡ Some n → n < 2 ^ 64
 integer_low text n e = integer_by (begins 0x2D text) text n refl e
+
+kept_if : (test : Bool) (size kept : ℕ) → size ≤ MAX_RAM_BYTES → cond test (Some size) None ≡ Some kept → kept ≤ MAX_RAM_BYTES
+kept_if true size kept low e = let is : size ≡ kept = cc in subst (λ (n : ℕ). n ≤ MAX_RAM_BYTES) is low
+kept_if false size kept low e = absurd (cc)
+
+stack_low : (text : List ℕ) (size : ℕ) → stack_of text ≡ Some size → size ≤ MAX_RAM_BYTES
+unfolding stack_of
+stack_low text size e =
+    let x = then_some (number_up_to MAX_RAM_BYTES text) (λ n. cond (is_stack_size n) (Some n) None) size e in
+    kept_if (is_stack_size x.0) x.0 size (up_to MAX_RAM_BYTES text x.0 x.1) x.2
 
 -- ---- capabilities that are written out
 
@@ -137,7 +149,7 @@ unfolding plain_setting
 plain_by true is_stack is_exit name text setting a b c e =
     let is : entry text ≡ setting = (let h = rw a at e in cc) in subst IsReadSetting is tt
 plain_by false true is_exit name text setting a b c e =
-    let x = of_map (λ size. stack size) (stack_of text) setting (rw (a, b) at e) in subst IsReadSetting x.2 tt
+    let x = of_map (λ size. stack size) (stack_of text) setting (rw (a, b) at e) in subst IsReadSetting x.2 (stack_low text x.0 x.1)
 plain_by false false true name text setting a b c e =
     let x = of_map (λ given. exit given) (exit_of text) setting (rw (a, b, c) at e) in subst IsReadSetting x.2 tt
 plain_by false false false name text setting a b c e = absurd (let clash = rw (a, b, c) at e in cc)

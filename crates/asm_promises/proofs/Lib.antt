@@ -16,3 +16,4 @@ pub mod Late
 pub mod Readable
 pub mod Instructions
 pub mod Runs
+pub mod Stacks

@@ -187,14 +187,14 @@ and_second : (a b : Bool) → (a && b) ≡ true → b ≡ true
 and_second true b e = e
 and_second false b e = absurd (cc)
 
-or_false : (a b : Bool) → (a || b) ≡ false → (a ≡ false) × (b ≡ false)
+pub or_false : (a b : Bool) → (a || b) ≡ false → (a ≡ false) × (b ≡ false)
 or_false true b e = absurd (cc)
 or_false false b e = (refl, e)
 
 most : (a b : ℕ) → nat_le a b ≡ true → a ≤ b
 most a b e = grind (arith, nat_tests)
 
-below : (a b : ℕ) → nat_lt a b ≡ false → b ≤ a
+pub below : (a b : ℕ) → nat_lt a b ≡ false → b ≤ a
 below a b e = grind (arith, nat_tests)
 
 total_by : (there : Bool) (n : ℕ) → total n there ≤ 16384 → n ≤ 16384

@@ -1,2 +1,3 @@
 -- What assembly promises of the images that it means.
 pub mod Given
+pub mod Stacks

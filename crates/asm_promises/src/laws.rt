@@ -8,6 +8,7 @@ ghost use Rattle.canonical.specs.Canon.{canon};
 ghost use Rattle.canonical.specs.Listable.{IsListable};
 ghost use Rattle.asm_pictures.specs.Asked.{HartsParts};
 ghost use Rattle.asm_image.specs.Whole.{AssembledParts, assembly_meaning};
+ghost use Rattle.asm_promises.specs.Stacks.{AreBehind};
 ghost use Rattle.asm_promises.specs.Given.{
   IsGivenHart,
   IsHeld,
@@ -27,6 +28,14 @@ pub fn every_image_runs()
         → assembly_meaning texts harts ≡ Ok a → length (canon a.image) ≤ listing_limit }
     ensures means { (texts : List (List ℕ)) (harts : HartsParts) (a : AssembledParts)
         → assembly_meaning texts harts ≡ Ok a → listing_meaning (canon a.image) ≡ Ok a.image }
+{}
+
+/// The stacks of all harts are apart: each begins behind everything that the layout puts into memory,
+/// and behind the stack of each hart before it.
+pub fn stacks_are_apart()
+    ensures { (texts : List (List ℕ)) (harts : HartsParts) (a : AssembledParts)
+        → assembly_meaning texts harts ≡ Ok a
+        → AreBehind a.linked.layout.memory_end a.harts }
 {}
 
 /// Nothing is given but what is written: a granule of an image holds an integer, a sentry with
