@@ -196,6 +196,7 @@ module _ (late : LateParts) (count : ℕ) (few : late.linked.instructions ≤ co
   record IsCode (code : CodeParts) : Type 0 where
     counted : length code.instructions ≡ room_of late
     ok : All (IsOk count) code.instructions
+    origins : code.origins ≡ (code_begun late).origins
 
   over_ok : (instrs : List Instr) (code : List Instr) (at : ℕ) → All (IsOk count) instrs → All (IsOk count) code → All (IsOk count) (overwritten code at instrs)
   unfolding overwritten
@@ -218,6 +219,7 @@ module _ (late : LateParts) (count : ℕ) (few : late.linked.instructions ≤ co
       subst IsCode is (record {
         counted = over_length x.0 code.instructions (index_of late file number) ∙ k.counted;
         ok = over_ok x.0 code.instructions (index_of late file number) ok k.ok;
+        origins = k.origins;
       })
 
   abbrev Kept : ContentsParts → Type 0
@@ -278,7 +280,7 @@ module _ (late : LateParts) (count : ℕ) (few : late.linked.instructions ≤ co
 
   begun_ok : Kept (contents_begun late)
   unfolding code_begun
-  begun_ok = record { counted = length-replicate (room_of late) nop; ok = All-replicate (IsOk count) (room_of late) nop (nop_ok count) }
+  begun_ok = record { counted = length-replicate (room_of late) nop; ok = All-replicate (IsOk count) (room_of late) nop (nop_ok count); origins = refl }
 
   contents_kept : (after : ContentsParts) → All IsSoundFile late.program.files → contents_of late ≡ Ok after → Kept after
   unfolding contents_of files_put
@@ -292,3 +294,6 @@ module _ (late : LateParts) (count : ℕ) (few : late.linked.instructions ≤ co
 
   pub code_length : (after : ContentsParts) → All IsSoundFile late.program.files → contents_of late ≡ Ok after → length after.code.instructions ≡ room_of late
   code_length after sound e = (contents_kept after sound e).counted
+
+  pub code_origins : (after : ContentsParts) → All IsSoundFile late.program.files → contents_of late ≡ Ok after → after.code.origins ≡ (code_begun late).origins
+  code_origins after sound e = (contents_kept after sound e).origins

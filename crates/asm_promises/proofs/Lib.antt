@@ -17,3 +17,4 @@ pub mod Readable
 pub mod Instructions
 pub mod Runs
 pub mod Stacks
+pub mod Origins

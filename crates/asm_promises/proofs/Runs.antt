@@ -197,12 +197,12 @@ most a b e = grind (arith, nat_tests)
 pub below : (a b : ℕ) → nat_lt a b ≡ false → b ≤ a
 below a b e = grind (arith, nat_tests)
 
-total_by : (there : Bool) (n : ℕ) → total n there ≤ 16384 → n ≤ 16384
+pub total_by : (there : Bool) (n : ℕ) → total n there ≤ 16384 → n ≤ 16384
 total_by true n h = omega arith
 total_by false n h = h
 
 -- no more instructions than there can be
-few : (n : ℕ) (there : Bool) (memory_end : ℕ) → sizes_judged n there memory_end ≡ Ok tt → total n there ≤ 16384
+pub few : (n : ℕ) (there : Bool) (memory_end : ℕ) → sizes_judged n there memory_end ≡ Ok tt → total n there ≤ 16384
 unfolding sizes_judged
 few n there memory_end e =
     let x = test_false ((n == 0) || nat_lt 16384 (total n there) || nat_lt MAX_RAM_BYTES (taken memory_end)) (Ok tt) (whole faults.Size) tt e in
@@ -223,11 +223,11 @@ with_ok : (count : ℕ) (program : List Instr) (there : Bool) → All (IsOk coun
 with_ok count program true h = All-append (IsOk count) program exit h (exit_ok count)
 with_ok count program false h = h
 
-with_length : (program : List Instr) (there : Bool) → length (program_with program there) ≡ total (length program) there
+pub with_length : (program : List Instr) (there : Bool) → length (program_with program there) ≡ total (length program) there
 with_length program true = length-append program exit ∙ ap (λ n. length program + n) exit_length
 with_length program false = refl
 
-total_least : (n : ℕ) (there : Bool) → n ≤ total n there
+pub total_least : (n : ℕ) (there : Bool) → n ≤ total n there
 total_least n true = omega arith
 total_least n false = omega arith
 

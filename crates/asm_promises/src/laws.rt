@@ -7,6 +7,7 @@ ghost use Rattle.listings.specs.Meaning.{listing_limit, listing_meaning};
 ghost use Rattle.canonical.specs.Canon.{canon};
 ghost use Rattle.canonical.specs.Listable.{IsListable};
 ghost use Rattle.asm_pictures.specs.Asked.{HartsParts};
+ghost use Rattle.asm_pictures.specs.Image.{total};
 ghost use Rattle.asm_image.specs.Whole.{AssembledParts, assembly_meaning};
 ghost use Rattle.asm_promises.specs.Stacks.{AreBehind};
 ghost use Rattle.asm_promises.specs.Given.{
@@ -28,6 +29,14 @@ pub fn every_image_runs()
         → assembly_meaning texts harts ≡ Ok a → length (canon a.image) ≤ listing_limit }
     ensures means { (texts : List (List ℕ)) (harts : HartsParts) (a : AssembledParts)
         → assembly_meaning texts harts ≡ Ok a → listing_meaning (canon a.image) ≡ Ok a.image }
+{}
+
+/// Each instruction of an image has one origin, in order, but for the guard and the exit where these
+/// follow: the statement that it comes from, which the map tells.
+pub fn every_instruction_has_its_origin()
+    ensures { (texts : List (List ℕ)) (harts : HartsParts) (a : AssembledParts)
+        → assembly_meaning texts harts ≡ Ok a
+        → length a.image.program ≡ total (length a.origins) a.exit }
 {}
 
 /// The stacks of all harts are apart: each begins behind everything that the layout puts into memory,
