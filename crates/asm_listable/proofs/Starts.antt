@@ -67,7 +67,7 @@ section_some : (o : Option ℕ) (addr : ℕ) → or_section o ≡ Ok addr → o 
 section_some (Some n) addr e = let is : n ≡ addr = cc in ap Some is
 section_some None addr e = absurd (cc)
 
-located_low : (places : PlacesParts) (location : Location) (addr : ℕ) → address_of places (At location) ≡ Ok addr → addr < 2 ^ 64
+pub located_low : (places : PlacesParts) (location : Location) (addr : ℕ) → address_of places (At location) ≡ Ok addr → addr < 2 ^ 64
 unfolding address_of
 located_low places location addr e =
     address_low places location.chunk location.offset addr (section_some (address_in places location.chunk location.offset) addr e)

@@ -18,3 +18,4 @@ pub mod Instructions
 pub mod Runs
 pub mod Stacks
 pub mod Origins
+pub mod Targets

@@ -1,8 +1,15 @@
 //! Laws over what files of assembly mean: the functions do nothing, and their contracts are the
 //! laws.
 
-ghost use Rattle.std.specs.Prelude.{◌≡◌, ◌≤◌, ℕ, List, length, Ok};
+ghost use Rattle.std.specs.Prelude.{◌≡◌, ◌≤◌, ◌+◌, ◌*◌, ◌%◌, ◌^◌, ℕ, List, length, Ok};
 ghost use Rattle.std.specs.List.{All};
+ghost use Rattle.cheri_model.specs.declared.code.TheConstants.{CODE_BASE, INSTRUCTION_BYTES};
+ghost use Rattle.asm_values.specs.declared.values.Location.{Location};
+ghost use Rattle.asm_values.specs.declared.values.Value.TheVariants.{At};
+ghost use Rattle.asm_places.specs.Places.{PlacesParts, address_of, target_of};
+ghost use Rattle.asm_late.specs.Late.{LateParts};
+ghost use Rattle.asm_code.specs.Standing.{index_of};
+ghost use Rattle.asm_code.specs.Standing as standing;
 ghost use Rattle.listings.specs.Meaning.{listing_limit, listing_meaning};
 ghost use Rattle.canonical.specs.Canon.{canon};
 ghost use Rattle.canonical.specs.Listable.{IsListable};
@@ -37,6 +44,19 @@ pub fn every_instruction_has_its_origin()
     ensures { (texts : List (List ℕ)) (harts : HartsParts) (a : AssembledParts)
         → assembly_meaning texts harts ≡ Ok a
         → length a.image.program ≡ total (length a.origins) a.exit }
+{}
+
+/// What a branch goes to is the instruction at the place that its target is: no further than the
+/// program's end, at its number's address; and the first one of the statement that stands there.
+pub fn targets_are_instructions()
+    ensures address { (parts : PlacesParts) (location : Location) (most n : ℕ)
+        → target_of parts (At location) most ≡ Ok n
+        → (n ≤ most) × (address_of parts (At location)
+        ≡ Ok ((CODE_BASE + INSTRUCTION_BYTES * n) % 2 ^ 64)) }
+    ensures statement { (late : LateParts) (file number most n : ℕ) (parts : PlacesParts)
+        (location : Location) → target_of parts (At location) most ≡ Ok n
+        → address_of parts (At location) ≡ Ok (standing.address_of late file number 0 0)
+        → n ≡ index_of late file number }
 {}
 
 /// The stacks of all harts are apart: each begins behind everything that the layout puts into memory,
