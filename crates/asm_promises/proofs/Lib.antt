@@ -19,3 +19,4 @@ pub mod Runs
 pub mod Stacks
 pub mod Origins
 pub mod Targets
+pub mod LabelPlaces

@@ -1,3 +1,4 @@
 -- What assembly promises of the images that it means.
 pub mod Given
 pub mod Stacks
+pub mod Labels

@@ -7,6 +7,14 @@ ghost use Rattle.cheri_model.specs.declared.code.TheConstants.{CODE_BASE, INSTRU
 ghost use Rattle.asm_values.specs.declared.values.Location.{Location};
 ghost use Rattle.asm_values.specs.declared.values.Value.TheVariants.{At};
 ghost use Rattle.asm_places.specs.Places.{PlacesParts, address_of, target_of};
+ghost use Rattle.asm_tokens.specs.Tokens.{TokenParts};
+ghost use Rattle.asm_statements.specs.Statements.{StatementParts};
+ghost use Rattle.asm_drafts.specs.declared.sections.Entry.{Entry};
+ghost use Rattle.asm_drafts.specs.Drafts.{DraftParts};
+ghost use Rattle.asm_drafts.specs.Labels.{labels_put};
+ghost use Rattle.asm_files.specs.declared.stand.Stand.{Stand};
+ghost use Rattle.asm_files.specs.Stands.{statement_stood};
+ghost use Rattle.asm_promises.specs.Labels.{AreThere};
 ghost use Rattle.asm_late.specs.Late.{LateParts};
 ghost use Rattle.asm_code.specs.Standing.{index_of};
 ghost use Rattle.asm_code.specs.Standing as standing;
@@ -44,6 +52,15 @@ pub fn every_instruction_has_its_origin()
     ensures { (texts : List (List ℕ)) (harts : HartsParts) (a : AssembledParts)
         → assembly_meaning texts harts ≡ Ok a
         → length a.image.program ≡ total (length a.origins) a.exit }
+{}
+
+/// The labels of a statement are symbols whose place is where the statement stands.
+pub fn labels_stand_at_their_statement()
+    ensures { (tokens : List TokenParts) (parts : DraftParts) (number : ℕ) (s : StatementParts)
+        (entry : Entry) (next : DraftParts × Stand)
+        → statement_stood tokens parts number s entry ≡ Ok next
+        → (labelled : DraftParts) × (labels_put tokens s.first s.labels parts ≡ Ok labelled)
+        × AreThere next.1 parts labelled }
 {}
 
 /// What a branch goes to is the instruction at the place that its target is: no further than the
