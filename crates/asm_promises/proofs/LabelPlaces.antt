@@ -1,9 +1,8 @@
 -- Labels stand where the statement stands that they are of.
-use Rattle.std.proofs.Common.{◌≡◌, ℕ, zero, suc, ◌+◌, nat_lt, Bool, true, false, cond, List, [], ◌∷◌, ◌++◌, length, Option, Some, None, Result, Ok, Err, All, refl, sym, ap, ◌∙◌, subst, append_assoc}
+use Rattle.std.proofs.Common.{◌≡◌, ℕ, zero, suc, ◌+◌, nat_lt, Bool, true, false, cond, List, [], ◌∷◌, ◌++◌, length, Ok, All, refl, sym, ap, ◌∙◌, subst, append_assoc}
 use Rattle.std.specs.Option.{is_none}
 use Rattle.std.proofs.lemmas.List.Elements.{All-nil, All-push}
 use Rattle.canonical.proofs.round_trip.Ranges.{test_true}
-use Rattle.asm_tokens.specs.declared.fault.AsmFault.{AsmFault}
 use Rattle.asm_tokens.specs.declared.fault.AsmFaultKind.TheVariants as faults
 use Rattle.asm_tokens.specs.declared.token.TokenKind.{TokenKind}
 use Rattle.asm_tokens.specs.declared.token.TokenKind.TheVariants as kinds
@@ -18,7 +17,7 @@ use Rattle.asm_statements.specs.Statements.{StatementParts}
 use Rattle.asm_drafts.specs.declared.sections.Entry.{Entry}
 use Rattle.asm_drafts.specs.Drafts.{DraftParts, with_symbols, with_locals}
 use Rattle.asm_drafts.specs.Kept.{kept_number}
-use Rattle.asm_drafts.specs.Labels.{defined_at, named, local_here, locally_labelled, labelled_kind, labelled, labels_put}
+use Rattle.asm_drafts.specs.Labels.{named, local_here, locally_labelled, labelled_kind, labelled, labels_put}
 use Rattle.asm_drafts.specs.Statements.{body_put}
 use Rattle.asm_files.specs.declared.stand.Stand.{Stand}
 use Rattle.asm_files.specs.Stands.{opening_of, closing_of, statement_stood}

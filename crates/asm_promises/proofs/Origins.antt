@@ -1,5 +1,5 @@
 -- Each instruction of a program has its origin.
-use Rattle.std.proofs.Common.{◌≡◌, ℕ, zero, suc, ◌+◌, ◌≤◌, ◌<◌, ◌^◌, ◌==◌, Bool, true, false, cond, List, [], ◌∷◌, length, Option, Some, None, Ok, refl, sym, ap, ◌∙◌, subst, arith}
+use Rattle.std.proofs.Common.{◌≡◌, ℕ, suc, ◌+◌, ◌≤◌, ◌<◌, ◌^◌, ◌==◌, Bool, true, false, cond, List, [], ◌∷◌, length, Option, Some, None, Ok, refl, sym, ap, ◌∙◌, arith}
 use Rattle.std.specs.Prelude.{replicate, slice_set}
 use Rattle.std.proofs.Math.ListN.{length-set}
 use Rattle.std.proofs.lemmas.List.{length-replicate}
@@ -22,7 +22,7 @@ use Rattle.asm_promises.proofs.Steps.{late_in, steps_of}
 use Rattle.asm_promises.proofs.Given.{made_of}
 use Rattle.asm_promises.proofs.Late.{program_read}
 use Rattle.asm_promises.proofs.Instructions.{code_length, code_origins}
-use Rattle.asm_promises.proofs.Runs.{few, total_by, total_least, with_length}
+use Rattle.asm_promises.proofs.Runs.{few, total_least, with_length}
 
 over_length : {A : Type 0} (xs : List A) (items : List A) (at : ℕ) → length (overwritten items at xs) ≡ length items
 unfolding overwritten
