@@ -1,5 +1,6 @@
 -- An order as text: a digit for each step, `[LO,HI]` for each sweep (this project's own format).
-use Rattle.std.specs.Prelude.{ℕ, ◌<◌, ◌≤◌, List, [], ◌∷◌, ◌++◌, codes, decimal}
+use Rattle.std.specs.Prelude.{ℕ, ◌<◌, ◌≤◌, List, [], ◌∷◌, ◌++◌, codes, decimal, map, Vec}
+use Rattle.std.specs.Global.{Global}
 use Rattle.cap_model.specs.declared.encoding.TheConstants.{ADDRESS_SPACE}
 use Rattle.cheri_model.specs.declared.operation.Op.{Op}
 use Rattle.cheri_model.specs.declared.operation.Op.TheVariants as operation
@@ -19,6 +20,10 @@ operations_text (op ∷ ops) = operation_text op ++ operations_text ops
 abbrev pub order_text : List Op → List ℕ
 order_text [] = codes "-"
 order_text (op ∷ ops) = operations_text (op ∷ ops)
+
+-- orders, each as its operations
+abbrev pub orders_of : List (Vec Op Global) → List (List Op)
+orders_of orders = map (λ order. order.items) orders
 
 -- an operation that an order can have: a step of one of eight harts, or a sweep of addresses
 abbrev pub IsOperation : Op → Type 0
