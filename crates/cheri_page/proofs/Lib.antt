@@ -1,3 +1,5 @@
--- What is told of a run, from what was written of it.
+-- What is told, from what was written and read of it.
 pub mod AnswerLemmas
 pub mod RunLemmas
+pub mod AssemblyLemmas
+pub mod MappedLemmas

@@ -5,7 +5,7 @@ use Rattle.report_lines.specs.Texts.{line}
 use Rattle.cheri_page.specs.declared.answer.Answer.{Answer}
 use Rattle.cheri_page.specs.declared.fault.Fault.{Fault}
 use Rattle.cheri_page.specs.declared.fault.Fault.TheVariants.{NoMemory}
-use Rattle.cheri_page.specs.Faults.{status_of, kind_of, place_of, fault_text}
+use Rattle.cheri_page.specs.Faults.{status_of, kind_of, place_of, column_of, fault_text}
 
 -- what a call tells: a text, and why there is no more, where there isn't
 pub record Told : Type 0 where
@@ -24,19 +24,20 @@ line_of (Some fault) = line (fault_text fault)
 -- the answer where there is room for a text and for so many bytes of the fault's line
 abbrev pub answer_of : Option Fault → ℕ → ℕ → Answer
 answer_of None count said =
-    record { status = 0; kind = 0; place = 0; length = count; said = said }
+    record { status = 0; kind = 0; place = 0; column = 0; length = count; said = said }
 answer_of (Some fault) count said =
     record {
       status = status_of fault;
       kind = kind_of fault;
       place = place_of fault;
+      column = column_of fault;
       length = count;
       said = said;
     }
 
 -- status 5 where the text is longer than the room, with the count of bytes that it needs
 abbrev pub no_room : ℕ → Answer
-no_room needed = record { status = 5; kind = 0; place = 0; length = needed; said = 0 }
+no_room needed = record { status = 5; kind = 0; place = 0; column = 0; length = needed; said = 0 }
 
 -- how much of the fault's line the room has place for after the text
 abbrev pub said_in : ℕ → Told → ℕ

@@ -1,5 +1,10 @@
 -- Why a call gives no more than it does: its status, its number, its place and its line.
 use Rattle.std.specs.Prelude.{ℕ, List, ◌++◌, codes, decimal}
+use Rattle.asm_files.specs.Faults.{fault_line}
+use Rattle.asm_files.specs.declared.fault.AssemblyFault.{AssemblyFault}
+use Rattle.asm_tokens.specs.Faults.{fault_number}
+use Rattle.asm_tokens.specs.declared.fault.AsmFaultKind.{AsmFaultKind}
+use Rattle.asm_tokens.specs.declared.fault.AsmFaultKind.TheVariants as asm_kinds
 use Rattle.grammar.specs.Faults.{listing_fault_number, listing_fault_text}
 use Rattle.grammar.specs.declared.fault.ListingFaultKind.{ListingFaultKind}
 use Rattle.grammar.specs.declared.fault.ListingFaultKind.TheVariants as listing_kinds
@@ -15,8 +20,8 @@ use Rattle.simulation.specs.declared.faults.SimFault.TheVariants as sim
 use Rattle.number_lines.specs.declared.numbers.NumberFault.{NumberFault}
 use Rattle.number_lines.specs.declared.numbers.NumberFault.TheVariants as numbers
 use Rattle.cheri_page.specs.declared.fault.Fault.{Fault}
-use Rattle.cheri_page.specs.declared.fault.Fault.TheVariants.{NoMemory, BadNumber}
-use Rattle.cheri_page.specs.declared.fault.Fault.TheVariants.{Listing, Order, Step}
+use Rattle.cheri_page.specs.declared.fault.Fault.TheVariants.{NoMemory, BadNumber, BadName}
+use Rattle.cheri_page.specs.declared.fault.Fault.TheVariants.{Listing, Order, Step, Assembly, Map}
 
 abbrev pub status_of : Fault → ℕ
 status_of (Listing fault) = 1
@@ -24,6 +29,9 @@ status_of (Order fault) = 2
 status_of (Step place fault) = 3
 status_of NoMemory = 4
 status_of BadNumber = 6
+status_of (Assembly fault) = 7
+status_of (Map line) = 8
+status_of BadName = 9
 
 abbrev pub kind_of : Fault → ℕ
 kind_of (Listing fault) = listing_fault_number fault.kind
@@ -31,14 +39,26 @@ kind_of (Order fault) = order_fault_number fault.kind
 kind_of (Step place fault) = step_fault_number fault
 kind_of NoMemory = 0
 kind_of BadNumber = 0
+kind_of (Assembly fault) = fault_number fault.fault.kind
+kind_of (Map line) = 0
+kind_of BadName = 0
 
--- a line of the listing, a byte of the order, or an operation of it counted from 0
+-- a line of the listing, the assembly or the map, a byte of the order, or an operation of it counted
+-- from 0
 abbrev pub place_of : Fault → ℕ
 place_of (Listing fault) = fault.line
 place_of (Order fault) = fault.offset
 place_of (Step place fault) = place
 place_of NoMemory = 0
 place_of BadNumber = 0
+place_of (Assembly fault) = fault.fault.place.line
+place_of (Map line) = line
+place_of BadName = 0
+
+-- a column of the assembly
+abbrev pub column_of : Fault → ℕ
+column_of (Assembly fault) = fault.fault.place.column
+column_of _ = 0
 
 -- what the program says of it on standard error
 abbrev pub fault_text : Fault → List ℕ
@@ -50,6 +70,9 @@ fault_text (Order fault) =
     codes "order byte " ++ (decimal fault.offset ++ (codes ": " ++ order_fault_text fault.kind))
 fault_text (Step place fault) =
     codes "order step " ++ (decimal place ++ (codes ": " ++ step_fault_text fault))
+fault_text (Assembly fault) = codes "assembly " ++ fault_line fault
+fault_text (Map line) = codes "map line " ++ decimal line
+fault_text BadName = codes "bad name"
 
 -- Refused texts. Running out of memory says nothing of a text, so it has no line of that text.
 abbrev pub listing_fault_of_kind : ListingFaultKind → ListingFault → Fault
@@ -76,3 +99,11 @@ sim_fault (sim.Report fault) = NoMemory
 abbrev pub number_fault : NumberFault → Fault
 number_fault numbers.NoMemory = NoMemory
 number_fault numbers.BadNumber = BadNumber
+
+-- assembly that was refused
+abbrev pub assembly_fault_of_kind : AsmFaultKind → AssemblyFault → Fault
+assembly_fault_of_kind asm_kinds.NoMemory fault = NoMemory
+assembly_fault_of_kind _ fault = Assembly fault
+
+abbrev pub assembly_fault : AssemblyFault → Fault
+assembly_fault fault = assembly_fault_of_kind fault.fault.kind fault

@@ -3,3 +3,5 @@ pub mod Faults
 pub mod Answers
 pub mod Runs
 pub mod Lines
+pub mod Assembly
+pub mod Mapped

@@ -13,12 +13,15 @@ use std::alloc::{AllocError, Global};
 #[repr(C)]
 pub struct Answer {
     /// 0: it is done; 1: the listing was refused, 2: the order; 3: an operation was, and what is
-    /// written is of those before it; 4: out of memory; 5: no room; 6: an argument is no number.
+    /// written is of those before it; 4: out of memory; 5: no room; 6: an argument is no number;
+    /// 7: the assembly was refused, 8: the map; 9: the name of a file is no text.
     pub status: u32,
     /// The fault's number.
     pub kind: u32,
     /// The line, byte or operation of the fault.
     pub place: usize,
+    /// The column of a fault of assembly, in bytes from 1 on, and else 0.
+    pub column: usize,
     /// How many bytes the text has, which are the first of the room; of status 5 how many it needs.
     pub length: usize,
     /// How many bytes of the fault's line follow them.
@@ -45,6 +48,7 @@ fn answer_of(fault: Option<Fault>, length: usize, said: usize) -> Answer
             status: 0,
             kind: 0,
             place: 0,
+            column: 0,
             length,
             said,
         },
@@ -52,6 +56,7 @@ fn answer_of(fault: Option<Fault>, length: usize, said: usize) -> Answer
             status: fault.status(),
             kind: fault.kind(),
             place: fault.place(),
+            column: fault.column(),
             length,
             said,
         },
@@ -85,6 +90,7 @@ fn tell_line(text: &[u8], fault: Option<Fault>, line: &[u8], out: &mut [u8], ans
             status: 5,
             kind: 0,
             place: 0,
+            column: 0,
             length: text.len(),
             said: 0,
         };

@@ -1,8 +1,10 @@
 //! Why a call gives no more than it does.
 
 ghost use Rattle.std.specs.Prelude.{◌≡◌};
-ghost use Rattle.cheri_page.specs.Faults.{status_of, kind_of, place_of};
+ghost use Rattle.cheri_page.specs.Faults.{status_of, kind_of, place_of, column_of};
 
+use asm_files::AssemblyFault;
+use asm_tokens::AsmFaultKind;
 use cores::StepFault;
 use grammar::fault::ListingFaultKind;
 use listings::ListingFault;
@@ -24,6 +26,12 @@ pub(crate) enum Fault {
     Order(OrderFault),
     /// The operation at this place of the order, counted from 0, was refused.
     Step(usize, StepFault),
+    /// The assembly was refused.
+    Assembly(AssemblyFault),
+    /// The map's line of this number is none of a map of the listing's program.
+    Map(usize),
+    /// The name of a file is no text.
+    BadName,
 }
 
 impl Fault {
@@ -37,6 +45,9 @@ impl Fault {
             Fault::Step(_, _) => 3,
             Fault::NoMemory => 4,
             Fault::BadNumber => 6,
+            Fault::Assembly(_) => 7,
+            Fault::Map(_) => 8,
+            Fault::BadName => 9,
         }
     }
 
@@ -48,12 +59,13 @@ impl Fault {
             Fault::Listing(refused) => u32::from(refused.kind.number()),
             Fault::Order(refused) => u32::from(refused.kind.number()),
             Fault::Step(_, refused) => u32::from(refused.number()),
-            Fault::NoMemory | Fault::BadNumber => 0,
+            Fault::Assembly(refused) => u32::from(refused.fault.kind.number()),
+            Fault::NoMemory | Fault::BadNumber | Fault::Map(_) | Fault::BadName => 0,
         }
     }
 
-    /// Where it is: a line of the listing, a byte of the order or a place of an operation, and 0
-    /// where it has none.
+    /// Where it is: a line of the listing, the assembly or the map, a byte of the order or a place of
+    /// an operation, and 0 where it has none.
     pub(crate) fn place(self) -> usize
         ensures { result ≡ place_of self }
     {
@@ -61,7 +73,19 @@ impl Fault {
             Fault::Listing(refused) => refused.line,
             Fault::Order(refused) => refused.offset,
             Fault::Step(place, _) => place,
-            Fault::NoMemory | Fault::BadNumber => 0,
+            Fault::Assembly(refused) => refused.fault.place.line,
+            Fault::Map(line) => line,
+            Fault::NoMemory | Fault::BadNumber | Fault::BadName => 0,
+        }
+    }
+
+    /// Its column in the line of the assembly, and 0 where it has none.
+    pub(crate) fn column(self) -> usize
+        ensures { result ≡ column_of self }
+    {
+        match self {
+            Fault::Assembly(refused) => refused.fault.place.column,
+            _ => 0,
         }
     }
 }
@@ -79,6 +103,9 @@ impl fmt::Display for Fault {
             Fault::Listing(ListingFault { line, kind }) => write!(f, "listing line {line}: {kind}"),
             Fault::Order(OrderFault { offset, kind }) => write!(f, "order byte {offset}: {kind}"),
             Fault::Step(place, refused) => write!(f, "order step {place}: {refused}"),
+            Fault::Assembly(refused) => write!(f, "assembly {refused}"),
+            Fault::Map(line) => write!(f, "map line {line}"),
+            Fault::BadName => f.write_str("bad name"),
         }
     }
 }
@@ -133,6 +160,19 @@ impl From<NumberFault> for Fault {
         match refused {
             NumberFault::NoMemory => Fault::NoMemory,
             NumberFault::BadNumber => Fault::BadNumber,
+        }
+    }
+}
+
+impl From<AssemblyFault> for Fault {
+    ghost use Rattle.cheri_page.specs.Faults.{assembly_fault};
+
+    ghost from_gives = { λ refused fault. fault ≡ assembly_fault refused };
+
+    fn from(refused: AssemblyFault) -> Fault {
+        match refused.fault.kind {
+            AsmFaultKind::NoMemory => Fault::NoMemory,
+            _ => Fault::Assembly(refused),
         }
     }
 }

@@ -5,6 +5,8 @@
 #![tactic(auto)]
 
 mod answer;
+mod assembly;
 mod fault;
+mod mapped;
 mod numbers;
 mod runs;

@@ -20,14 +20,14 @@ use sinks::MemSink;
 use std::alloc::Global;
 
 /// A sink that keeps all that it is given.
-fn keeper(alloc: Global) -> MemSink
+pub(crate) fn keeper(alloc: Global) -> MemSink
     ensures { result ≡ record { bytes = []; most = usize.MAX; fails_in = 0; failures = 0 } }
 {
     MemSink::new(alloc, 0, usize::MAX)
 }
 
 /// Tells what was written of a run, and which operation stopped it; or why there is no run.
-fn tell_run(
+pub(crate) fn tell_run(
     alloc: Global,
     ran: Result<Option<(usize, StepFault)>, SimFault>,
     text: &[u8],
