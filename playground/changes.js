@@ -17,6 +17,7 @@ const changes = (() => {
   /** What is kept of a piece of work, as it is now. */
   const textsNow = () => ({
     listing: listing.value, order: order.value, points: points.all(), at: desk.position(), isTyped,
+    isAssembly: assembly.isOn(),
   });
 
   function keepNow() {
@@ -92,6 +93,20 @@ const changes = (() => {
     keep();
   }
 
+  /** Reads the text as assembly, or as a listing again. */
+  function turn(isAssembly) {
+    assembly.turn(isAssembly);
+    desk.runTexts(desk.position());
+    lines.show();
+    keep();
+  }
+
+  function turned() {
+    const isAssembly = assembly.isOn();
+    noteUndo(() => turn(!isAssembly));
+    turn(isAssembly);
+  }
+
   function step(hart) {
     const button = part("steps").children[hart];
     if (!button || button.disabled || !desk.isReady()) return;
@@ -118,7 +133,8 @@ const changes = (() => {
   desk.onMove = (from, to) => moveStep(from, to) && desk.diagram.focus(to);
 
   return {
-    changeOrder, keep, moveMarked, noteUndo, opened, step, sweep, textsNow, typedListing, typedOrder, undo,
+    changeOrder, keep, moveMarked, noteUndo, opened, step, sweep, textsNow, turned, typedListing, typedOrder,
+    undo,
     isTyped: () => isTyped,
     leave: () => keepLater && keepNow(),
   };

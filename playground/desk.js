@@ -15,6 +15,8 @@ const desk = (() => {
   const list = view.eventList(part("events"), "Events of the run, in order", pickEvent);
   const diagram = times.over(part("times"), pickTime, (from, to) => desk.onMove(from, to));
 
+  /** The text that was judged last, what it means, and its fault. */
+  let judged = null;
   /** The last good listing and order, how long they run, and what is shown of them. */
   let shown = null;
   let position = 0;
@@ -23,20 +25,50 @@ const desk = (() => {
 
   // ----------------------------------------------------------------- judging
 
-  /** Judges the listing, and marks its faulty line. Gives its fault's line, or nothing where it is good. */
-  function judgeListing() {
-    const answer = machine.check(listing.value);
-    const isFaulty = answer.status !== STATUS.DONE;
-    code.fault(isFaulty && answer.place > 0 ? answer.place : null);
-    faulty.showListing(answer, listing.value, code.goTo);
-    return isFaulty ? answer.line : "";
+  /** What the text in the editor means: its fault, or its listing. */
+  function read() {
+    const [text, isAssembly] = [listing.value, assembly.isOn()];
+    if (judged?.text === text && judged.isAssembly === isAssembly && judged.answer.status !== STATUS.MEMORY) return judged;
+    const answer = isAssembly ? machine.assemble(text) : machine.check(text);
+    judged = { text, isAssembly, answer, isGood: answer.status === STATUS.DONE, listing: isAssembly ? answer.text : text };
+    return judged;
   }
 
-  /** Whether the listing can be run; else that is said. */
+  /** The part of the faulty line that is marked, where the fault has a column. */
+  function partOf({ place, column }) {
+    return column > 0 ? assembly.markedAt(listing.value.split("\n")[place - 1] ?? "", column) : null;
+  }
+
+  /** Judges the text, and marks its faulty line. Gives its fault's line, or nothing where it is good. */
+  function judgeListing() {
+    const { answer, isGood, listing: meant } = read();
+    code.fault(!isGood && answer.place > 0 ? answer.place : null, isGood ? null : partOf(answer));
+    faulty.showListing(answer, listing.value, code.goTo);
+    assembly.showMeant(isGood ? meant : null);
+    return isGood ? "" : answer.line;
+  }
+
+  const kind = () => (assembly.isOn() ? "assembly" : "listing");
+
+  /** Whether the text can be run; else that is said. */
   function isReady() {
     const fault = judgeListing();
-    if (fault) notice.say(`Nothing is run: the listing is faulty (${fault}). Mend it first.`);
+    if (fault) notice.say(`Nothing is run: the ${kind()} is faulty (${fault}). Mend it first.`);
     return fault === "";
+  }
+
+  /** The map of the assembly in the editor, as the module answers it. */
+  const mapNow = () => machine.map(listing.value, assembly.fileOf(works.current().name));
+
+  /** The program of the text in the editor, which is good; of assembly nothing where memory ran out. */
+  function programNow() {
+    const { text, isAssembly, listing: meant } = read();
+    if (!isAssembly) judged.program ??= assembly.ofListing(meant);
+    else if (!judged.program) {
+      const { status, text: map } = mapNow();
+      if (status === STATUS.DONE) judged.program = assembly.ofAssembly(text, meant, map);
+    }
+    return judged.program ?? null;
   }
 
   /** The words that what is shown is no longer of the texts above; nothing where it is. */
@@ -47,25 +79,27 @@ const desk = (() => {
 
   // --------------------------------------------------------------- the machine
 
-  const imageOf = (text) => (shown?.listing === text ? shown.image : runs.imageOf(text));
+  /** What the image of the program in the editor has. */
+  const imageNow = () => (shown?.listing === read().listing ? shown.image : runs.imageOf(read().listing));
 
   /** Runs both texts, and goes to a position of the run: its end for none. Gives whether there is one. */
   function runTexts(at, isFollowed = true) {
     clearTimeout(later);
     if (judgeListing()) {
-      showStale("of the last good listing");
+      showStale(`of the last good ${kind()}`);
       return false;
     }
-    const found = runs.endOf(listing.value, order.value);
+    const { listing: meant } = read();
+    const found = runs.endOf(meant, order.value);
     faulty.showOrder(found, order.value);
-    if (!found.isRun) {
+    const program = found.isRun && programNow();
+    if (!program) {
       showStale(found.status === STATUS.ORDER ? "of the last good order" : "out of memory");
       return false;
     }
-    const ofListing = shown?.listing === listing.value ? shown : { listing: listing.value,
-      words: source.wordsOf(listing.value), registers: source.registersOf(listing.value),
-      image: runs.imageOf(listing.value) };
-    shown = { ...ofListing, order: order.value, length: found.at };
+    const ofListing = shown?.listing === meant ? shown : { listing: meant, registers: source.registersOf(meant),
+      image: runs.imageOf(meant) };
+    shown = { ...ofListing, program, order: order.value, length: found.at };
     events = [];
     showStale("");
     go(at ?? shown.length, isFollowed);
@@ -76,7 +110,7 @@ const desk = (() => {
   function runTextsLater() {
     clearTimeout(later);
     if (listing.value.length < LARGE_LISTING) runTexts(position, false);
-    else if (judgeListing()) showStale("of the last good listing");
+    else if (judgeListing()) showStale(`of the last good ${kind()}`);
     else later = setTimeout(() => runTexts(position, false), LATER_MS);
   }
 
@@ -92,7 +126,7 @@ const desk = (() => {
   /** Lists these events, where others are listed. */
   function showEvents(found, from, harts) {
     if (events.length > 0 && events[0].number === from && events.length === found.length) return;
-    events = found.map((event) => facts.inWords(event, shown.words));
+    events = found.map((event) => facts.inWords(event, shown.program));
     list.mark(-1);
     list.show(events, false);
     diagram.show(events, harts, shown.length);
@@ -108,10 +142,11 @@ const desk = (() => {
     const [from, to] = windowAt(position);
     const now = lookAt(position, from, to);
     const before = position > 0 ? lookAt(position - 1, 1, 0).state : now.state;
-    const event = facts.inWords(now.events.find(({ number }) => number === position - 1), shown.words);
-    const line = now.next[event?.hart ?? 0] ?? event?.line ?? now.next.find(Boolean);
+    const event = facts.inWords(now.events.find(({ number }) => number === position - 1), shown.program);
+    const next = now.next.map((line) => line && shown.program.lineOf(line));
+    const line = next[event?.hart ?? 0] ?? event?.line ?? next.find(Boolean);
     if (isFollowed && line) code.follow(line);
-    code.next(now.next, event?.outcome === "trap" ? event.line ?? null : null);
+    code.next(next, event?.outcome === "trap" ? event.line ?? null : null);
     showEvents(now.events, from, now.state.harts.length);
     const index = events.findIndex(({ number }) => number === position - 1);
     list.mark(index);
@@ -153,8 +188,8 @@ const desk = (() => {
   }
 
   return {
-    LATER_MS, code, diagram, go, goToMarkedOrEnd, goToNext, imageOf, isReady, lastEvent, listing, order,
-    runTexts, runTextsLater,
+    LATER_MS, code, diagram, go, goToMarkedOrEnd, goToNext, imageNow, isReady, judgeListing, lastEvent, listing, mapNow,
+    order, programNow, read, runTexts, runTextsLater,
     isLarge: () => listing.value.length >= LARGE_LISTING,
     position: () => position,
     shown: () => shown,

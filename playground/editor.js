@@ -32,12 +32,12 @@ const editor = (() => {
       area.scrollTop = Math.max(0, top - area.clientHeight / 2);
     }
 
-    /** Puts the cursor to a line, and scrolls it into sight. */
-    function goTo(line) {
+    /** Puts the cursor over a line, or over a part of it, and scrolls that into sight. */
+    function goTo(line, { at: first = 0, length } = {}) {
       const lines = area.value.split("\n");
-      const at = lines.slice(0, line - 1).reduce((sum, text) => sum + text.length + 1, 0);
+      const begin = first + lines.slice(0, line - 1).reduce((sum, text) => sum + text.length + 1, 0);
       area.focus();
-      area.setSelectionRange(at, at + (lines[line - 1]?.length ?? 0));
+      area.setSelectionRange(begin, begin + (length ?? lines[line - 1]?.length ?? 0));
       area.scrollTop = Math.max(0, (line - 4) * sizesOf(area)[0]);
     }
 
@@ -61,6 +61,18 @@ const editor = (() => {
     return kinds;
   }
 
+  const TAB = 8;
+
+  /** How many columns wide a text is at the beginning of a line. */
+  const widthOf = (text) => [...text].reduce((width, char) => width + (char === "\t" ? TAB - width % TAB : 1), 0);
+
+  /** What underlines the marked part of a faulty line. */
+  function underline(line, { at, length }, scrolled) {
+    const [from, to] = [at, at + length].map((end) => widthOf(line.slice(0, end)));
+    return element("span", { class: "at-column",
+      style: `left: calc(0.4rem + ${from}ch - ${scrolled}px); width: ${Math.max(to - from, 1)}ch` });
+  }
+
   /** A part of the editor at a height, which follows the scrolling of the text. */
   function putAt(part, top, height = null) {
     if (height !== null) part.style.height = `${height}px`;
@@ -73,7 +85,7 @@ const editor = (() => {
    * a line's number is clicked.
    */
   function over(area, gutter, bars, toggle) {
-    const shown = { marks: new Map(), points: new Set(), faulty: null, trapped: null };
+    const shown = { marks: new Map(), points: new Set(), faulty: null, part: null, trapped: null };
 
     /** The rows of numbers and marks that are in sight, and the bars. */
     function show() {
@@ -85,7 +97,13 @@ const editor = (() => {
       const rows = Array.from({ length: last - first }, (_, index) => rowOf(first + index + 1, shown));
       gutter.replaceChildren(putAt(element("div", {}, ...rows), topOf(first + 1)));
       bars.replaceChildren(...[...barsOf(shown)].map(([line, kind]) =>
-        putAt(element("div", { class: `bar-of-line ${kind}` }), topOf(line), height)));
+        putAt(element("div", { class: `bar-of-line ${kind}` }, ...marksIn(line)), topOf(line), height)));
+    }
+
+    /** What is marked within a line. */
+    function marksIn(line) {
+      if (line !== shown.faulty || !shown.part) return [];
+      return [underline(area.value.split("\n")[line - 1] ?? "", shown.part, area.scrollLeft)];
     }
 
     /** Shows other marks than before. */
@@ -113,7 +131,7 @@ const editor = (() => {
     return {
       ...linesOf(area), next, show,
       breakpoints: (lines) => mark({ points: new Set(lines) }),
-      fault: (line) => mark({ faulty: line }),
+      fault: (line, part = null) => mark({ faulty: line, part }),
     };
   }
 

@@ -6,13 +6,16 @@ const facts = (() => {
   const shorter = (words) => words.replace(/\b[0-9a-f]{16,17}\b/g, values.short);
 
   /**
-   * The event with the listing's own words in place of the canonical ones, labels, spelling and comment; and with short
-   * addresses in its reasons and in the range of a sweep.
+   * The event with the program's own words in place of the canonical ones, labels, spelling and comment, and with the line
+   * of the text; and with short addresses in its reasons and in the range of a sweep.
    */
-  function inWords(event, words) {
+  function inWords(event, { words, lineOf }) {
     if (!event) return event;
     const told = { ...event };
-    if (event.line !== undefined) told.instruction = words[event.line - 1] || event.instruction;
+    if (event.line !== undefined) {
+      told.instruction = words[event.line - 1] || event.instruction;
+      told.line = lineOf(event.line) ?? undefined;
+    }
     if (event.why) told.why = shorter(event.why);
     if (event.clears) {
       told.clears = Object.fromEntries(Object.entries(event.clears)

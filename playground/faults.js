@@ -112,14 +112,17 @@ const faults = (() => {
     return { at: token.at, length, found: isWhole ? line.slice(token.at, token.at + length) : token.text, expected };
   }
 
-  /** The line with carets below the marked part, and the words. */
-  function drawn(line, { at, length, found, expected }) {
+  /** The line with carets below the marked part, and words below it. */
+  function drawnWith(line, { at, length }, ...words) {
     const [from, to] = [Math.max(0, at - 40), Math.max(at + length, at + 40)];
     const blank = line.slice(from, at).replace(/[^\t]/g, " ");
     return element("div", { class: "marked-line" },
-      element("pre", {}, `${line.slice(from, to)}\n${blank}${"^".repeat(length)}`),
-      element("p", {}, "Found ", element("code", {}, found), `; expected ${expected}.`));
+      element("pre", {}, `${line.slice(from, to)}\n${blank}${"^".repeat(length)}`), ...words);
   }
 
-  return { drawn, explain };
+  /** The same with what was found and expected. */
+  const drawn = (line, marked) => drawnWith(line, marked,
+    element("p", {}, "Found ", element("code", {}, marked.found), `; expected ${marked.expected}.`));
+
+  return { drawn, drawnWith, explain };
 })();

@@ -3,7 +3,9 @@ const faulty = (() => {
   const part = (id) => document.getElementById(id);
   const { element } = draw;
   const { STATUS } = machine;
-  const KINDS = { [STATUS.LISTING]: "listing", [STATUS.ORDER]: "order", [STATUS.STEP]: "step" };
+  const KINDS = {
+    [STATUS.LISTING]: "listing", [STATUS.ORDER]: "order", [STATUS.STEP]: "step", [STATUS.ASSEMBLY]: "assembly",
+  };
   const AROUND = 16;
   let meanings = new Map();
 
@@ -17,19 +19,30 @@ const faulty = (() => {
     return means ? element("p", { class: "meaning" }, means) : null;
   }
 
-  /** Shows a listing's fault, or none; `goTo` goes to its line. */
+  /** The line of a listing's fault, marked, with what was found and expected. */
+  function drawnListing(words, { kind }) {
+    const found = faults.explain(words, kind, help.forms());
+    return found && faults.drawn(words, found);
+  }
+
+  /** The line of a fault of assembly, marked at its column. */
+  const drawnAssembly = (words, { column }) => faults.drawnWith(words, assembly.markedAt(words, column));
+
+  /** Shows the fault of a listing or of assembly, or none; `goTo` goes to its line and column. */
   function showListing(answer, text, goTo) {
-    const { status, kind, place, line } = answer;
+    const { status, place, column, line } = answer;
+    const isAssembly = status === STATUS.ASSEMBLY;
+    const isOfText = isAssembly || status === STATUS.LISTING;
     const parts = [];
     if (status !== STATUS.DONE) parts.push(line);
-    if (status === STATUS.LISTING && place > 0) {
-      const go = element("button", { type: "button" }, `Go to line ${place}`);
-      go.addEventListener("click", () => goTo(place));
+    if (isOfText && place > 0) {
       const words = text.split("\n")[place - 1] ?? "";
-      const found = faults.explain(words, kind, help.forms());
-      parts.push(" ", go, found && faults.drawn(words, found));
+      const go = element("button", { type: "button" },
+        isAssembly ? `Go to line ${place}, column ${column}` : `Go to line ${place}`);
+      go.addEventListener("click", () => goTo(place, isAssembly ? assembly.markedAt(words, column) : undefined));
+      parts.push(" ", go, (isAssembly ? drawnAssembly : drawnListing)(words, answer));
     }
-    parts.push(status === STATUS.LISTING && meaningOf(answer));
+    parts.push(isOfText && meaningOf(answer));
     part("listing-fault").replaceChildren(...parts.filter(Boolean));
   }
 

@@ -3,11 +3,13 @@ const files = (() => {
   const { element } = draw;
   const MOST_BYTES = 4_194_304;
 
-  /** Reads a file: a listing or an order, by its text; nothing where it is too long. */
+  /** Reads a file: assembly by its name, else a listing or an order, by its text; nothing where it is too long. */
   async function read(file) {
     if (file.size > MOST_BYTES) return null;
     const text = await file.text();
-    return { name: file.name.replace(/\.[^.]*$/, "") || file.name, text, isOrder: orders.isOrder(text) };
+    const isAssembly = /\.[sS]$/.test(file.name);
+    const name = file.name.replace(/\.[^.]*$/, "") || file.name;
+    return { name, text, isAssembly, isOrder: !isAssembly && orders.isOrder(text) };
   }
 
   /** Calls `take` with each file that the person opens or drops. */

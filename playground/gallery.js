@@ -31,8 +31,10 @@ const gallery = (() => {
   /** Fills the menu; `open(example, number)` is called with what the person opens. */
   function begin(list, open) {
     examples = list;
-    part("example").replaceChildren(...examples.map(({ name, shows }) =>
-      element("option", { value: name }, `${name}: ${shows}`)));
+    const optionsOf = (of) => of.map(({ name, shows }) => element("option", { value: name }, `${name}: ${shows}`));
+    const [listings, files] = [false, true].map((is) => examples.filter(({ isAssembly = false }) => isAssembly === is));
+    part("example").replaceChildren(...optionsOf(listings),
+      element("optgroup", { label: "Programs in assembly" }, ...optionsOf(files)));
     part("example").addEventListener("change", () => showExample(open));
     showExample(open);
   }

@@ -1,7 +1,9 @@
 /*
  * The heap of the module: blocks by size, four sizes between one power of two and the next. A freed
- * block goes to the list of its size; a block that lies at the end of what was ever given grows in
- * place. Nothing is given back to the host: who meets the end of memory begins with a new instance.
+ * block goes to the list of its size, or, at the end of all that is given, makes that end earlier. A
+ * block at the end grows in place where no freed one has the size: else each call that grows a text
+ * from small on would take new memory, and leave a large block behind. Nothing is given back to the
+ * host: who meets the end of memory begins with a new instance.
  */
 typedef unsigned long size;
 typedef unsigned char byte;
@@ -22,7 +24,7 @@ enum { HEAD = 16, LEAST = 32, FINE = 64, CLASSES = 256, PAGE = 65536 };
 
 extern byte __heap_base;
 static block *freed[CLASSES];
-static byte *end; /* of all that was ever given */
+static byte *end; /* of all that is given, but for what is freed before it */
 static byte nothing;
 
 /* The bytes of the block for so many of the caller's; a multiple of 16. */
@@ -74,8 +76,16 @@ tried rattle_alloc(size bytes, size align) {
   return given(bytes >> 40 ? 0 : take(whole(bytes)));
 }
 
+static int is_last(block *one) {
+  return (byte *)one + one->bytes == end;
+}
+
 void rattle_dealloc(byte *at) {
   block *old = (block *)(at - HEAD);
+  if (is_last(old)) {
+    end = (byte *)old;
+    return;
+  }
   block **list = &freed[list_of(old->bytes)];
   old->next = *list;
   *list = old;
@@ -87,7 +97,7 @@ tried rattle_realloc(byte *at, size kept, size bytes, size align) {
   block *old = (block *)(at - HEAD);
   size wanted = whole(bytes);
   if (wanted <= old->bytes) return given(old);
-  if ((byte *)old + old->bytes == end && reaches((byte *)old + wanted)) {
+  if (!freed[list_of(wanted)] && is_last(old) && reaches((byte *)old + wanted)) {
     end = (byte *)old + wanted;
     old->bytes = wanted;
     return given(old);

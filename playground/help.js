@@ -15,19 +15,18 @@ const help = (() => {
   const trapWords = (traps) => (traps.length === 0 ? "none but those of its fetch"
     : traps.map((cause) => `${cause} ${CAUSES()[cause]}`).join(", "));
 
-  /** Draws the help of a line: of its instruction, or that it has none. */
-  function show(place, line, number) {
-    const name = source.tokensOf(line ?? "")[0]?.text;
-    const row = table.get(name);
-    if (!row) {
-      place.replaceChildren(element("p", {},
-        `Line ${number}: no instruction. Point at one, or go to its line, for help.`));
-      return;
-    }
-    place.replaceChildren(
-      element("p", {}, element("code", {}, `${row.name} ${row.written}`), ` ${row.computes}`),
-      element("p", {}, element("b", {}, "Tag: "), `${row.tag}. `, element("b", {}, "Traps: "),
-        `${trapWords(row.traps)}. `, element("a", { href: `instructions.html#${row.name}` }, "All instructions")));
+  const wordsOf = (row) => [
+    element("p", {}, element("code", {}, `${row.name} ${row.written}`), ` ${row.computes}`),
+    element("p", {}, element("b", {}, "Tag: "), `${row.tag}. `, element("b", {}, "Traps: "),
+      `${trapWords(row.traps)}. `, element("a", { href: `instructions.html#${row.name}` }, "All instructions")),
+  ];
+
+  /** Draws the help of a line: of its instructions, each name once, or that it has none. */
+  function show(place, texts, number) {
+    const names = new Set(texts.map((text) => source.tokensOf(text ?? "")[0]?.text));
+    const rows = [...names].map((name) => table.get(name)).filter(Boolean);
+    place.replaceChildren(...(rows.length > 0 ? rows.flatMap(wordsOf) : [element("p", {},
+      `Line ${number}: no instruction. Point at one, or go to its line, for help.`)]));
   }
 
   return { begin, forms, show };

@@ -3,8 +3,14 @@ const lines = (() => {
   const part = (id) => document.getElementById(id);
   const { code, listing } = desk;
 
+  /** The instructions that a line of the text means: of a listing its own words. */
+  function textsAt(line) {
+    if (!assembly.isOn()) return [listing.value.split("\n")[line - 1]];
+    return desk.read().isGood ? desk.programNow()?.textsAt(line) ?? [] : [];
+  }
+
   function showHelp(line) {
-    help.show(part("help"), listing.value.split("\n")[line - 1], line);
+    help.show(part("help"), textsAt(line), line);
   }
 
   /** What is said of the line of the cursor. */

@@ -5,9 +5,9 @@
 const machine = (() => {
   /** Room for every report: the largest has less than 15,800,000 bytes. */
   const ROOM = 16_777_200;
-  const ANSWER_BYTES = 32;
-  const STATUS = { DONE: 0, LISTING: 1, ORDER: 2, STEP: 3, MEMORY: 4, ROOM: 5, NUMBER: 6 };
-  const OUT_OF_MEMORY = { status: STATUS.MEMORY, kind: 0, place: 0, text: "", line: "memory" };
+  const ANSWER_BYTES = 40;
+  const STATUS = { DONE: 0, LISTING: 1, ORDER: 2, STEP: 3, MEMORY: 4, ROOM: 5, NUMBER: 6, ASSEMBLY: 7, MAP: 8, NAME: 9 };
+  const OUT_OF_MEMORY = { status: STATUS.MEMORY, kind: 0, place: 0, column: 0, text: "", line: "memory" };
 
   const encoder = new TextEncoder();
   const decoder = new TextDecoder();
@@ -42,10 +42,10 @@ const machine = (() => {
   function answerAt(exports, answer, out) {
     const view = new DataView(exports.memory.buffer, Number(answer), ANSWER_BYTES);
     const [status, kind] = [view.getUint32(0, true), view.getUint32(4, true)];
-    const [place, length, said] = [8, 16, 24].map((at) => Number(view.getBigUint64(at, true)));
-    if (status === STATUS.ROOM) return { status, kind, place, needed: length, text: "", line: "" };
+    const [place, column, length, said] = [8, 16, 24, 32].map((at) => Number(view.getBigUint64(at, true)));
+    if (status === STATUS.ROOM) return { status, kind, place, column, needed: length, text: "", line: "" };
     return {
-      status, kind, place,
+      status, kind, place, column,
       text: decoder.decode(bytesAt(exports, out, length)),
       line: decoder.decode(bytesAt(exports, out + BigInt(length), said)).trimEnd(),
     };
@@ -72,8 +72,8 @@ const machine = (() => {
   }
 
   /**
-   * Calls the module: the texts, then the numbers. An answer has `status`, `kind` and `place` of
-   * the fault, the `text`, and the fault's `line`.
+   * Calls the module: the texts, then the numbers. An answer has `status`, `kind`, `place` and
+   * `column` of the fault, the `text`, and the fault's `line`.
    */
   function call(name, texts, numbers = []) {
     try {
@@ -99,8 +99,11 @@ const machine = (() => {
     run: (listing, order) => call("cheri_run", [listing, order]),
     json: (listing, order) => call("cheri_json", [listing, order]),
     explain: (listing, order, from, to) => call("cheri_explain", [listing, order], [from, to]),
+    explainMap: (listing, order, map, from, to) => call("cheri_explain_map", [listing, order, map], [from, to]),
     look: (listing, order, at, from, to) => call("cheri_look", [listing, order], [at, from, to]),
     bounds: (base, len) => call("cheri_bounds", [base, len]),
     decode: (word) => call("cheri_decode", [word]),
+    assemble: (text) => call("cheri_assemble", [text]),
+    map: (text, name) => call("cheri_map", [text, name]),
   };
 })();

@@ -17,31 +17,31 @@ const moment = (() => {
   }
 
   /** What is said beside a hart's name. */
-  function notesOf(state, next, event) {
+  function notesOf(state, next, event, { nameOf }) {
     return state.harts.map((hart, number) => [
       event?.hart === number ? "took this step" : null,
-      next[number] != null ? `next is line ${next[number]}` : null,
+      next[number] != null ? `next is ${nameOf(next[number])}` : null,
     ].filter(Boolean).join("; "));
   }
 
-  function nextWords(next) {
-    const words = next.map((line, hart) => line != null && `hart ${hart}: line ${line}`).filter(Boolean);
+  function nextWords(next, { nameOf }) {
+    const words = next.map((line, hart) => line != null && `hart ${hart}: ${nameOf(line)}`).filter(Boolean);
     return words.length > 0 ? `Next: ${words.join(", ")}` : "No hart has a next instruction.";
   }
 
   /** Draws harts, memory and the reasons of a position of a run. */
-  function show({ registers: named, image, length }, { state, next }, event, changed) {
+  function show({ registers: named, image, length, program }, { state, next }, event, changed) {
     const isFull = part("full").checked;
     const focus = Object.keys(event?.leaves ?? event?.finds ?? {})[0] ?? event?.at?.address ?? null;
     view.showEvent(part("words"), element("div"), event, image,
       length > 0 ? "Before the first operation." : "The order is empty: step a hart, or press Run.");
     part("words").scrollTop = 0;
-    const notes = notesOf(state, next, event);
+    const notes = notesOf(state, next, event, program);
     update("harts", (place) => registers.show(place, state, named, { changed, image, notes, isFull }));
     update("facts", (place) => facts.show(place, event, image, isFull));
     update("memory", (place) => memory.show(place, state, { changed, image, focus, isFull,
       form: part("memory-form").value, size: Number(part("memory-bytes").value) }));
-    part("listing-next").textContent = part("listing-next").title = nextWords(next);
+    part("listing-next").textContent = part("listing-next").title = nextWords(next, program);
   }
 
   /** Buttons, slider and the position in words. */

@@ -3,6 +3,7 @@ const opening = (() => {
   const part = (id) => document.getElementById(id);
   const { code, listing, order } = desk;
   const FIRST_LISTING = ".hart 0x10000000 4 0x10000000 execute\necall\n";
+  const FIRST_ASSEMBLY = "main:\n\tli\ta0, 42\n\tcret\n";
   let examples = [];
 
   const withoutFragment = () => location.href.split("#")[0];
@@ -11,13 +12,14 @@ const opening = (() => {
   function open(piece) {
     listing.value = piece.listing;
     order.value = piece.order;
+    assembly.turn(piece.isAssembly ?? false);
     changes.opened(piece);
     points.set(piece.points ?? [], piece.listing);
     works.opened(piece);
     listing.setSelectionRange(0, 0);
     listing.scrollTop = 0;
-    lines.show();
     const isShown = desk.runTexts(piece.at);
+    lines.show();
     if (isShown && piece.isMarked) desk.goToMarkedOrEnd();
   }
 
@@ -32,8 +34,9 @@ const opening = (() => {
     changes.noteUndo(() => open(old));
   }
 
-  const exampleOf = ({ name, text, orders: list }, number) => ({
-    name, listing: text, order: list[number]?.text ?? "", example: { example: name, number }, at: 0, isMarked: true,
+  const exampleOf = ({ name, text, orders: list, isAssembly = false }, number) => ({
+    name, listing: text, isAssembly, order: list[number]?.text ?? "", example: { example: name, number }, at: 0,
+    isMarked: true,
   });
 
   /** Opens a listing of the gallery in one of its orders, at the first trap or cleared tag. */
@@ -50,10 +53,10 @@ const opening = (() => {
   /** A file becomes a piece of work, or the order of what is open. */
   async function openFile(file) {
     const found = await files.read(file);
-    if (!found) notice.say(`${file.name} is too long: a listing has at most 1,048,576 bytes.`);
+    if (!found) notice.say(`${file.name} is too long: a listing has at most 1,048,576 bytes, assembly 4,194,304.`);
     else if (found.isOrder) changes.changeOrder(found.text, undefined);
     else {
-      openOver({ name: found.name, listing: found.text, order: "", isTyped: true });
+      openOver({ name: found.name, listing: found.text, order: "", isAssembly: found.isAssembly, isTyped: true });
       changes.keep();
     }
   }
@@ -63,8 +66,10 @@ const opening = (() => {
     if (piece) openOver(piece);
   }
 
+  /** New work is read as what is open is. */
   function newWork() {
-    openOver({ name: "my work", listing: FIRST_LISTING, order: "" });
+    const isAssembly = assembly.isOn();
+    openOver({ name: "my work", listing: isAssembly ? FIRST_ASSEMBLY : FIRST_LISTING, order: "", isAssembly });
     changes.keep();
     code.goTo(1);
   }
@@ -98,7 +103,7 @@ const opening = (() => {
     const fragment = location.hash;
     const linked = fragment.length > 1 ? await share.read(fragment) : null;
     const isAsked = !linked && tools.isAsked(fragment);
-    const kept = linked && works.kept(linked.listing, linked.order);
+    const kept = linked && works.kept(linked);
     if (linked) open({ ...linked, name: linked.name || "from a link", ...kept, at: linked.at });
     else if (fragment.length > 1 && fragment !== "#embed=1" && !isAsked) {
       open(exampleOf(examples[0], 0));
@@ -129,19 +134,20 @@ const opening = (() => {
 
   async function makeLink() {
     const isForPage = part("share-embed").checked;
+    const kind = assembly.isOn() ? "assembly" : "listing";
     const { name } = works.current();
     const fragment = await share.fragmentOf(listing.value, order.value,
-      { at: desk.position(), ...(name && { name }), ...(isForPage && { embed: 1 }) });
+      { at: desk.position(), ...(name && { name }), ...(assembly.isOn() && { asm: 1 }), ...(isForPage && { embed: 1 }) });
     const link = withoutFragment() + fragment;
     const isShort = link.length <= share.MOST_CHARACTERS;
     part("share-link").value = isShort ? link : "";
     if (!isShort) {
       part("share-words").textContent = `A link would have ${link.length.toLocaleString("en")}`
-        + " characters, which is too long: download the listing and the order.";
+        + ` characters, which is too long: download the ${kind} and the order.`;
       return;
     }
     if (!isForPage) history.replaceState(null, "", fragment);
-    part("share-words").textContent = "The link has the listing, the order and the position.";
+    part("share-words").textContent = `The link has the ${kind}, the order and the position.`;
     part("share-link").select();
   }
 

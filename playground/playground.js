@@ -43,6 +43,8 @@
     part("memory-form").addEventListener("change", ({ target }) => {
       part("memory-bytes").disabled = !["hex", "decimal"].includes(target.value);
     });
+    part("assembly").addEventListener("change", changes.turned);
+    part("meant").addEventListener("toggle", desk.judgeListing);
     for (const id of ["full", "memory-form", "memory-bytes"]) {
       part(id).addEventListener("change", () => desk.go(desk.position(), false));
     }
@@ -50,13 +52,29 @@
 
   // ------------------------------------------------------------------- work
 
+  /** The explanation: of assembly by the map of its program. */
+  function explained(meant) {
+    if (!assembly.isOn()) return machine.explain(meant, order.value, 0, runs.LAST);
+    const map = desk.mapNow();
+    return map.status === STATUS.DONE ? machine.explainMap(meant, order.value, map.text, 0, runs.LAST) : map;
+  }
+
+  /** What is answered for each file; where the text is faulty that is its fault. */
+  const ANSWERS = {
+    "listing.lst": (meant) => ({ status: STATUS.DONE, text: meant }),
+    "program.map": () => desk.mapNow(),
+    "report.txt": (meant) => machine.run(meant, order.value),
+    "report.json": (meant) => machine.json(meant, order.value),
+    "explanation.txt": explained,
+  };
+
   /** The bytes that the programs give for what is in the fields. */
   function fileOf(name) {
-    if (name === "listing.lst") return listing.value;
+    const isOfEditor = name === (assembly.isOn() ? "assembly.s" : "listing.lst");
+    if (isOfEditor) return listing.value;
     if (name === "order.txt") return order.value;
-    const answered = name === "report.txt" ? machine.run(listing.value, order.value)
-      : name === "report.json" ? machine.json(listing.value, order.value)
-        : machine.explain(listing.value, order.value, 0, runs.LAST);
+    const { answer, isGood: isMeant, listing: meant } = desk.read();
+    const answered = isMeant ? ANSWERS[name](meant) : answer;
     const isGood = answered.status === STATUS.DONE || answered.status === STATUS.STEP;
     part("share-words").textContent = isGood ? "" : `No ${name}: ${answered.line}`;
     return isGood ? answered.text : null;
@@ -118,15 +136,14 @@
 
   const dataOf = (id) => JSON.parse(part(id).textContent);
 
-  function begin() {
+  async function begin() {
     const missing = lacking();
     if (missing) {
       part("banner").hidden = false;
       part("banner").textContent = `This browser lacks ${missing}, so nothing can be run here.`;
       return;
     }
-    const text = atob(part("module-data").textContent.trim());
-    machine.begin(Uint8Array.from(text, (one) => one.charCodeAt(0)));
+    machine.begin(await share.unpacked(part("module-data").textContent.trim()));
     help.begin(dataOf("help-data"));
     faulty.begin(dataOf("fault-data"));
     [notice.begin, question.begin, lines.listen, tools.listen, listenToPosition, listenToWork, listenToHarts]

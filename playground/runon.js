@@ -1,11 +1,13 @@
 /** Harts that run on after the operations done: a race of so many steps, or until all stop, or to a line. */
 const runon = (() => {
   const part = (id) => document.getElementById(id);
-  const { listing, order } = desk;
+  const { order } = desk;
+
+  const listingNow = () => desk.read().listing;
 
   /** The place of the refused step among those that are drawn after `kept`, which has so many operations. */
   const stopAfter = (kept, done) => (text) => {
-    const stop = runs.stopOf(listing.value, kept + text);
+    const stop = runs.stopOf(listingNow(), kept + text);
     return stop < 0 ? -1 : stop - done;
   };
 
@@ -16,7 +18,7 @@ const runon = (() => {
     const kept = orders.firstOf(order.value, desk.position());
     const done = orders.operationsOf(kept).length;
     const most = Math.min(count, runs.MOST_OPERATIONS - done);
-    const drawn = race.draw(seed, most, desk.imageOf(listing.value).harts, stopAfter(kept, done));
+    const drawn = race.draw(seed, most, desk.imageNow().harts, stopAfter(kept, done));
     changes.changeOrder(kept + drawn, undefined);
   }
 
@@ -31,7 +33,7 @@ const runon = (() => {
   /** The order that goes on after the operations done until those harts have stopped that are to run. */
   function orderToEnd() {
     const kept = orders.firstOf(order.value, desk.position());
-    const found = runs.endOf(listing.value, kept);
+    const found = runs.endOf(listingNow(), kept);
     if (!found.isRun) return null;
     const running = found.state.harts.map(({ status }, hart) => (status === "running" ? hart : -1))
       .filter((hart) => hart >= 0);
@@ -49,10 +51,10 @@ const runon = (() => {
       notice.say(found ? "There is no hart that can step." : "The order is faulty before the operations done.");
       return;
     }
-    const addresses = source.addressesOf(listing.value);
+    const addresses = desk.programNow()?.addresses ?? new Map();
     const stops = line === undefined ? points.all() : [line];
     const wanted = stops.map((one) => source.addressAt(addresses, one)).filter(Boolean);
-    const stop = wanted.length > 0 ? runs.firstAt(listing.value, found.text, wanted, found.done + 1) : -1;
+    const stop = wanted.length > 0 ? runs.firstAt(listingNow(), found.text, wanted, found.done + 1) : -1;
     changes.changeOrder(stop < 0 ? found.text : orders.firstOf(found.text, stop), undefined);
     if (stop < 0) sayEnd(found, line);
   }

@@ -1,6 +1,6 @@
 /**
  * Links: `#1.` and the base64url of raw deflate of the listing, a byte 0 and the order; then, each after `&`, `at=` a
- * position, `name=` a name and `embed=1`.
+ * position, `name=` a name, `asm=1` where assembly is in the place of the listing, and `embed=1`.
  */
 const share = (() => {
   const VERSION = "1.";
@@ -43,6 +43,9 @@ const share = (() => {
       (one) => one.charCodeAt(0));
   }
 
+  /** The bytes of a part of the page, which has them as base64 of raw deflate. */
+  const unpacked = (text) => inflated(Uint8Array.from(atob(text), (one) => one.charCodeAt(0)));
+
   /** The fragment of a listing and an order, with what else it says. */
   async function fragmentOf(listing, order, more = {}) {
     const bytes = new TextEncoder().encode(`${listing}\0${order}`);
@@ -51,11 +54,11 @@ const share = (() => {
     return `#${VERSION}${data}${words.join("")}`;
   }
 
-  /** What stands after the data: a position and a name, where they can be read. */
+  /** What stands after the data: a position and a name, where they can be read; whether it is assembly. */
   function wordsOf(parts) {
     const words = new Map(parts.map((part) => part.split("=")));
     const at = /^\d{1,6}$/.test(words.get("at") ?? "") ? Number(words.get("at")) : undefined;
-    return { at, name: decodeURIComponent(words.get("name") ?? "").slice(0, 60) };
+    return { at, name: decodeURIComponent(words.get("name") ?? "").slice(0, 60), isAssembly: words.get("asm") === "1" };
   }
 
   /** Listing, order, position and name of a fragment, or nothing where it can't be read. */
@@ -75,5 +78,5 @@ const share = (() => {
   const isEmbedded = ({ hash, search }) => /[#&]embed=1(&|$)/.test(hash)
     || new URLSearchParams(search).get("embed") === "1";
 
-  return { MOST_CHARACTERS, fragmentOf, isEmbedded, read };
+  return { MOST_CHARACTERS, fragmentOf, isEmbedded, read, unpacked };
 })();

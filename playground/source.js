@@ -30,7 +30,7 @@ const source = (() => {
   function registersOf(text) {
     const code = text.split("\n").map(codeOf).join("\n");
     const named = [...code.matchAll(/(?<![\w.])c(\d{1,2})(?![\w.])/g)].map((found) => Number(found[1]));
-    if (/(?<![\w.])cinvoke(?![\w.])/.test(code)) named.push(31);
+    if (/(?<![\w.+])cinvoke(?![\w.+])/.test(code)) named.push(31);
     return [...new Set(named)].filter((number) => number >= 1 && number <= 31).sort((a, b) => a - b);
   }
 

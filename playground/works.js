@@ -56,10 +56,12 @@ const works = (() => {
   }
 
   /** The open piece with this text, where a link has what was kept last. */
-  function kept(listing, order) {
+  function kept({ listing, order, isAssembly }) {
     const last = store.last();
     const piece = last?.id ? store.read(last.id) : null;
-    return piece && piece.listing === listing && piece.order === order ? piece : null;
+    const isSame = piece && piece.listing === listing && piece.order === order
+      && Boolean(piece.isAssembly) === isAssembly;
+    return isSame ? piece : null;
   }
 
   /** Another tab changed the open piece: what is changed here from now on is a piece of its own. */

@@ -6,7 +6,7 @@ const isReady = () => document.documentElement?.dataset.ready === "yes";
 /** The names of those cases that the module answers otherwise than the native programs. */
 function differing(part) {
   const bytesOf = (text) => Uint8Array.from(text, (one) => one.charCodeAt(0));
-  const same = (one, other) => ["status", "kind", "place", "text", "line"]
+  const same = (one, other) => ["status", "kind", "place", "column", "text", "line"]
     .every((name) => one[name] === other[name]);
   return part.filter((one) => {
     const texts = [bytesOf(one.listing), bytesOf(one.order)];
@@ -23,6 +23,18 @@ function differingLooks(part) {
     const found = JSON.parse(machine.look(listing, order, at, 0, 4_294_967_295).text);
     return found.at !== at || !same(found.state, state) || !same(found.events, facts.events);
   })).map(({ name }) => name);
+}
+
+/** The names of those cases of assembly that the module answers otherwise than the model, or the native explanation. */
+function differingAssembly(part) {
+  const same = (one, other) => ["status", "kind", "place", "column", "text", "line"]
+    .every((name) => one[name] === other[name]);
+  return part.filter((one) => {
+    const text = Uint8Array.from(one.assembly, (char) => char.charCodeAt(0));
+    return !same(machine.assemble(text), one.assemble) || !same(machine.map(text, one.file), one.map)
+      || (one.explain ?? []).some((told) =>
+        !same(machine.explainMap(one.assemble.text, one.order, told.map, 0, 4_294_967_295), told));
+  }).map(({ name }) => name);
 }
 
 /** The milliseconds of the call for a position of a run, and until it is drawn and laid out: medians. */
@@ -47,4 +59,4 @@ function positionTimes(listing, order) {
   })];
 }
 
-module.exports = { differing, differingLooks, isReady, positionTimes };
+module.exports = { differing, differingAssembly, differingLooks, isReady, positionTimes };

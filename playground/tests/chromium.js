@@ -6,12 +6,13 @@
  */
 "use strict";
 const fs = require("node:fs");
-const os = require("node:os");
 const path = require("node:path");
 const { withBrowser } = require("../../page/browser.js");
 const { check, checkFocus, checkQuiet, checkScreens, checkTree, end } = require("../../page/checks.js");
 const { isReady, positionTimes } = require("./asked.js");
-const { busyListing, checkCases, readLines, readPage, same } = require("./common.js");
+const { checkAssemblyDownloads, checkAssemblyTree, openAssembly } = require("./assembled.js");
+const { busyListing, checkAssembled, checkCases, readLines, readPage, same } = require("./common.js");
+const { checkDownloaded } = require("./downloads.js");
 const { inChromium, until } = require("./drivers.js");
 const { checkPerson } = require("./person.js");
 
@@ -191,34 +192,15 @@ async function checkShare(tab, newTab) {
 
 /** What is downloaded has the bytes of the programs. */
 async function checkDownloads(tab) {
-  const folder = fs.mkdtempSync(path.join(os.tmpdir(), "downloads-"));
-  await tab.send("Browser.setDownloadBehavior", { behavior: "allow", downloadPath: folder }).catch(() =>
-    tab.connection.send("Browser.setDownloadBehavior", { behavior: "allow", downloadPath: folder }));
-  const names = ["listing.lst", "order.txt", "report.txt", "report.json"];
-  if (await tab.ask(() => machine.has("cheri_explain"))) names.push("explanation.txt");
   const wanted = await tab.ask(() => {
     const [listing, order] = ["listing", "order"].map((id) => document.getElementById(id).value);
     return {
       "listing.lst": listing, "order.txt": order, "report.txt": machine.run(listing, order).text,
       "report.json": machine.json(listing, order).text,
-      "explanation.txt": machine.has("cheri_explain") ? machine.explain(listing, order, 0, 4_294_967_295).text : null,
+      "explanation.txt": machine.explain(listing, order, 0, 4_294_967_295).text,
     };
   });
-  const found = (name) => {
-    const file = path.join(folder, name);
-    return fs.existsSync(file) ? fs.readFileSync(file, "utf8") : null;
-  };
-  for (const name of names) {
-    await tab.ask((name) => document.querySelector(`[data-file="${name}"]`).focus(), name);
-    await tab.press("Enter");
-    for (let tries = 0; tries < 400 && found(name) !== wanted[name]; tries += 1) {
-      await new Promise((resolve) => setTimeout(resolve, 50));
-    }
-  }
-  const wrong = names.filter((name) => found(name) !== wanted[name])
-    .map((name) => `${name}: ${found(name)?.length ?? "none"} of ${wanted[name].length} bytes`);
-  check("downloads have the right bytes", wrong.length === 0, wrong);
-  fs.rmSync(folder, { recursive: true, force: true });
+  await checkDownloaded(tab, wanted);
 }
 
 // ---------------------------------------------------------- faults, fragments, markup
@@ -421,10 +403,14 @@ withBrowser(async (newTab) => {
   await checkFragments(tab);
   await checkScreens(tab, "playground", () => open(tab), pictures);
   await checkScreens(tab, "playground with faults", () => openFaulty(tab), pictures);
+  await checkScreens(tab, "playground with assembly", () => openAssembly(tab, open), pictures);
+  await checkAssemblyTree(tab, open);
+  await checkAssemblyDownloads(tab, open);
   await checkDocuments(tab);
   await tab.screen(1280, 900, false);
   await open(tab);
   await checkCases(tab, "Chromium", cases);
+  await checkAssembled(tab, "Chromium", readLines(`${answers}.assembly`));
   await checkSpeed(tab);
   checkQuiet(tab, "the playground");
   await tab.ask(() => localStorage.clear());

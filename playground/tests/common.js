@@ -3,8 +3,9 @@
 const fs = require("node:fs");
 const path = require("node:path");
 const vm = require("node:vm");
+const zlib = require("node:zlib");
 const { check } = require("../../page/checks.js");
-const { differing, differingLooks } = require("./asked.js");
+const { differing, differingAssembly, differingLooks } = require("./asked.js");
 
 const TOP = path.resolve(__dirname, "../..");
 
@@ -19,7 +20,7 @@ function readPage(file) {
   const page = fs.readFileSync(file, "utf8");
   return {
     page,
-    module: Buffer.from(dataOf(page, "module-data"), "base64"),
+    module: zlib.inflateRawSync(Buffer.from(dataOf(page, "module-data"), "base64")),
     gallery: JSON.parse(dataOf(page, "gallery-data")),
     help: JSON.parse(dataOf(page, "help-data")),
   };
@@ -74,6 +75,13 @@ async function namesOf(tab, what, cases, count) {
   return names;
 }
 
+/** In a browser: the cases of assembly. */
+async function checkAssembled(tab, browser, cases) {
+  const differ = await namesOf(tab, differingAssembly, cases, 20);
+  check(`${browser} answers ${cases.length} cases of assembly as the model does`,
+    differ.length === 0 && cases.length > 100, differ);
+}
+
 /** In a browser: the cases, and each position of those that are looked at. */
 async function checkCases(tab, browser, cases) {
   const differ = await namesOf(tab, differing, cases.map(({ look, facts, ...one }) => one), 20);
@@ -87,4 +95,4 @@ async function checkCases(tab, browser, cases) {
     wrong.length === 0 && looked.length > 40, wrong);
 }
 
-module.exports = { MACHINE, TOP, busyListing, bytesOf, checkCases, machineOf, readLines, readPage, same, scriptsOf };
+module.exports = { MACHINE, TOP, busyListing, bytesOf, checkAssembled, checkCases, machineOf, readLines, readPage, same, scriptsOf };

@@ -7,7 +7,7 @@ const path = require("node:path");
 const { check, checkQuiet, end } = require("../../page/checks.js");
 const { withFirefox } = require("./bidi.js");
 const { isReady } = require("./asked.js");
-const { checkCases, readLines, readPage } = require("./common.js");
+const { checkAssembled, checkCases, readLines, readPage } = require("./common.js");
 const { inFirefox } = require("./drivers.js");
 const { checkPerson } = require("./person.js");
 
@@ -64,6 +64,7 @@ withFirefox(async (newTab) => {
   check("Firefox: the page is there in less than a second", loaded < 1000, loaded);
   await checkPath(tab);
   await checkCases(tab, "Firefox", cases);
+  await checkAssembled(tab, "Firefox", readLines(`${answers}.assembly`));
   checkQuiet({ ...tab, requests: tab.requests.filter((one) => !one.startsWith("about:")) }, "the playground in Firefox");
   const one = await inFirefox(url, newTab);
   await checkPerson(one);

@@ -11,11 +11,12 @@ const [page, answers] = process.argv.slice(2);
 const machine = machineOf(page);
 const { STATUS } = machine;
 const cases = readLines(answers);
+const assemblies = readLines(`${answers}.assembly`);
 const hasExplain = machine.has("cheri_explain");
 const LAST = 4_294_967_295;
 
 /** The parts of an answer that are compared. */
-const partsOf = ({ status, kind, place, text, line }) => ({ status, kind, place, text, line });
+const partsOf = ({ status, kind, place, column, text, line }) => ({ status, kind, place, column, text, line });
 
 /** The same bytes as the native programs. */
 function checkCases() {
@@ -38,6 +39,66 @@ function checkCases() {
     const count = cases.filter((one) => one[name]).length;
     check(`${name} answers ${count} cases as the program does`, names.length === 0 && count > 400, names);
   }
+}
+
+/** Assembly: its listing, its map or its fault as the model has them, and the native explanation by the map. */
+function checkAssembly() {
+  const differ = { assemble: [], map: [], explain: [] };
+  for (const one of assemblies) {
+    const text = bytesOf(one.assembly);
+    const found = {
+      assemble: machine.assemble(text), map: machine.map(text, one.file),
+      explain: one.explain?.map((told) => partsOf(machine.explainMap(one.assemble.text, one.order, told.map, 0, LAST))),
+    };
+    for (const name of ["assemble", "map"]) {
+      if (!same(partsOf(found[name]), partsOf(one[name]))) differ[name].push(one.name);
+    }
+    if (one.explain && !same(found.explain, one.explain.map(partsOf))) differ.explain.push(one.name);
+  }
+  for (const [name, names] of Object.entries(differ)) {
+    const count = assemblies.filter((one) => one[name]).length;
+    if (name === "explain" && count === 0) continue;
+    check(`${name} answers ${count} cases of assembly as it is to`, names.length === 0 && count > 50, names);
+  }
+  const kinds = new Set(assemblies.map(({ assemble }) => assemble.kind));
+  check("the cases of assembly have each kind of fault", [...Array(14).keys()].every((kind) => kinds.has(kind)), [...kinds]);
+}
+
+/** What is shown of each good case of assembly: each instruction at its line, with its label. */
+function checkPlaces() {
+  const { assembly } = scriptsOf(["playground/source.js", "playground/assembly.js"], ["assembly"]);
+  const wrong = assemblies.filter(({ assemble }) => assemble.status === STATUS.DONE).filter((one) => {
+    const program = assembly.ofAssembly(one.assembly, one.assemble.text, one.map.text);
+    const lines = one.assemble.text.split("\n");
+    const code = lines.map((line, index) => [line, index + 1]).filter(([line]) => /^[a-z]/.test(line));
+    return !one.map.text.match(/^code .*$/gm).every((told, number) => {
+      const [, place, label] = /^code \d+ (\S+) (.*)$/.exec(told);
+      const [text, line] = code[number];
+      if (place === "-") return program.lineOf(line) === null && program.nameOf(line) === `the ${label}`;
+      const own = Number(place.split(":")[1]);
+      return program.lineOf(line) === own && program.textsAt(own).includes(text)
+        && (label === "-" || program.words[line - 1].startsWith(`${label}: `)) && program.addresses.has(own);
+    });
+  }).map(({ name }) => name);
+  check("each instruction of assembly is shown at its line, with its label", wrong.length === 0, wrong);
+}
+
+/** A name that is no text, the longest file, and one that is longer; the answer's line is the program's. */
+function checkAssemblyLimits() {
+  const named = machine.map("main: nop\n", bytesOf("\xff"));
+  check("a name that is no text", named.status === STATUS.NAME && named.line === "bad name", named);
+  const filled = (count) => `nop\n${"#".repeat(count - 4)}`;
+  const longest = machine.assemble(filled(4_194_304));
+  check("4,194,304 bytes of assembly", longest.status === STATUS.DONE, longest.line);
+  const longer = machine.assemble(filled(4_194_305));
+  check("one byte more", longer.line === "assembly 1:0:0: 13 Size" && longer.place === 0, longer.line);
+  const most = machine.assemble("nop\n".repeat(16_382));
+  check("16,382 instructions, the guard and the exit", most.status === STATUS.DONE
+    && most.text.split("\n").length === 16_389, most.line);
+  const faulty = machine.explainMap("x\n", "0", "", 0, LAST);
+  check("a listing is judged before its map", faulty.line === "listing line 1: 2 Word", faulty.line);
+  const none = machine.explainMap(".hart 0x10000000 4 0x10000000 execute\necall\n", "x", "", 0, LAST);
+  check("a map is judged before the order", none.status === STATUS.MAP && none.line === "map line 1", none.line);
 }
 
 /** The line of the next instruction of each running hart, by the listing alone. */
@@ -179,13 +240,22 @@ function checkSpeed() {
       times(() => machine.check(`.hart 0x10000000 4 0x10000000 execute\n${rows}`)), 200],
     "a position among 5,000 events": [times(() => machine.look(busy, some, 2500, 2400, 2600)), 50],
   };
-  for (const [name, [{ first, median }, most]] of Object.entries(figures)) {
-    console.log(`playground: node: ${name}: ${median.toFixed(1)} ms, the first ${first.toFixed(1)} ms`);
-    check(`${name} takes less than ${most} ms`, Math.min(first, median) < most, { first, median });
-  }
+  for (const [name, [{ first, median }, most]] of Object.entries(figures)) checkTime(name, first, median, most);
   const bytes = machine.memoryBytes();
   console.log(`playground: node: memory ${(bytes / 1e6).toFixed(0)} MB`);
   check("memory is below 256 MiB at 100,000 steps", bytes < 268_435_456, bytes);
+}
+
+function checkTime(name, first, median, most) {
+  console.log(`playground: node: ${name}: ${median.toFixed(1)} ms, the first ${first.toFixed(1)} ms`);
+  check(`${name} takes less than ${most} ms`, Math.min(first, median) < most, { first, median });
+}
+
+function checkAssemblySpeed() {
+  const statements = `main:\n${"\taddi\ta0, a0, 1\t# one more than before, and so on\n".repeat(16_000)}`
+    .padEnd(1_048_576, "#");
+  const { first, median } = times(() => machine.assemble(statements));
+  checkTime("a listing of 1,048,576 bytes of assembly", first, median, 500);
 }
 
 function checkLimits() {
@@ -260,6 +330,29 @@ function checkLittleMemory() {
     [out.status, out.line]);
   const again = small.run(cases[0].listing, cases[0].order);
   check("and the next call is right", same(partsOf(again), partsOf(cases[0].run)), again.line);
+  const much = small.assemble(`${"addi a0, a0, 1\n".repeat(16_000)}${"#".repeat(3_000_000)}`);
+  check("with 25 MiB much assembly is out of memory", much.status === STATUS.MEMORY && much.line === "memory",
+    [much.status, much.line]);
+  const first = assemblies.find(({ assemble }) => assemble.status === STATUS.DONE);
+  check("and the next assembly is right", same(partsOf(small.assemble(bytesOf(first.assembly))), partsOf(first.assemble)));
+}
+
+/** The same calls again and again need no more memory. */
+function checkSteadyMemory() {
+  const good = `main:\n${"\taddi\ta0, a0, 1\t# one more\n".repeat(1000)}`;
+  const { text } = machine.assemble(good);
+  const rounds = (count) => {
+    for (let one = 0; one < count; one += 1) {
+      machine.map(good, "prog.s");
+      machine.assemble(`${good}frob`);
+      machine.run(text, "0".repeat(100));
+      machine.check(`${text}frob`);
+      machine.look(text, "0".repeat(100), 50, 0, 99);
+    }
+    return machine.memoryBytes();
+  };
+  const [first, later] = [rounds(10), rounds(30)];
+  check("the same calls again need no more memory", first === later, [first, later]);
 }
 
 /** Room that is just enough, and one byte less: by the module's own exports. */
@@ -274,11 +367,11 @@ function checkRoom() {
   };
   const listing = put(".hart 0x10000000 4 0x10000000 execute\necall\n");
   const order = put("0");
-  const [out, answer] = [exports.page_room(4096n), exports.page_room(32n)];
+  const [out, answer] = [exports.page_room(4096n), exports.page_room(40n)];
   const call = (room) => {
     exports.cheri_run(...listing, ...order, out, BigInt(room), answer);
-    const view = new DataView(exports.memory.buffer, Number(answer), 32);
-    return [view.getUint32(0, true), Number(view.getBigUint64(16, true))];
+    const view = new DataView(exports.memory.buffer, Number(answer), 40);
+    return [view.getUint32(0, true), Number(view.getBigUint64(24, true))];
   };
   const [status, length] = call(4096);
   check("there is room", status === STATUS.DONE && length > 100, [status, length]);
@@ -288,13 +381,18 @@ function checkRoom() {
 }
 
 checkCases();
+checkAssembly();
+checkPlaces();
+checkAssemblyLimits();
 checkFaults();
 checkHelp();
 checkLooks();
 checkRefusedLooks();
 checkReplay();
 checkRoom();
+checkSteadyMemory();
 checkLimits();
 checkLittleMemory();
 checkSpeed();
+checkAssemblySpeed();
 end();

@@ -5,13 +5,14 @@
  */
 "use strict";
 const { check } = require("../../page/checks.js");
+const asm = require("./asm.js");
 const shown = require("./shown.js");
 const work = require("./work.js");
 
 /** All of it, in a browser. */
 async function checkPerson(one) {
   const say = (name, holds, found) => check(`${one.name}: ${name}`, holds, found);
-  for (const part of [...work.parts, ...shown.parts]) {
+  for (const part of [...work.parts, ...shown.parts, ...asm.parts]) {
     const began = Date.now();
     try {
       await part(one, say);
