@@ -245,7 +245,7 @@ async function checkHelp(one, say) {
     const names = JSON.parse(document.getElementById("help-data").textContent).map(({ name }) => name);
     const place = document.createElement("div");
     return names.filter((name) => {
-      help.show(place, `${name} c1, c2, c3 # words`, 1);
+      help.show(place, [`${name} c1, c2, c3 # words`], 1);
       return !place.textContent.startsWith(name) || !place.textContent.includes("Traps:");
     });
   });
