@@ -1,10 +1,11 @@
 -- What was found is an answer.
 use Rattle.std.proofs.Common.{◌≡◌, ℕ, List, [], ◌∷◌, ◌∙◌, Bool, true, false, refl, sym, subst}
 use Rattle.std.specs.Prelude.{Option}
+use Rattle.cheri_model.specs.declared.operation.Op.{Op}
 use Rattle.cheri_model.specs.runs.Image.{ImageParts}
 use Rattle.explore_checks.specs.CheckParts.{checked_whole}
 use Rattle.explore_checks.proofs.JsonLemmas.{whole_is}
-use Rattle.explore_checks.specs.Checks.{ending_of, IsCheckAnswer, IsSearched}
+use Rattle.explore_checks.specs.Checks.{ending_of, IsCheckAnswer, IsSearched, one_asks, orders_against}
 use Rattle.explore_properties.specs.Properties.{PropertyParts}
 use Rattle.explore_sights.specs.declared.sights.Sight.{Sight}
 use Rattle.explore_sights.specs.declared.sights.Sight.TheVariants as sights
@@ -21,9 +22,10 @@ use Rattle.states.specs.Kept.{KeptParts, count, IsKeptOf, IsSearch}
 use Rattle.states.specs.Searches.{SearchParts}
 
 pub searched_is : (search : SearchParts) (properties : List PropertyParts) (watches : List Watch) (old kept : KeptParts) (endless : Endless)
-    → watches ≡ watches_of properties → IsKeptOf search (sights.Watches watches) old → old.limit ≡ search.limit → IsSame old kept
-    → IsSearch kept → IsEndless kept endless → IsSearched search properties kept endless
-searched_is search properties watches old kept endless watches_are kept_of limit_is same searched forever =
+    (asked : Bool) → watches ≡ watches_of properties → IsKeptOf search (sights.Watches watches) old → old.limit ≡ search.limit
+    → IsSame old kept → IsSearch kept → asked ≡ one_asks properties → (asked ≡ true → IsEndless kept endless)
+    → IsSearched search properties kept endless
+searched_is search properties watches old kept endless asked watches_are kept_of limit_is same searched asked_is forever =
     let of = subst (λ (ws : List Watch). IsKeptOf search (sights.Watches ws) old) watches_are kept_of in
     record {
       kept_of = record {
@@ -33,7 +35,7 @@ searched_is search properties watches old kept endless watches_are kept_of limit
       };
       limit_is = same.limit ∙ limit_is;
       searched = searched;
-      forever = forever;
+      forever = λ asks. forever (asked_is ∙ asks);
     }
 
 -- the search passed over no state that decides
@@ -43,13 +45,14 @@ searched_seen search properties kept endless searched =
     subst (λ (s : Sight). AreSeen s properties) (sym searched.kept_of.sight_is) (watches_seen search.every_step properties)
 
 pub answer_is : (search : SearchParts) (properties : List PropertyParts) (format : Format) (kept : KeptParts) (endless : Endless)
-    (verdicts told shown : List PropertyVerdict) (complete : Bool) (image : ImageParts) (states : ℕ) (text : List ℕ) (ending : Ending)
+    (verdicts told shown against : List PropertyVerdict) (complete : Bool) (image : ImageParts) (states : ℕ) (orders : List (List Op))
+    (text : List ℕ) (ending : Ending)
     → IsSearched search properties kept endless → AreVerdicts kept endless properties verdicts → told ≡ verdicts → shown ≡ verdicts
-    → complete ≡ kept.complete → image ≡ kept.image → states ≡ count kept
-    → text ≡ checked_whole format complete image states told → ending ≡ ending_of shown
-    → IsCheckAnswer search properties format text ending
-answer_is search properties format kept endless verdicts told shown complete image states text ending searched are told_are shown_are
-    complete_is image_is states_are text_is ending_is = record {
+    → against ≡ verdicts → complete ≡ kept.complete → image ≡ kept.image → states ≡ count kept
+    → text ≡ checked_whole format complete image states told → ending ≡ ending_of shown → orders ≡ orders_against against
+    → IsCheckAnswer search properties format orders text ending
+answer_is search properties format kept endless verdicts told shown against complete image states orders text ending searched are
+    told_are shown_are against_are complete_is image_is states_are text_is ending_is orders_are = record {
       kept = kept;
       endless = endless;
       searched = searched;
@@ -57,4 +60,5 @@ answer_is search properties format kept endless verdicts told shown complete ima
       are = are;
       text_is = rw (complete_is, image_is, states_are, told_are) at (text_is ∙ whole_is format complete image states told);
       ending_is = rw shown_are at ending_is;
+      orders_are = rw against_are at orders_are;
     }

@@ -1,6 +1,6 @@
 //! The answer.
 
-ghost use Rattle.std.specs.Prelude.{◌≡◌, ◌+◌, IfOk, IfErr, string_bytes};
+ghost use Rattle.std.specs.Prelude.{◌≡◌, ◌++◌, ◌∷◌, [], IfOk, OnOk, string_bytes};
 ghost use Rattle.explore_checks.specs.Checks.{
   are_known,
   ending_of,
@@ -9,21 +9,23 @@ ghost use Rattle.explore_checks.specs.Checks.{
   is_violated,
   IsCheckAnswer,
   IsFound,
+  order_against,
+  orders_against,
 };
 ghost use Rattle.explore_checks.specs.CheckParts.{checked_whole};
-ghost use Rattle.shown_states.specs.Endings.{failures_of, IsUnwritten, IsWritten};
-ghost use Rattle.shown_states.specs.declared.form.Ending.{Ending};
+ghost use Rattle.order_texts.specs.OrderTexts.{orders_of};
 ghost use Rattle.states.specs.Searches.{IsSearchable, search_of};
 
 use crate::json::write_json;
-use crate::searching::{Head, Searched, opened, search_properties};
+use crate::searching::{Head, Searched, search_properties};
 use crate::texts::write_text;
-use cheri_model::NoMemory;
+use cheri_model::{NoMemory, Op};
 use explore_properties::Property;
 use explore_verdicts::{PropertyVerdict, Verdict, judge_all};
+use found_texts::{Told, opened};
 use graph_search::Progress;
-use shown_states::{Answer, Ending, Format, put_answer};
-use sinks::{Sink, WriteFault};
+use shown_states::{Answer, Ending, Format};
+use state_loops::Lasso;
 use states::Search;
 use std::alloc::Global;
 
@@ -101,6 +103,56 @@ fn checked(
     Ok(out)
 }
 
+/// The order of a run that goes on for ever, and once its loop.
+fn once_around(alloc: Global, lasso: &Lasso) -> Result<Vec<Op>, NoMemory>
+    ensures { IfOk result (λ order.
+        order.items ≡ lasso.now.order.items ++ lasso.now.cycle.items) }
+{
+    let mut order = Vec::from_slice(alloc, lasso.order.as_slice())?;
+    order.extend_from_slice(lasso.cycle.as_slice())?;
+    Ok(order)
+}
+
+/// Adds an order.
+#[tactic(auto, using(crate::proofs::OrderLemmas::pushing))]
+fn push_order(orders: &mut Vec<Vec<Op>>, order: Vec<Op>) -> Result<(), NoMemory>
+    ensures { OnOk result (orders_of orders.new.items
+        ≡ orders_of orders.old.items ++ order.items ∷ []) }
+{
+    orders.push(order)?;
+    Ok(())
+}
+
+/// Adds the order that violates a property, if one does.
+#[tactic(auto, using(crate::proofs::OrderLemmas::pushing))]
+fn add_order(alloc: Global, orders: &mut Vec<Vec<Op>>, verdict: &Verdict) -> Result<(), NoMemory>
+    ensures { OnOk result (orders_of orders.new.items
+        ≡ orders_of orders.old.items ++ order_against verdict.now) }
+{
+    match verdict {
+        Verdict::ViolatedAfter(order) => {
+            let order = Vec::from_slice(alloc, order.as_slice())?;
+            push_order(orders, order)
+        }
+        Verdict::ViolatedBy(lasso) => {
+            let order = once_around(alloc, lasso)?;
+            push_order(orders, order)
+        }
+        Verdict::Holds | Verdict::HoldsAfter(_) | Verdict::Violated | Verdict::Unknown => Ok(()),
+    }
+}
+
+/// The orders that violate properties, in the order of their lines.
+fn orders_against(alloc: Global, told: &[PropertyVerdict<'_, '_>]) -> Result<Vec<Vec<Op>>, NoMemory>
+    ensures { IfOk result (λ orders. orders_of orders.items ≡ orders_against told.now) }
+{
+    let mut orders = Vec::new(alloc);
+    for property in told {
+        add_order(alloc, &mut orders, &property.verdict)?;
+    }
+    Ok(orders)
+}
+
 /// The answer by what a search found.
 fn answer_of(
     alloc: Global,
@@ -108,55 +160,35 @@ fn answer_of(
     properties: &[Property<'_>],
     format: Format,
     searched: &Searched,
-) -> Result<Answer, NoMemory>
+) -> Result<Told, NoMemory>
     requires found { IsFound (search_of search.now) properties.now searched.now }
-    ensures { IfOk result (λ answer. IsCheckAnswer (search_of search.now) properties.now format
-        (string_bytes answer.text) answer.ending) }
+    ensures { IfOk result (λ told. IsCheckAnswer (search_of search.now) properties.now format
+        (orders_of told.orders.items) (string_bytes told.answer.text) told.answer.ending) }
 {
     let told = judge_all(alloc, &searched.kept, &searched.endless, properties)?;
     let text = checked(alloc, format, searched.head(), told.as_slice())?;
+    let orders = orders_against(alloc, told.as_slice())?;
     let ending = ending_of(told.as_slice());
-    Ok(Answer { text, ending })
+    Ok(Told {
+        answer: Answer { text, ending },
+        orders,
+    })
 }
 
-/// The answer to a check.
-fn answer_checked<P: Progress>(
+/// Searches the states that an image reaches, once. The answer is what they say of each property of
+/// its listing. Fails only when out of memory, or of numbers past 2^32.
+pub fn check<P: Progress>(
     alloc: Global,
     search: &Search<'_>,
     properties: &[Property<'_>],
     format: Format,
     progress: &mut P,
-) -> Result<Answer, NoMemory>
+) -> Result<Told, NoMemory>
     requires { IsSearchable (search_of search.now) }
-    ensures { IfOk result (λ answer. IsCheckAnswer (search_of search.now) properties.now format
-        (string_bytes answer.text) answer.ending) }
+    ensures { IfOk result (λ told. IsCheckAnswer (search_of search.now) properties.now format
+        (orders_of told.orders.items) (string_bytes told.answer.text) told.answer.ending) }
 {
     let core = opened(alloc, search.image)?;
     let searched = search_properties(alloc, search, &core, properties, progress)?;
     answer_of(alloc, search, properties, format, &searched)
-}
-
-/// Searches the states that an image reaches, once, and writes what they say of each property of
-/// its listing. Where memory runs out, nothing is written; where the sink fails, it took a prefix of
-/// the answer.
-pub fn check<P: Progress, S: Sink>(
-    alloc: Global,
-    search: &Search<'_>,
-    properties: &[Property<'_>],
-    format: Format,
-    progress: &mut P,
-    sink: &mut S,
-) -> Result<Ending, WriteFault>
-    requires { IsSearchable (search_of search.now) }
-    ensures written { IfOk result (λ ending. IsWritten
-        (λ text. IsCheckAnswer (search_of search.now) properties.now format text ending)
-        (S.written sink.old) (S.written sink.new)) }
-    ensures begun { IfErr result (IsUnwritten (λ text. (ending : Ending)
-        × IsCheckAnswer (search_of search.now) properties.now format text ending)
-        (S.written sink.old) (S.written sink.new)) }
-    ensures failures { S.failures sink.new ≡ S.failures sink.old + failures_of result }
-    ensures identity { S.identity sink.new ≡ S.identity sink.old }
-{
-    let answer = answer_checked(alloc, search, properties, format, progress)?;
-    put_answer(sink, &answer)
 }

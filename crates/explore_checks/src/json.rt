@@ -4,7 +4,8 @@
 ghost use Rattle.std.specs.Prelude.{◌≡◌, ◌++◌, IfOk, OnOk, string_bytes};
 ghost use Rattle.serde_json.specs.View.{view as data_of};
 ghost use Rattle.explore_checks.specs.CheckParts.{check_json, complete_text, json_head};
-ghost use Rattle.explore_checks.specs.CheckTexts.{lasso_data, ordered_data, plain_data, property_data};
+ghost use Rattle.explore_checks.specs.CheckTexts.{lasso_data, ordered_data};
+ghost use Rattle.explore_checks.specs.CheckTexts.{plain_data, property_data};
 ghost use Rattle.order_texts.specs.OrderTexts.{order_text};
 ghost use Rattle.report_lines.specs.JsonText.{item_text};
 ghost use Rattle.report_lines.specs.Texts.{numbered};

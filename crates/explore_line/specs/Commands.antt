@@ -24,20 +24,23 @@ outcomes_command =
     with_search_options (with_rule (with_rule (new_app (codes "outcomes"))
     (required_word (codes "listing"))) (single_option (codes "show")))
 
--- `find LISTING CONDITION`
+-- `find LISTING CONDITION [--explain]`
 abbrev pub find_command : App
 find_command =
-    with_search_options (with_rule (with_rule (new_app (codes "find"))
+    with_search_options (with_rule (with_rule (with_rule (new_app (codes "find"))
     (required_word (codes "listing"))) (required_word (codes "condition")))
+    (flag (codes "explain")))
 
 -- `authority LISTING`
 abbrev pub authority_command : App
 authority_command =
     with_search_options (with_rule (new_app (codes "authority")) (required_word (codes "listing")))
 
--- `check LISTING`, whose sweeps are lines of the listing
+-- `check LISTING [--explain]`, whose sweeps are lines of the listing
 abbrev pub check_command : App
-check_command = with_options (with_rule (new_app (codes "check")) (required_word (codes "listing")))
+check_command =
+    with_options (with_rule (with_rule (new_app (codes "check")) (required_word (codes "listing")))
+    (flag (codes "explain")))
 
 -- the program, which wants one of these
 abbrev pub explore_alone : App

@@ -1,10 +1,12 @@
 -- What the arguments of a command line of `cheri_explore` ask for.
-use Rattle.std.specs.Prelude.{ℕ, Bool, List, Option, Some, None, option_and_then, option_map, codes, if◌then◌else◌}
+use Rattle.std.specs.Prelude.{ℕ, Bool, false, List, Option}
+use Rattle.std.specs.Prelude.{Some, None, option_and_then, option_map, codes, if◌then◌else◌}
 use Rattle.std.specs.Str.{bytes_eq}
 use Rattle.clap.specs.Words.{Row, Text, all_of, fault_of, first_of, subcommand_of}
 use Rattle.command_line.specs.Found.{◌>>=◌, form_of, is_given, unless_faulty}
 use Rattle.command_line.specs.Numbers.{number_or}
 use Rattle.command_line.specs.declared.found.Format.{Format}
+use Rattle.command_line.specs.declared.found.Format.TheVariants as forms
 use Rattle.explore_line.specs.Commands.{explore_program}
 use Rattle.explore_line.specs.Sweeps.{sweeps_in}
 use Rattle.explore_sweeps.specs.declared.Sweep.{Sweep}
@@ -26,6 +28,7 @@ pub record ExploreAsked : Type 0 where
   pub states : ℕ
   pub every_step : Bool
   pub form : Format
+  pub explained : Bool
   pub question : AskedQuestion
 
 abbrev pub question_asked_by : Question → AskedQuestion
@@ -41,6 +44,7 @@ explore_asked_by request = record {
   states = request.states;
   every_step = request.every_step;
   form = request.form;
+  explained = request.explained;
   question = question_asked_by request.question;
 }
 
@@ -53,12 +57,19 @@ question_of name rows =
     else if bytes_eq name (codes "check") then Some Check
     else None
 
+-- whether orders are explained, which is not asked for in JSON
+abbrev pub explained_in : Format → Bool → Option Bool
+explained_in forms.Text explained = Some explained
+explained_in forms.Json explained = if explained then None else Some false
+
 -- what the command of this name asks for with these arguments
 unfoldable pub explore_asked_of : Text → List Row → Option ExploreAsked
 explore_asked_of name rows = do
   question ← question_of name rows
   listing ← first_of (codes "listing") rows
   states ← number_or USUAL_STATES 1 GREATEST_STATES (first_of (codes "states") rows)
+  explained ← explained_in (form_of (first_of (codes "json") rows))
+      (is_given (first_of (codes "explain") rows))
   sweeps ← sweeps_in (all_of (codes "sweep") rows)
   Some (record {
     listing = listing;
@@ -66,6 +77,7 @@ explore_asked_of name rows = do
     states = states;
     every_step = is_given (first_of (codes "steps") rows);
     form = form_of (first_of (codes "json") rows);
+    explained = explained;
     question = question;
   })
 

@@ -58,14 +58,15 @@ fn outcomes_command<'a>(alloc: Global) -> Result<Command<'a>, AllocError>
     with_search_options(alloc, command)
 }
 
-/// `find LISTING CONDITION`.
+/// `find LISTING CONDITION [--explain]`.
 fn find_command<'a>(alloc: Global) -> Result<Command<'a>, AllocError>
     ensures app { IfOk result (λ command. app_of command ≡ find_command) }
     ensures local { IfOk result (λ command. has_globals command ≡ false) }
 {
     let command = Command::new(alloc, "find")
         .arg(required(alloc, "listing"))?
-        .arg(required(alloc, "condition"))?;
+        .arg(required(alloc, "condition"))?
+        .arg(flag(alloc, "explain"))?;
     with_search_options(alloc, command)
 }
 
@@ -78,12 +79,14 @@ fn authority_command<'a>(alloc: Global) -> Result<Command<'a>, AllocError>
     with_search_options(alloc, command)
 }
 
-/// `check LISTING`.
+/// `check LISTING [--explain]`.
 fn check_command<'a>(alloc: Global) -> Result<Command<'a>, AllocError>
     ensures app { IfOk result (λ command. app_of command ≡ check_command) }
     ensures local { IfOk result (λ command. has_globals command ≡ false) }
 {
-    let command = Command::new(alloc, "check").arg(required(alloc, "listing"))?;
+    let command = Command::new(alloc, "check")
+        .arg(required(alloc, "listing"))?
+        .arg(flag(alloc, "explain"))?;
     with_options(alloc, command)
 }
 

@@ -25,6 +25,7 @@ pub fn known_explore_lines()
           states = 1000000;
           every_step = false;
           form = Format.Text;
+          explained = false;
           question = Outcomes None;
         }) }
     ensures shown { explore_asked (codes "cheri_explore" ∷ codes "outcomes" ∷ codes "first.lst"
@@ -35,6 +36,7 @@ pub fn known_explore_lines()
           states = 1000000;
           every_step = false;
           form = Format.Text;
+          explained = false;
           question = Outcomes (Some (codes "0.c7,mem8[0x10]"));
         }) }
     ensures shown_nothing { explore_asked (codes "cheri_explore" ∷ codes "outcomes"
@@ -45,6 +47,7 @@ pub fn known_explore_lines()
           states = 1000000;
           every_step = false;
           form = Format.Text;
+          explained = false;
           question = Outcomes (Some []);
         }) }
     ensures find { explore_asked (codes "cheri_explore" ∷ codes "find" ∷ codes "first.lst"
@@ -55,6 +58,7 @@ pub fn known_explore_lines()
           states = 1000000;
           every_step = false;
           form = Format.Json;
+          explained = false;
           question = Find (codes "0 is halted");
         }) }
     ensures authority { explore_asked (codes "cheri_explore" ∷ codes "authority"
@@ -65,6 +69,7 @@ pub fn known_explore_lines()
           states = 10;
           every_step = false;
           form = Format.Text;
+          explained = false;
           question = Authority;
         }) }
     ensures steps { explore_asked (codes "cheri_explore" ∷ codes "find" ∷ codes "first.lst"
@@ -75,6 +80,7 @@ pub fn known_explore_lines()
           states = 1000000;
           every_step = true;
           form = Format.Text;
+          explained = false;
           question = Find (codes "0 is halted");
         }) }
     ensures swept { explore_asked (codes "cheri_explore" ∷ codes "authority" ∷ codes "first.lst"
@@ -86,6 +92,7 @@ pub fn known_explore_lines()
           states = 1000000;
           every_step = false;
           form = Format.Text;
+          explained = false;
           question = Authority;
         }) }
     ensures empty_sweep { explore_asked (codes "cheri_explore" ∷ codes "outcomes"
@@ -96,6 +103,7 @@ pub fn known_explore_lines()
           states = 1000000;
           every_step = false;
           form = Format.Text;
+          explained = false;
           question = Outcomes None;
         }) }
     ensures most_states { explore_asked (codes "cheri_explore" ∷ codes "outcomes"
@@ -106,6 +114,7 @@ pub fn known_explore_lines()
           states = 100000000;
           every_step = false;
           form = Format.Text;
+          explained = false;
           question = Outcomes None;
         }) }
     ensures too_many_states { explore_asked (codes "cheri_explore" ∷ codes "outcomes"
@@ -164,8 +173,43 @@ pub fn known_explore_lines()
           states = 7;
           every_step = true;
           form = Format.Json;
+          explained = false;
           question = Check;
         }) }
+    ensures check_explained { explore_asked (codes "cheri_explore" ∷ codes "check"
+        ∷ codes "first.lst" ∷ codes "--explain" ∷ [])
+        ≡ Some (record {
+          listing = codes "first.lst";
+          sweeps = [];
+          states = 1000000;
+          every_step = false;
+          form = Format.Text;
+          explained = true;
+          question = Check;
+        }) }
+    ensures find_explained { explore_asked (codes "cheri_explore" ∷ codes "find"
+        ∷ codes "--explain" ∷ codes "first.lst" ∷ codes "0 is halted" ∷ [])
+        ≡ Some (record {
+          listing = codes "first.lst";
+          sweeps = [];
+          states = 1000000;
+          every_step = false;
+          form = Format.Text;
+          explained = true;
+          question = Find (codes "0 is halted");
+        }) }
+    ensures explained_twice { explore_asked (codes "cheri_explore" ∷ codes "check"
+        ∷ codes "first.lst" ∷ codes "--explain" ∷ codes "--explain" ∷ [])
+        ≡ None }
+    ensures explained_with_a_value { explore_asked (codes "cheri_explore" ∷ codes "check"
+        ∷ codes "first.lst" ∷ codes "--explain=1" ∷ [])
+        ≡ None }
+    ensures explained_in_json { explore_asked (codes "cheri_explore" ∷ codes "check"
+        ∷ codes "first.lst" ∷ codes "--explain" ∷ codes "--json" ∷ [])
+        ≡ None }
+    ensures explained_outcomes { explore_asked (codes "cheri_explore" ∷ codes "outcomes"
+        ∷ codes "first.lst" ∷ codes "--explain" ∷ [])
+        ≡ None }
     ensures check_with_sweep { explore_asked (codes "cheri_explore" ∷ codes "check"
         ∷ codes "first.lst" ∷ codes "--sweep" ∷ codes "0,1" ∷ [])
         ≡ None }

@@ -1,12 +1,15 @@
 //! The command line of `cheri_explore`.
 #![tactic(auto, unfolding(crate::specs::Requests::question_of, crate::specs::Requests::explore_asked_of))]
 
-ghost use Rattle.std.specs.Prelude.{◌≡◌, ◌≤◌, Err, IfOk, IfSome, None, Some, codes, length, option_and_then, option_map};
+ghost use Rattle.std.specs.Prelude.{◌≡◌, ◌≤◌, Err, IfOk, IfSome};
+ghost use Rattle.std.specs.Prelude.{None, Some, codes, length, option_and_then, option_map};
 ghost use Rattle.clap.specs.Words.{first_of, found_of, rows_of, subcommand_rows_of};
+ghost use Rattle.command_line.specs.Found.{form_of, is_given};
 ghost use Rattle.command_line.specs.Numbers.{number_or};
 ghost use Rattle.explore_line.specs.Requests.{
   explore_asked_by,
   explore_asked_of,
+  explained_in,
   question_asked_by,
   question_of,
 };
@@ -42,7 +45,7 @@ pub enum Question<'a> {
 /// What a command line asks for: to search the states that the image of the listing in the file of
 /// this name reaches, with these sweeps, up to so many states, and to answer in this form. Where
 /// `every_step` is true, states are told apart after each step, also where the question doesn't
-/// see it.
+/// see it. Where `explained` is true, the answer's orders are explained, and the form is text.
 #[derive(Debug, Drop)]
 pub struct ExploreRequest<'a> {
     pub listing: &'a str,
@@ -50,6 +53,7 @@ pub struct ExploreRequest<'a> {
     pub states: u32,
     pub every_step: bool,
     pub form: Format,
+    pub explained: bool,
     pub question: Question<'a>,
 }
 
@@ -86,6 +90,25 @@ fn states_found(found: &ArgMatches<'_>) -> Option<u32>
     )
 }
 
+/// Whether orders are explained, which is not asked for in JSON.
+fn explained_in(form: Format, explained: bool) -> Option<bool>
+    ensures { result ≡ explained_in form explained }
+{
+    match form {
+        Format::Text => Some(explained),
+        Format::Json => { if explained { None } else { Some(false) } }
+    }
+}
+
+/// Whether orders are explained, by the arguments that were found.
+fn explained_found(found: &ArgMatches<'_>) -> Option<bool>
+    ensures { result ≡ explained_in
+        (form_of (first_of (codes "json") (rows_of (found_of found.now))))
+        (is_given (first_of (codes "explain") (rows_of (found_of found.now)))) }
+{
+    explained_in(form_found(found), flag_found(found, "explain"))
+}
+
 /// What the command of this name asks for with the arguments that were found.
 fn explore_of<'a>(
     alloc: Global,
@@ -103,6 +126,7 @@ fn explore_of<'a>(
     let question = question_of(name, found).ok_or(CommandFault::Usage)?;
     let listing = value_found(found, "listing").ok_or(CommandFault::Usage)?;
     let states = states_found(found).ok_or(CommandFault::Usage)?;
+    let explained = explained_found(found).ok_or(CommandFault::Usage)?;
     let sweeps = sweeps_found(alloc, found)?;
     Ok(ExploreRequest {
         listing,
@@ -110,6 +134,7 @@ fn explore_of<'a>(
         states,
         every_step: flag_found(found, "steps"),
         form: form_found(found),
+        explained,
         question,
     })
 }

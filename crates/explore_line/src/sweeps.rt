@@ -1,6 +1,7 @@
 //! The sweeps of a search.
 
-ghost use Rattle.std.specs.Prelude.{◌≡◌, ◌≤◌, Err, IfOk, None, Some, codes, length, map, option_map};
+ghost use Rattle.std.specs.Prelude.{◌≡◌, ◌≤◌, Err, IfOk, None};
+ghost use Rattle.std.specs.Prelude.{Some, codes, length, map, option_map};
 ghost use Rattle.clap.specs.Words.{all_of, found_of, rows_of};
 ghost use Rattle.explore_line.specs.Sweeps.{few_sweeps_of, sweeps_in};
 ghost use Rattle.explore_sweeps.specs.Sweeps.{sweep_of};

@@ -1,5 +1,6 @@
 -- What the program answers to its command line, and how it ends.
-use Rattle.std.specs.Prelude.{◌≡◌, ℕ, ◌⊎◌, Bool, true, false, List, map, codes, Option, Some, None, Result, Ok, Err}
+use Rattle.std.specs.Prelude.{◌≡◌, ℕ, ◌⊎◌, Bool, true, false, List}
+use Rattle.std.specs.Prelude.{map, codes, Option, Some, None, Result, Ok, Err}
 use Rattle.std.specs.Prelude.{String}
 use Rattle.std.specs.Global.{Global}
 use Rattle.cheri_model.specs.runs.Image.{ImageParts}
@@ -45,7 +46,8 @@ search_asked image asked = record {
 abbrev pub IsRequestAnswer : LabelParts → List ℕ → ImageParts → ExploreAsked → Answer Ending Fault
     → Type 0
 IsRequestAnswer labels text image asked answer =
-    IsSaidTo asked.question labels text (search_asked image asked) (format_of asked.form) answer
+    IsSaidTo asked.question labels text (search_asked image asked) (format_of asked.form)
+    asked.explained answer
 
 -- the answers to a request; `usage` where the arguments ask for nothing
 abbrev pub IsAnswer : KnownFiles → Option ExploreAsked → Answer Ending Fault → Type 0

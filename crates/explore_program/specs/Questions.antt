@@ -1,6 +1,10 @@
 -- What is answered to each question, of the image of a listing.
-use Rattle.std.specs.Prelude.{◌≡◌, ℕ, List, map, Result, Ok, Err, Some, None}
+use Rattle.std.specs.Prelude.{◌≡◌, ℕ, Bool, true, false, List}
+use Rattle.std.specs.Prelude.{◌++◌, map, Result, Ok, Err, Some, None}
 use Rattle.authority_texts.specs.Answers.{IsAuthorityAnswer}
+use Rattle.cheri_model.specs.declared.operation.Op.{Op}
+use Rattle.cheri_model.specs.runs.Image.{ImageParts}
+use Rattle.explained_orders.specs.ExplainedOrders.{explained_orders}
 use Rattle.explore_checks.specs.Checks.{IsCheckAnswer}
 use Rattle.explore_line.specs.Requests.{AskedQuestion, Find, Outcomes, Authority, Check}
 use Rattle.explore_properties.specs.Properties.{PropertiesParts}
@@ -34,10 +38,26 @@ abbrev pub IsSaidOf : {X E : Type 0} → (E → Fault) → (X → List ℕ → E
 IsSaidOf fault answers (Ok x) answer = IsSaid (answers x) answer
 IsSaidOf fault answers (Err e) answer = answer ≡ Err (fault e)
 
--- `find`, with the condition that a text writes beside a listing with these labels
-abbrev pub IsFindSaid : LabelParts → SearchParts → Format → List ℕ → Answer Ending Fault → Type 0
-IsFindSaid labels search format condition answer =
-    IsSaidOf (λ byte. text_fault (Condition byte)) (λ nodes. IsFindAnswer search nodes format)
+-- an answer, and where this is asked for, after it the orders that it tells of, explained: those of
+-- the listing that has this text and this image
+abbrev pub explained_text : Bool → List ℕ → ImageParts → List (List Op) → List ℕ → List ℕ
+explained_text false text image orders told = told
+explained_text true text image orders told = told ++ explained_orders text image orders
+
+pub record IsExplained (explained : Bool) (text : List ℕ) (image : ImageParts)
+    (answers : List (List Op) → List ℕ → Ending → Type 0) (said : List ℕ) (ending : Ending)
+    : Type 0 where
+  pub orders : List (List Op)
+  pub told : List ℕ
+  pub answer : answers orders told ending
+  pub said_is : said ≡ explained_text explained text image orders told
+
+-- `find`, with the condition that a text writes beside a listing with this text and these labels
+abbrev pub IsFindSaid : LabelParts → List ℕ → SearchParts → Format → Bool → List ℕ
+    → Answer Ending Fault → Type 0
+IsFindSaid labels text search format explained condition answer =
+    IsSaidOf (λ byte. text_fault (Condition byte))
+    (λ nodes. IsExplained explained text search.image (IsFindAnswer search nodes format))
     (condition_of labels search.image condition) answer
 
 -- `outcomes`, with the items that a text writes
@@ -51,22 +71,25 @@ abbrev pub swept_by : SearchParts → PropertiesParts → SearchParts
 swept_by search read = record search { sweeps = map range_of read.sweeps }
 
 -- `check`, of the listing that has this text and these labels
-abbrev pub IsCheckSaid : LabelParts → List ℕ → SearchParts → Format → Answer Ending Fault → Type 0
-IsCheckSaid labels text search format answer =
+abbrev pub IsCheckSaid : LabelParts → List ℕ → SearchParts → Format → Bool
+    → Answer Ending Fault → Type 0
+IsCheckSaid labels text search format explained answer =
     IsSaidOf property_fault
-    (λ read. IsCheckAnswer (swept_by search read) read.properties format)
+    (λ read. IsExplained explained text search.image
+    (IsCheckAnswer (swept_by search read) read.properties format))
     (properties_of labels search.image text) answer
 
 -- the answers to a question of the command line, about the listing that has this text and these
--- labels
-abbrev pub IsSaidTo : AskedQuestion → LabelParts → List ℕ → SearchParts → Format
+-- labels, of which those to `find` and `check` may have their orders explained
+abbrev pub IsSaidTo : AskedQuestion → LabelParts → List ℕ → SearchParts → Format → Bool
     → Answer Ending Fault → Type 0
-IsSaidTo (Find condition) labels text search format answer =
-    IsFindSaid labels search format condition answer
-IsSaidTo (Outcomes None) labels text search format answer =
+IsSaidTo (Find condition) labels text search format explained answer =
+    IsFindSaid labels text search format explained condition answer
+IsSaidTo (Outcomes None) labels text search format explained answer =
     IsSaid (IsListedAnswer search format) answer
-IsSaidTo (Outcomes (Some items)) labels text search format answer =
+IsSaidTo (Outcomes (Some items)) labels text search format explained answer =
     IsShownSaid search format items answer
-IsSaidTo Authority labels text search format answer =
+IsSaidTo Authority labels text search format explained answer =
     IsSaid (IsAuthorityAnswer search format) answer
-IsSaidTo Check labels text search format answer = IsCheckSaid labels text search format answer
+IsSaidTo Check labels text search format explained answer =
+    IsCheckSaid labels text search format explained answer

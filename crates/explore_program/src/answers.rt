@@ -8,11 +8,12 @@ ghost use Rattle.listings.specs.Meaning.{listing_meaning};
 ghost use Rattle.printing.specs.Endings.{HasWhole, FailsBy};
 ghost use Rattle.states.specs.Searches.{IsSearchable, search_of};
 ghost use Rattle.explore_program.specs.Faults.{failure_of};
-ghost use Rattle.explore_program.specs.Questions.{IsCheckSaid, IsFindSaid, IsSaid, IsSaidTo, IsShownSaid};
+ghost use Rattle.explore_program.specs.Questions.{IsCheckSaid, IsFindSaid};
+ghost use Rattle.explore_program.specs.Questions.{IsSaid, IsSaidTo, IsShownSaid};
 
 use crate::faults::{Fault, property_fault, text_fault};
 use crate::questions::{
-    Authority, Check, Find, Outcomes, SearchQuestion, ShownOutcomes, ranges_of,
+    Authority, Check, Explaining, Find, Outcomes, SearchQuestion, ShownOutcomes, ranges_of,
 };
 use condition_texts::{read_condition, read_items};
 use explore_line::Question;
@@ -24,14 +25,15 @@ use sinks::Sink;
 use states::Search;
 use std::alloc::Global;
 
-/// What a question is asked of: a search, the labels and the text of its listing, and how the answer
-/// is written.
+/// What a question is asked of: a search, the labels and the text of its listing, how the answer is
+/// written, and whether its orders are explained.
 #[derive(Clone, Copy)]
 pub struct Asking<'l, 's> {
     pub labels: &'l Labels<'l>,
     pub text: &'l [u8],
     pub search: Search<'s>,
     pub format: Format,
+    pub explained: bool,
 }
 
 /// Answers a question.
@@ -60,22 +62,26 @@ fn answer_find<P: Progress, S: Sink>(
     progress: &mut P,
     sink: &mut S,
 ) -> Result<Ending, Fault>
-    requires { IsSearchable (search_of asking.search) }
+    requires meaning { listing_meaning asking.text.now ≡ Ok asking.search.image.now }
+    requires search { IsSearchable (search_of asking.search) }
     ensures printed { IfOk result (λ ending. HasWhole
-        (IsFindSaid (label_parts asking.entry.labels.now) (search_of asking.entry.search)
-        asking.entry.format condition.now) ending
+        (IsFindSaid (label_parts asking.entry.labels.now) asking.entry.text.now
+        (search_of asking.entry.search) asking.entry.format asking.entry.explained
+        condition.now) ending
         (S.written sink.old) (S.written sink.new)) }
     ensures failed { IfErr result (λ fault. FailsBy (failure_of fault)
-        (IsFindSaid (label_parts asking.entry.labels.now) (search_of asking.entry.search)
-        asking.entry.format condition.now) fault
+        (IsFindSaid (label_parts asking.entry.labels.now) asking.entry.text.now
+        (search_of asking.entry.search) asking.entry.format asking.entry.explained
+        condition.now) fault
         (S.written sink.old) (S.written sink.new)) }
     ensures identity { S.identity sink.new ≡ S.identity sink.old }
 {
     let Asking {
         labels,
+        text,
         search,
         format,
-        ..
+        explained,
     } = asking;
     let condition = match read_condition(alloc, labels, search.image, condition) {
         Ok(condition) => condition,
@@ -84,6 +90,7 @@ fn answer_find<P: Progress, S: Sink>(
     let question = Find {
         search,
         format,
+        explaining: Explaining { explained, text },
         condition: &condition,
     };
     ask(alloc, &question, progress, sink)
@@ -130,11 +137,11 @@ fn answer_check<P: Progress, S: Sink>(
     requires search { IsSearchable (search_of asking.search) }
     ensures printed { IfOk result (λ ending. HasWhole
         (IsCheckSaid (label_parts asking.entry.labels.now) asking.entry.text.now
-        (search_of asking.entry.search) asking.entry.format) ending
+        (search_of asking.entry.search) asking.entry.format asking.entry.explained) ending
         (S.written sink.old) (S.written sink.new)) }
     ensures failed { IfErr result (λ fault. FailsBy (failure_of fault)
         (IsCheckSaid (label_parts asking.entry.labels.now) asking.entry.text.now
-        (search_of asking.entry.search) asking.entry.format) fault
+        (search_of asking.entry.search) asking.entry.format asking.entry.explained) fault
         (S.written sink.old) (S.written sink.new)) }
     ensures identity { S.identity sink.new ≡ S.identity sink.old }
 {
@@ -143,6 +150,7 @@ fn answer_check<P: Progress, S: Sink>(
         text,
         search,
         format,
+        explained,
     } = asking;
     let read = match read_properties(alloc, labels, search.image, text) {
         Ok(read) => read,
@@ -159,6 +167,7 @@ fn answer_check<P: Progress, S: Sink>(
     let question = Check {
         search,
         format,
+        explaining: Explaining { explained, text },
         properties,
     };
     ask(alloc, &question, progress, sink)
@@ -176,11 +185,13 @@ pub fn answer_question<P: Progress, S: Sink>(
     requires search { IsSearchable (search_of asking.search) }
     ensures printed { IfOk result (λ ending. HasWhole
         (IsSaidTo (question_asked_by question.entry) (label_parts asking.entry.labels.now)
-        asking.entry.text.now (search_of asking.entry.search) asking.entry.format) ending
+        asking.entry.text.now (search_of asking.entry.search) asking.entry.format
+        asking.entry.explained) ending
         (S.written sink.old) (S.written sink.new)) }
     ensures failed { IfErr result (λ fault. FailsBy (failure_of fault)
         (IsSaidTo (question_asked_by question.entry) (label_parts asking.entry.labels.now)
-        asking.entry.text.now (search_of asking.entry.search) asking.entry.format) fault
+        asking.entry.text.now (search_of asking.entry.search) asking.entry.format
+        asking.entry.explained) fault
         (S.written sink.old) (S.written sink.new)) }
     ensures identity { S.identity sink.new ≡ S.identity sink.old }
 {

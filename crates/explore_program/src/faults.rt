@@ -1,7 +1,8 @@
 //! The faults that only this program has.
 
 ghost use Rattle.std.specs.Prelude.{◌≡◌};
-ghost use Rattle.explore_program.specs.Faults.{is_refusal, own_text, refused_properties, text_fault};
+ghost use Rattle.explore_program.specs.Faults.{is_refusal, own_text};
+ghost use Rattle.explore_program.specs.Faults.{refused_properties, text_fault};
 
 use condition_texts::TextFault;
 use explore_properties::{PropertyFault, PropertyPlace};

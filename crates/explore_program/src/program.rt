@@ -82,6 +82,7 @@ fn answer_labelled<S: Sink, P: Progress>(
         text,
         search,
         format: format_of(request.form),
+        explained: request.explained,
     };
     answer_question(alloc, request.question, asking, progress, sink)
 }
@@ -99,10 +100,12 @@ fn answer_listed<S: Sink, P: Progress>(
     requires some { 1 ≤ request.now.states }
     requires few { length request.now.sweeps.items ≤ MAX_SWEEPS }
     ensures printed { IfOk result (λ ending. HasWhole
-        (IsRequestAnswer (labels_of text.now) text.now image.now (explore_asked_by request.now)) ending
+        (IsRequestAnswer (labels_of text.now) text.now image.now
+        (explore_asked_by request.now)) ending
         (S.written sink.old) (S.written sink.new)) }
     ensures failed { IfErr result (λ fault. FailsBy (failure_of fault)
-        (IsRequestAnswer (labels_of text.now) text.now image.now (explore_asked_by request.now)) fault
+        (IsRequestAnswer (labels_of text.now) text.now image.now
+        (explore_asked_by request.now)) fault
         (S.written sink.old) (S.written sink.new)) }
     ensures identity { S.identity sink.new ≡ S.identity sink.old }
 {

@@ -1,28 +1,32 @@
 //! The questions, each of the states that the image of a listing reaches.
 
-ghost use Rattle.std.specs.Prelude.{◌≡◌, ◌+◌, ℕ, List, IfOk, IfErr, map};
+ghost use Rattle.std.specs.Prelude.{◌≡◌, ◌+◌, ℕ, List, Ok, IfOk, IfErr, true, map, string_bytes};
+ghost use Rattle.std.specs.Io.KnownBytes.{Appends};
 ghost use Rattle.authority_texts.specs.Answers.{IsAuthorityAnswer};
 ghost use Rattle.conditions.specs.Items.{list_of};
 ghost use Rattle.explore_checks.specs.Checks.{IsCheckAnswer};
 ghost use Rattle.found_texts.specs.Find.{IsFindAnswer};
+ghost use Rattle.listings.specs.Meaning.{listing_meaning};
+ghost use Rattle.order_texts.specs.OrderTexts.{orders_of};
 ghost use Rattle.outcome_texts.specs.Answers.{IsListedAnswer, IsShownAnswer};
 ghost use Rattle.shown_states.specs.Endings.{failures_of, IsUnwritten, IsWritten};
 ghost use Rattle.shown_states.specs.declared.form.Ending.{Ending};
-ghost use Rattle.explore_program.specs.Questions.{range_of};
+ghost use Rattle.explore_program.specs.Questions.{explained_text, IsExplained, range_of};
 ghost use Rattle.states.specs.Searches.{IsSearchable, search_of};
 
 use authority_texts::authority;
-use cheri_model::NoMemory;
+use cheri_model::{Image, NoMemory};
 use conditions::{Condition, Items};
+use explained_orders::explain_orders;
 use explore_checks::check;
 use explore_line::Sweep;
 use explore_properties::Property;
-use found_texts::find;
+use found_texts::{Told, find};
 use graph_search::Progress;
 use outcome_texts::{list_outcomes, show_outcomes};
 use schedules::SweepRange;
-use shown_states::{Ending, Format};
-use sinks::{Sink, WriteFault};
+use shown_states::{Ending, Format, put_answer};
+use sinks::{MemSink, Sink, WriteFault, put_whole};
 use states::Search;
 use std::alloc::Global;
 
@@ -66,18 +70,102 @@ pub trait SearchQuestion {
         ensures identity { S.identity sink.new ≡ S.identity sink.old };
 }
 
+/// Whether the orders that an answer tells of are explained after it, and the text of the listing
+/// whose orders they are.
+#[derive(Clone, Copy)]
+pub struct Explaining<'t> {
+    pub explained: bool,
+    pub text: &'t [u8],
+}
+
+/// An answer, and after it the orders that it tells of, explained. Fails only when out of memory.
+fn explained(alloc: Global, text: &[u8], image: &Image, told: &Told) -> Result<MemSink, NoMemory>
+    requires { listing_meaning text.now ≡ Ok image.now }
+    ensures { IfOk result (λ said. said.bytes ≡ explained_text true text.now image.now
+        (orders_of told.now.orders.items) (string_bytes told.now.answer.text)) }
+{
+    let answer = told.answer.text.as_bytes();
+    explain_orders(alloc, text, image, answer, told.orders.as_slice())
+}
+
+/// Puts bytes, after which the answer ends so. Where the sink fails, it took a prefix of them.
+fn put_said<S: Sink>(sink: &mut S, said: &[u8], ending: Ending) -> Result<Ending, WriteFault>
+    ensures written { IfOk result (λ e. (e ≡ ending)
+        × Appends (S.written sink.old) (S.written sink.new) said.now) }
+    ensures begun { IfErr result (IsUnwritten (λ text. text ≡ said.now)
+        (S.written sink.old) (S.written sink.new)) }
+    ensures failures { S.failures sink.new ≡ S.failures sink.old + failures_of result }
+    ensures identity { S.identity sink.new ≡ S.identity sink.old }
+{
+    put_whole(sink, said)?;
+    Ok(ending)
+}
+
+/// Puts an answer, and after it the orders that it tells of, explained. Where memory runs out,
+/// nothing is put; where the sink fails, it took a prefix.
+fn put_explained<S: Sink>(
+    alloc: Global,
+    text: &[u8],
+    image: &Image,
+    told: &Told,
+    sink: &mut S,
+) -> Result<Ending, WriteFault>
+    requires { listing_meaning text.now ≡ Ok image.now }
+    ensures written { IfOk result (λ ending. (ending ≡ told.now.answer.ending)
+        × Appends (S.written sink.old) (S.written sink.new) (explained_text true text.now image.now
+        (orders_of told.now.orders.items) (string_bytes told.now.answer.text))) }
+    ensures begun { IfErr result (IsUnwritten (λ said. said ≡ explained_text true text.now image.now
+        (orders_of told.now.orders.items) (string_bytes told.now.answer.text))
+        (S.written sink.old) (S.written sink.new)) }
+    ensures failures { S.failures sink.new ≡ S.failures sink.old + failures_of result }
+    ensures identity { S.identity sink.new ≡ S.identity sink.old }
+{
+    let said = explained(alloc, text, image, told)?;
+    put_said(sink, said.bytes(), told.answer.ending)
+}
+
+/// Puts an answer, and after it, where this is asked for, the orders that it tells of, explained.
+fn put_told<S: Sink>(
+    alloc: Global,
+    explaining: Explaining<'_>,
+    image: &Image,
+    told: &Told,
+    sink: &mut S,
+) -> Result<Ending, WriteFault>
+    requires { listing_meaning explaining.text.now ≡ Ok image.now }
+    ensures written { IfOk result (λ ending. (ending ≡ told.now.answer.ending)
+        × Appends (S.written sink.old) (S.written sink.new)
+        (explained_text explaining.entry.explained explaining.entry.text.now image.now
+        (orders_of told.now.orders.items) (string_bytes told.now.answer.text))) }
+    ensures begun { IfErr result (IsUnwritten (λ said. said
+        ≡ explained_text explaining.entry.explained explaining.entry.text.now image.now
+        (orders_of told.now.orders.items) (string_bytes told.now.answer.text))
+        (S.written sink.old) (S.written sink.new)) }
+    ensures failures { S.failures sink.new ≡ S.failures sink.old + failures_of result }
+    ensures identity { S.identity sink.new ≡ S.identity sink.old }
+{
+    if explaining.explained {
+        put_explained(alloc, explaining.text, image, told, sink)
+    } else {
+        put_answer(sink, &told.answer)
+    }
+}
+
 /// Which state is the first in which a condition holds?
 #[derive(Clone, Copy)]
-pub struct Find<'a, 'b> {
+pub struct Find<'a, 'b, 't> {
     pub search: Search<'a>,
     pub format: Format,
+    pub explaining: Explaining<'t>,
     pub condition: &'b Condition,
 }
 
-impl<'a, 'b> SearchQuestion for Find<'a, 'b> {
-    ghost is_askable = { λ q. IsSearchable (search_of q.search) };
+impl<'a, 'b, 't> SearchQuestion for Find<'a, 'b, 't> {
+    ghost is_askable = { λ q. IsSearchable (search_of q.search)
+        × (listing_meaning q.explaining.text.now ≡ Ok q.search.image.now) };
 
-    ghost answers = { λ q. IsFindAnswer (search_of q.search) q.condition.now q.format };
+    ghost answers = { λ q. IsExplained q.explaining.explained q.explaining.text.now
+        q.search.image.now (IsFindAnswer (search_of q.search) q.condition.now q.format) };
 
     fn write<P: Progress, S: Sink>(
         &self,
@@ -85,14 +173,8 @@ impl<'a, 'b> SearchQuestion for Find<'a, 'b> {
         progress: &mut P,
         sink: &mut S,
     ) -> Result<Ending, WriteFault> {
-        find(
-            alloc,
-            &self.search,
-            self.condition,
-            self.format,
-            progress,
-            sink,
-        )
+        let told = find(alloc, &self.search, self.condition, self.format, progress)?;
+        put_told(alloc, self.explaining, self.search.image, &told, sink)
     }
 }
 
@@ -165,16 +247,19 @@ impl<'a, 'b, 'c> SearchQuestion for ShownOutcomes<'a, 'b, 'c> {
 
 /// Do the properties hold that the listing carries?
 #[derive(Clone, Copy)]
-pub struct Check<'a, 'b, 'c> {
+pub struct Check<'a, 'b, 'c, 't> {
     pub search: Search<'a>,
     pub format: Format,
+    pub explaining: Explaining<'t>,
     pub properties: &'b [Property<'c>],
 }
 
-impl<'a, 'b, 'c> SearchQuestion for Check<'a, 'b, 'c> {
-    ghost is_askable = { λ q. IsSearchable (search_of q.search) };
+impl<'a, 'b, 'c, 't> SearchQuestion for Check<'a, 'b, 'c, 't> {
+    ghost is_askable = { λ q. IsSearchable (search_of q.search)
+        × (listing_meaning q.explaining.text.now ≡ Ok q.search.image.now) };
 
-    ghost answers = { λ q. IsCheckAnswer (search_of q.search) q.properties.now q.format };
+    ghost answers = { λ q. IsExplained q.explaining.explained q.explaining.text.now
+        q.search.image.now (IsCheckAnswer (search_of q.search) q.properties.now q.format) };
 
     fn write<P: Progress, S: Sink>(
         &self,
@@ -182,13 +267,7 @@ impl<'a, 'b, 'c> SearchQuestion for Check<'a, 'b, 'c> {
         progress: &mut P,
         sink: &mut S,
     ) -> Result<Ending, WriteFault> {
-        check(
-            alloc,
-            &self.search,
-            self.properties,
-            self.format,
-            progress,
-            sink,
-        )
+        let told = check(alloc, &self.search, self.properties, self.format, progress)?;
+        put_told(alloc, self.explaining, self.search.image, &told, sink)
     }
 }

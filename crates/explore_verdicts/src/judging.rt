@@ -117,8 +117,8 @@ fn judge_property<'p, 'a>(
     Ok(PropertyVerdict { property, verdict })
 }
 
-/// The verdicts on properties, one by one, by the kept states of a search that passed over none that
-/// decides, and by whether runs through them go on for ever. Fails only when out of memory.
+/// The verdicts on properties, one by one, by the kept states of a search that passed over none
+/// that decides, and by whether runs through them go on for ever. Fails only when out of memory.
 pub fn judge_all<'p, 'a>(
     alloc: Global,
     kept: &Kept,

@@ -1,5 +1,5 @@
 -- What the search for a state answers.
-use Rattle.std.specs.Prelude.{◌≡◌, ℕ, ◌≤◌, List, Option, Some, None, Bool, true, false}
+use Rattle.std.specs.Prelude.{◌≡◌, ℕ, ◌≤◌, List, [], ◌∷◌, Option, Some, None, Bool, true, false}
 use Rattle.cheri_model.specs.declared.operation.Op.{Op}
 use Rattle.cheri_model.specs.runs.Image.{ImageParts}
 use Rattle.cheri_model.specs.runs.Machine.{MachineState, opening_state}
@@ -37,26 +37,30 @@ pub record IsLed (every_step : Bool) (condition : List Node) (kept : KeptParts) 
   pub least : every_step ≡ true → (at kept number ≡ Some state)
       × IsWitnessOrder kept.image kept.sweeps kept.sight state order
 
--- a text says such an order and the state that it leaves
+-- a text says such an order, the only one, and the state that it leaves
 pub record IsShown (every_step : Bool) (condition : List Node) (format : Format)
-    (kept : KeptParts) (number : ℕ) (text : List ℕ) : Type 0 where
+    (kept : KeptParts) (number : ℕ) (orders : List (List Op)) (text : List ℕ) : Type 0 where
   pub state : MachineState
   pub order : List Op
   pub led : IsLed every_step condition kept number order state
+  pub told : orders ≡ order ∷ []
   pub text_is : text ≡ found format kept.image order state
 
--- a text, and how it ends, say whether a kept state was found, and what leads to one
-abbrev pub Says : Bool → List Node → Format → KeptParts → Option ℕ → List ℕ → Ending → Type 0
-Says every_step condition format kept None text ending =
-    (text ≡ absent format kept.complete kept.image (count kept))
+-- a text with its orders, and how it ends, say whether a kept state was found, and what leads to
+-- one
+abbrev pub Says : Bool → List Node → Format → KeptParts → Option ℕ → List (List Op) → List ℕ
+    → Ending → Type 0
+Says every_step condition format kept None orders text ending =
+    (orders ≡ []) × (text ≡ absent format kept.complete kept.image (count kept))
     × (ending ≡ absent_ending kept.complete)
-Says every_step condition format kept (Some number) text ending =
-    IsShown every_step condition format kept number text × (ending ≡ Done)
+Says every_step condition format kept (Some number) orders text ending =
+    IsShown every_step condition format kept number orders text × (ending ≡ Done)
 
--- The answer: that there is a kept state in which the condition holds, and what leads to one, or
--- that there is none. Where there is none, all states were kept, or as many as may be.
+-- The answer, with the orders that it tells of: that there is a kept state in which the condition
+-- holds, and what leads to one, or that there is none. Where there is none, all states were kept,
+-- or as many as may be.
 pub record IsFindAnswer (search : SearchParts) (condition : List Node) (format : Format)
-    (text : List ℕ) (ending : Ending) : Type 0 where
+    (orders : List (List Op)) (text : List ℕ) (ending : Ending) : Type 0 where
   pub kept : KeptParts
   pub kept_of : IsKeptOf search (sights.Condition condition) kept
   pub searched : IsSearch kept
@@ -64,7 +68,7 @@ pub record IsFindAnswer (search : SearchParts) (condition : List Node) (format :
   pub number : Option ℕ
   pub first : IsFirstPassing kept (λ s. holds s condition) number
   pub whole : number ≡ None → IsWhole kept search.limit
-  pub says : Says search.every_step condition format kept number text ending
+  pub says : Says search.every_step condition format kept number orders text ending
 
 -- no legal order of steps and of the search's sweeps leads to a state in which the condition holds
 abbrev pub IsNowhere : SearchParts → List Node → Type 0

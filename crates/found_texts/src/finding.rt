@@ -3,15 +3,14 @@
 ghost use Rattle.std.specs.Prelude.{
   ◌≡◌,
   ℕ,
-  ◌+◌,
   ◌<◌,
   string_bytes,
   true,
+  [],
+  ◌∷◌,
   None,
   Some,
-  Ok,
   IfOk,
-  IfErr,
   IfSome,
 };
 ghost use Rattle.cheri_model.specs.runs.Machine.{MachineState, opening_state};
@@ -23,9 +22,9 @@ ghost use Rattle.found_texts.specs.Find.{
   IsShortened,
   Says,
 };
-ghost use Rattle.found_texts.specs.FoundTexts.{absent, absent_ending};
-ghost use Rattle.shown_states.specs.Endings.{failures_of, IsUnwritten, IsWritten};
+ghost use Rattle.found_texts.specs.FoundTexts.{absent, absent_ending, found};
 ghost use Rattle.shown_states.specs.declared.form.Ending.{Ending};
+ghost use Rattle.order_texts.specs.OrderTexts.{orders_of};
 ghost use Rattle.states.specs.Kept.{at, count, IsFirstPassing, IsKeptOf, IsWitnessOrder};
 ghost use Rattle.states.specs.Searches.{IsSearchable, search_of};
 
@@ -38,10 +37,16 @@ use conditions::Condition;
 use cores::Core;
 use explore_sights::Sight;
 use graph_search::Progress;
-use shown_states::{Answer, ConditionTest, Ending, Format, Loaded, put_answer};
-use sinks::{Sink, WriteFault};
+use shown_states::{Answer, ConditionTest, Ending, Format, Loaded};
 use states::{Found, Kept, Search, find_from};
 use std::alloc::{AllocError, Global};
+
+/// An answer, and the orders that it tells of.
+#[derive(Drop)]
+pub struct Told {
+    pub answer: Answer,
+    pub orders: Vec<Vec<Op>>,
+}
 
 /// An order, and the state that it leaves.
 #[derive(Drop)]
@@ -134,18 +139,40 @@ fn absent_ending(complete: bool) -> Ending
     }
 }
 
-/// That answer.
-fn none_found(alloc: Global, format: Format, kept: &Kept) -> Result<Answer, NoMemory>
-    ensures says { IfOk result (λ answer.
-        (string_bytes answer.text ≡ absent format kept.now.complete kept.now.image (count kept.now))
-        × (answer.ending ≡ absent_ending kept.now.complete)) }
-    ensures complete { IfOk result (λ answer. answer.ending ≡ Ending.Nowhere
+/// That answer, which tells of no order.
+fn none_found(alloc: Global, format: Format, kept: &Kept) -> Result<Told, NoMemory>
+    ensures says { IfOk result (λ told. (orders_of told.orders.items ≡ [])
+        × (string_bytes told.answer.text
+        ≡ absent format kept.now.complete kept.now.image (count kept.now))
+        × (told.answer.ending ≡ absent_ending kept.now.complete)) }
+    ensures complete { IfOk result (λ told. told.answer.ending ≡ Ending.Nowhere
         → kept.now.complete ≡ true) }
 {
     let complete = kept.is_complete();
     let text = absent_text(alloc, format, complete, kept.image(), kept.len())?;
     let ending = absent_ending(complete);
-    Ok(Answer { text, ending })
+    Ok(Told {
+        answer: Answer { text, ending },
+        orders: Vec::new(alloc),
+    })
+}
+
+/// The answer that a state was found, which tells of the order that leads there.
+fn state_found(alloc: Global, format: Format, image: &Image, led: Led) -> Result<Told, NoMemory>
+    ensures says { IfOk result (λ told. (orders_of told.orders.items ≡ led.order.items ∷ [])
+        × (string_bytes told.answer.text ≡ found format image.now led.order.items led.state)) }
+    ensures done { IfOk result (λ told. told.answer.ending ≡ Ending.Done) }
+{
+    let text = found_text(alloc, format, image, led.order.as_slice(), &led.state)?;
+    let mut orders = Vec::new(alloc);
+    orders.push(led.order)?;
+    Ok(Told {
+        answer: Answer {
+            text,
+            ending: Ending::Done,
+        },
+        orders,
+    })
 }
 
 /// The answer that a search found.
@@ -156,26 +183,22 @@ fn answer_of(
     format: Format,
     core: &Core,
     found: &Found,
-) -> Result<Answer, NoMemory>
+) -> Result<Told, NoMemory>
     requires opening { core.now.state ≡ opening_state found.now.kept.image }
     requires kept_of { IsKeptOf (search_of search.now) (Sight.Condition condition.now)
         found.now.kept }
     requires first { IsFirstPassing found.now.kept (λ s. holds s condition.now)
         found.now.state }
-    ensures says { IfOk result (λ answer. Says search.now.every_step condition.now
-        format found.now.kept found.now.state (string_bytes answer.text) answer.ending) }
-    ensures nowhere { IfOk result (λ answer. answer.ending ≡ Ending.Nowhere
+    ensures says { IfOk result (λ told. Says search.now.every_step condition.now
+        format found.now.kept found.now.state (orders_of told.orders.items)
+        (string_bytes told.answer.text) told.answer.ending) }
+    ensures nowhere { IfOk result (λ told. told.answer.ending ≡ Ending.Nowhere
         → (found.now.state ≡ None) × (found.now.kept.complete ≡ true)) }
 {
     match found.state {
         Some(number) => {
             let led = led_to(alloc, search, condition, core, &found.kept, number)?;
-            let image = found.kept.image();
-            let text = found_text(alloc, format, image, led.order.as_slice(), &led.state)?;
-            Ok(Answer {
-                text,
-                ending: Ending::Done,
-            })
+            state_found(alloc, format, found.kept.image(), led)
         }
         None => none_found(alloc, format, &found.kept),
     }
@@ -191,18 +214,20 @@ pub fn opened(alloc: Global, image: &Image) -> Result<Core, NoMemory>
     }
 }
 
-/// The answer to a search for a state in which a condition holds.
-fn answer_found<P: Progress>(
+/// Searches the states that an image reaches for one in which a condition holds. The answer is such
+/// a state with an order that leads to it; or that none was found, of so many states. Fails only
+/// when out of memory, or of numbers past 2^32.
+pub fn find<P: Progress>(
     alloc: Global,
     search: &Search<'_>,
     condition: &Condition,
     format: Format,
     progress: &mut P,
-) -> Result<Answer, NoMemory>
+) -> Result<Told, NoMemory>
     requires { IsSearchable (search_of search.now) }
-    ensures says { IfOk result (λ answer. IsFindAnswer (search_of search.now) condition.now format
-        (string_bytes answer.text) answer.ending) }
-    ensures nowhere { IfOk result (λ answer. answer.ending ≡ Ending.Nowhere
+    ensures says { IfOk result (λ told. IsFindAnswer (search_of search.now) condition.now format
+        (orders_of told.orders.items) (string_bytes told.answer.text) told.answer.ending) }
+    ensures nowhere { IfOk result (λ told. told.answer.ending ≡ Ending.Nowhere
         → IsNowhere (search_of search.now) condition.now) }
 {
     let core = opened(alloc, search.image)?;
@@ -213,31 +238,4 @@ fn answer_found<P: Progress>(
     // Its clause says that this is a search.
     let _count = found.kept.len();
     answer_of(alloc, search, condition, format, &core, &found)
-}
-
-/// Searches the states that an image reaches for one in which a condition holds, and writes such a
-/// state with an order that leads to it; or that none was found, of so many states. Where memory
-/// runs out, nothing is written; where the sink fails, it took a prefix of the answer.
-pub fn find<P: Progress, S: Sink>(
-    alloc: Global,
-    search: &Search<'_>,
-    condition: &Condition,
-    format: Format,
-    progress: &mut P,
-    sink: &mut S,
-) -> Result<Ending, WriteFault>
-    requires { IsSearchable (search_of search.now) }
-    ensures written { IfOk result (λ ending. IsWritten
-        (λ text. IsFindAnswer (search_of search.now) condition.now format text ending)
-        (S.written sink.old) (S.written sink.new)) }
-    ensures begun { IfErr result (IsUnwritten (λ text. (ending : Ending)
-        × IsFindAnswer (search_of search.now) condition.now format text ending)
-        (S.written sink.old) (S.written sink.new)) }
-    ensures nowhere { result ≡ Ok Ending.Nowhere
-        → IsNowhere (search_of search.now) condition.now }
-    ensures failures { S.failures sink.new ≡ S.failures sink.old + failures_of result }
-    ensures identity { S.identity sink.new ≡ S.identity sink.old }
-{
-    let answer = answer_found(alloc, search, condition, format, progress)?;
-    put_answer(sink, &answer)
 }

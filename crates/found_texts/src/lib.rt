@@ -7,4 +7,4 @@ mod running;
 mod shown;
 mod trimming;
 
-pub use finding::{find, opened};
+pub use finding::{Told, find, opened};

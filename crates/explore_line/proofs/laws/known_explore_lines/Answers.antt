@@ -130,3 +130,27 @@ returns-clause-check_with_sweep c = refl
 pub returns-clause-check_of_condition : goal.returns-clause-check_of_condition
 unfolding clap_on_literals explore_asked explore_asked_of question_of sweep_of sweeps_of decimal_within number_in number_of
 returns-clause-check_of_condition c = refl
+
+pub returns-clause-check_explained : goal.returns-clause-check_explained
+unfolding clap_on_literals explore_asked explore_asked_of question_of sweep_of sweeps_of decimal_within number_in number_of
+returns-clause-check_explained c = refl
+
+pub returns-clause-find_explained : goal.returns-clause-find_explained
+unfolding clap_on_literals explore_asked explore_asked_of question_of sweep_of sweeps_of decimal_within number_in number_of
+returns-clause-find_explained c = refl
+
+pub returns-clause-explained_twice : goal.returns-clause-explained_twice
+unfolding clap_on_literals explore_asked explore_asked_of question_of sweep_of sweeps_of decimal_within number_in number_of
+returns-clause-explained_twice c = refl
+
+pub returns-clause-explained_with_a_value : goal.returns-clause-explained_with_a_value
+unfolding clap_on_literals explore_asked explore_asked_of question_of sweep_of sweeps_of decimal_within number_in number_of
+returns-clause-explained_with_a_value c = refl
+
+pub returns-clause-explained_in_json : goal.returns-clause-explained_in_json
+unfolding clap_on_literals explore_asked explore_asked_of question_of sweep_of sweeps_of decimal_within number_in number_of
+returns-clause-explained_in_json c = refl
+
+pub returns-clause-explained_outcomes : goal.returns-clause-explained_outcomes
+unfolding clap_on_literals explore_asked explore_asked_of question_of sweep_of sweeps_of decimal_within number_in number_of
+returns-clause-explained_outcomes c = refl

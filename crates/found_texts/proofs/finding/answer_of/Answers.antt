@@ -1,5 +1,5 @@
 use Rattle.conditions.specs.Holding.{holds}
-use Rattle.found_texts.proofs.FindLemmas.{none_answers, none_nowhere, passing_first}
+use Rattle.found_texts.proofs.FindLemmas.{done_somewhere, found_answers, none_answers, none_nowhere, passing_first}
 use Rattle.found_texts.proofs.finding.answer_of.Goals as goal
 
 pub led_to-requires : goal.led_to-requires
@@ -14,8 +14,14 @@ led_to-requires c =
       passing = first.1;
     }
 
-pub returns-in_ok-text-in-Some-clause-nowhere : goal.returns-in_ok-text-in-Some-clause-nowhere
-returns-in_ok-text-in-Some-clause-nowhere c is = cc
+pub returns-in_ok-led-in-Some-clause-says : goal.returns-in_ok-led-in-Some-clause-says
+returns-in_ok-led-in-Some-clause-says c =
+    found_answers c.args.search.now.every_step c.args.condition.now c.args.format c.args.found.now.kept c.args.found.now.state
+    c.in-Some.number _ _ _ c.state_found.result c.in-Some.is c.in_ok-led-in-Some.ensures c.image.ensures c.state_found.ensures.says
+    c.state_found.ensures.done
+
+pub returns-in_ok-led-in-Some-clause-nowhere : goal.returns-in_ok-led-in-Some-clause-nowhere
+returns-in_ok-led-in-Some-clause-nowhere c = done_somewhere _ c.state_found.result c.state_found.ensures.done
 
 pub returns-in-None-clause-says : goal.returns-in-None-clause-says
 returns-in-None-clause-says c =
