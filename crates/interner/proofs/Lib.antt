@@ -1,2 +1,2 @@
 pub mod RowLemmas
-pub mod ChainLemmas
+pub mod SlotLemmas

@@ -1,4 +1,4 @@
--- Where a row is looked for: in the bucket of its hash.
+-- Where a row is looked for: its tag says from where on.
 use Rattle.std.specs.Prelude.{ℕ, ◌*◌, ◌/◌, ◌%◌, ◌^◌, List, bit_xor}
 use Rattle.std.specs.List.{fold}
 
@@ -10,6 +10,10 @@ mixed hash number = (bit_xor hash number * 0x9E37_79B9_7F4A_7C15) % 2 ^ 64
 unfoldable pub hash_of : List ℕ → ℕ
 hash_of row = fold mixed 0xCBF2_9CE4_8422_2325 row
 
--- the bucket of a row, where there are so many
-unfoldable pub bucket_of : List ℕ → ℕ → ℕ
-bucket_of row buckets = (hash_of row / 2 ^ 32 * buckets) / 2 ^ 32
+-- the tag of a row: the upper half of its hash
+unfoldable pub tag_of : List ℕ → ℕ
+tag_of row = hash_of row / 2 ^ 32
+
+-- the place from which on a row with this tag is looked for, where there are so many homes
+unfoldable pub home_of : ℕ → ℕ → ℕ
+home_of tag homes = tag * homes / 2 ^ 32

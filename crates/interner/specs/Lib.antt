@@ -1,3 +1,3 @@
 pub mod Rows
 pub mod Hashes
-pub mod Chains
+pub mod Slots

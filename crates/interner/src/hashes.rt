@@ -1,7 +1,7 @@
-//! Where a row is looked for: the bucket of its hash.
+//! Where a row is looked for: its tag says from where on.
 
-ghost use Rattle.std.specs.Prelude.{◌≡◌, ◌<◌, ◌≤◌, ◌^◌};
-ghost use Rattle.interner.specs.Hashes.{mixed, hash_of, bucket_of};
+ghost use Rattle.std.specs.Prelude.{◌≡◌, ◌≤◌, ◌^◌};
+ghost use Rattle.interner.specs.Hashes.{mixed, hash_of, tag_of, home_of};
 
 /// What is multiplied by: odd, its bits without a pattern (2^64 over the golden ratio).
 const FACTOR: u64 = 0x9E37_79B9_7F4A_7C15;
@@ -23,12 +23,18 @@ fn hash_of(row: &[u32]) -> u64
     row.iter().fold(SEED, |hash, number| mixed(hash, *number))
 }
 
-/// The bucket of a row where there are `buckets` of them: the upper half of its hash, scaled.
-pub fn bucket_of(row: &[u32], buckets: usize) -> usize
-    requires some { 0 < buckets }
-    requires few { buckets ≤ 2 ^ 32 }
-    ensures value { result ≡ bucket_of row.now buckets }
-    ensures within { result < buckets }
+/// The tag of a row: the upper half of its hash.
+pub fn tag_of(row: &[u32]) -> u32
+    ensures { result ≡ tag_of row.now }
 {
-    (((hash_of(row) >> 32) * buckets as u64) >> 32) as usize
+    (hash_of(row) >> 32) as u32
+}
+
+/// The place from which on a row with this tag is looked for, where there are so many homes.
+pub fn home_of(tag: u32, homes: usize) -> usize
+    requires few { homes ≤ 2 ^ 32 }
+    ensures value { result ≡ home_of tag homes }
+    ensures within { result ≤ homes }
+{
+    ((u64::from(tag) * homes as u64) >> 32) as usize
 }

@@ -2,8 +2,9 @@
 //! from every other by all of its numbers.
 #![tactic(auto)]
 
-mod chains;
+mod growth;
 mod hashes;
+mod slots;
 mod table;
 
 pub use table::Interner;

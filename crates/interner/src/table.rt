@@ -18,8 +18,9 @@ ghost use Rattle.std.specs.Prelude.{
 };
 ghost use Rattle.interner.specs.Rows.{IsDistinct, IsInterned, IsRow};
 
-use crate::chains::{add, grow, row_at};
-use crate::hashes::bucket_of;
+use crate::growth::grow;
+use crate::hashes::{home_of, tag_of};
+use crate::slots::{add, number_at, place_of, row_at, slot_of};
 use std::alloc::{AllocError, Global};
 use std::marker::Model;
 
@@ -30,25 +31,27 @@ pub struct Interner {
     width: usize,
     /// The numbers of all rows, row by row.
     numbers: Vec<u32>,
-    /// For each row the link to the next older row of its bucket.
-    links: Vec<u32>,
-    /// For each bucket the link to its newest row.
-    heads: Vec<u32>,
+    /// How many rows there are.
+    count: u32,
+    /// How many places a row's tag may send its search to.
+    homes: usize,
+    /// By place, the row that is named there, or 0.
+    slots: Vec<u64>,
+    alloc: Global,
 }
 
 impl Model for Interner {
-    ghost use Rattle.std.specs.Prelude.{length};
     ghost use Rattle.interner.specs.Rows.{Rows, rows_of};
-    ghost use Rattle.interner.specs.Chains.{IsInterner};
+    ghost use Rattle.interner.specs.Slots.{IsInterner};
 
     ghost Value = { Rows };
 
     ghost view = { λ a. record {
       width = a.width;
-      rows = rows_of a.width a.numbers.items (length a.links.items);
+      rows = rows_of a.width a.numbers.items a.count;
     } };
 
-    ghost invariant = { λ a. IsInterner a.width a.numbers.items a.links.items a.heads.items };
+    ghost invariant = { λ a. IsInterner a.width a.numbers.items a.slots.items a.homes a.count };
 }
 
 impl Interner {
@@ -60,8 +63,10 @@ impl Interner {
         Interner {
             width,
             numbers: Vec::new(alloc),
-            links: Vec::new(alloc),
-            heads: Vec::new(alloc),
+            count: 0,
+            homes: 0,
+            slots: Vec::new(alloc),
+            alloc,
         }
     }
 
@@ -78,14 +83,14 @@ impl Interner {
         ensures few { result < 2 ^ 32 }
         ensures distinct { IsDistinct self.now }
     {
-        self.links.len()
+        self.count as usize
     }
 
     /// The row of this number, if there is one.
     pub fn row(&self, number: u32) -> Option<&[u32]>
         ensures { option_copied result ≡ slice_get self.now.rows number }
     {
-        if number as usize >= self.links.len() {
+        if number >= self.count {
             return None;
         }
         Some(row_at(self.numbers.as_slice(), self.width, number as usize))
@@ -99,18 +104,11 @@ impl Interner {
         if row.len() != self.width {
             return None;
         }
-        if self.heads.is_empty() {
-            return None;
-        }
-        let mut link = self.heads[bucket_of(row, self.heads.len())];
-        while link != 0 {
-            let number = link - 1;
-            if row_at(self.numbers.as_slice(), self.width, number as usize) == row {
-                return Some(number);
-            }
-            link = self.links[number as usize];
-        }
-        None
+        let tag = tag_of(row);
+        let slots = self.slots.as_slice();
+        let home = home_of(tag, self.homes);
+        let place = place_of(self.numbers.as_slice(), self.width, slots, home, row, tag);
+        number_at(slots, place)
     }
 
     /// The number of this row, which becomes the last one where it is not there. Fails only when out
@@ -121,38 +119,21 @@ impl Interner {
         ensures same_width { self.new.width ≡ self.old.width }
         ensures unchanged { OnErr result (self.new ≡ self.old) }
     {
-        match self.find(row) {
-            Some(number) => Ok(number),
-            None => self.push(row),
+        grow(self.alloc, &mut self.slots, &mut self.homes, self.count)?;
+        let tag = tag_of(row);
+        let slots = self.slots.as_slice();
+        let home = home_of(tag, self.homes);
+        let place = place_of(self.numbers.as_slice(), self.width, slots, home, row, tag);
+        if let Some(number) = number_at(slots, place) {
+            return Ok(number);
         }
-    }
-
-    /// Adds a row that is not there, and answers its number.
-    fn push(&mut self, row: &[u32]) -> Result<u32, AllocError>
-        requires wide { length row.now ≡ self.old.width }
-        requires absent { (i : ℕ) → slice_get self.old.rows i ≢ Some row.now }
-        ensures interned { IfOk result (λ number. IsInterned self.old self.new row.now number) }
-        ensures same_width { self.new.width ≡ self.old.width }
-        ensures unchanged { OnErr result (self.new ≡ self.old) }
-    {
-        let number = self.links.len() as u32;
+        let number = self.count;
         if number == u32::MAX {
             return Err(AllocError);
         }
-        let width = self.width;
-        grow(
-            self.numbers.as_slice(),
-            width,
-            &mut self.heads,
-            &mut self.links,
-        )?;
-        add(
-            &mut self.numbers,
-            width,
-            &mut self.heads,
-            &mut self.links,
-            row,
-        )?;
+        let slot = slot_of(tag, number);
+        add(&mut self.numbers, &mut self.slots, place, slot, row)?;
+        self.count = number + 1;
         Ok(number)
     }
 }

@@ -4,4 +4,4 @@ use Rattle.interner.proofs.table.Interner.new.Goals as goal
 
 pub returns-clause-rows : goal.returns-clause-rows
 unfolding rows_of
-returns-clause-rows c = rw c.new-2.ensures.items refl
+returns-clause-rows c = refl
