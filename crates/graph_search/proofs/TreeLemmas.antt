@@ -1,14 +1,17 @@
 -- What is so of the lists of a search.
-use Rattle.std.proofs.Common.{◌≡◌, ◌≢◌, ℕ, zero, suc, ◌+◌, ◌<◌, ◌≤◌, List, [], ◌∷◌, ◌++◌, length, arith, ap, sym, ◌∙◌, refl, inl, inr, subst, length-append}
-use Rattle.std.specs.Prelude.{Option, Some, None, IsSome, IfSome, is_some, is_none, Bool, true, false, option_and_then, slice_get}
+use Rattle.std.proofs.Common.{◌≡◌, ◌≢◌, ℕ, zero, suc, ◌+◌, ◌-◌, ◌*◌, ◌<◌, ◌≤◌, List, [], ◌∷◌, ◌++◌, length, arith, ap, sym, ◌∙◌, refl, inl, inr, subst, length-append}
+use Rattle.std.specs.Prelude.{Option, Some, None, IsSome, IfSome, is_some, is_none, Bool, true, false, option_and_then, slice_get, slice_index_or}
 use Rattle.std.proofs.Math.Path.{fun_ext}
 use Rattle.std.proofs.Math.Seq.{get_or-append_seam}
 use Rattle.std.proofs.lemmas.List.{get_or_append_left}
+use Rattle.std.proofs.lemmas.Bool.{cases_lt}
 use Rattle.std.proofs.lemmas.Option.{none-some, same_Some, slice_get_within, option_and_then_some}
+use Rattle.interner.specs.Rows.{row_at}
+use Rattle.interner.proofs.RowLemmas.{row_at-append, row_at-last, row_ends, row_begins}
 use Rattle.graph_search.specs.declared.edges.Edge.{Edge}
 use Rattle.graph_search.specs.Graphs.{LeadsTo}
-use Rattle.graph_search.specs.Trees.{state_at, edge_at, IsFound, Adds, IsOrderly}
-use Rattle.graph_search.specs.Searches.{IsSearched, IsSearching, IsExplored, GoesOn, IsCut, Reaches, place_of}
+use Rattle.graph_search.specs.Trees.{state_at, edge_at, IsFound, Adds, Fits, IsOrderly}
+use Rattle.graph_search.specs.Searches.{IsSearched, IsSearching, IsExplored, GoesOn, IsCut, Reaches, AreSteps, Follows, place_of}
 use Rattle.graph_search.proofs.SearchLemmas.{moved, added, next_node}
 use Rattle.graph_search.proofs.WitnessLemmas.{finished, stopped}
 
@@ -362,3 +365,194 @@ module _ {S : Type 0} (next next' : S → ℕ → Option S) (meaning meaning' : 
       Reaches next' meaning' limit (length nodes) nodes edges cut
   stands_same None h = searching_same (length nodes) 0 h
   stands_same (Some edge) h = (h.0, searching_same edge.from edge.label h.1, cut_same h.2)
+
+-- what a step leads to is kept
+pub leads_kept : {S : Type 0} (meaning meaning' : List ℕ → Option S) →
+    ((n : List ℕ) (s : S) → meaning n ≡ Some s → meaning' n ≡ Some s) →
+    (leads : Bool) (row : List ℕ) (to : Option S) → LeadsTo meaning leads row to → LeadsTo meaning' leads row to
+leads_kept {S} meaning meaning' kept false row to led = led
+leads_kept {S} meaning meaning' kept true row to led =
+    let t = some_of to led.0 in
+    (led.0, kept row t.0 (led.1 ∙ t.1) ∙ sym t.1)
+
+-- one step more was made
+pub steps_more : {S : Type 0} (next : S → ℕ → Option S) (meaning meaning' : List ℕ → Option S) (width : ℕ) (s : S)
+    (first : ℕ) (leads : List Bool) (rows : List ℕ) (b : Bool) (row : List ℕ) →
+    ((n : List ℕ) (u : S) → meaning n ≡ Some u → meaning' n ≡ Some u) →
+    length rows ≡ length leads * width → length row ≡ width →
+    AreSteps next meaning width s first leads rows → LeadsTo meaning' b row (next s (first + length leads)) →
+    AreSteps next meaning' width s first (leads ++ b ∷ []) (rows ++ row)
+steps_more {S} next meaning meaning' width s first leads rows b row kept whole wide steps led k below =
+    let count : length (leads ++ b ∷ []) ≡ length leads + 1 = length-append leads (b ∷ []) in
+    elim (cases_lt k (length leads)) [
+      | inl early ↦
+          let flag : slice_index_or (leads ++ b ∷ []) k false ≡ slice_index_or leads k false =
+          get_or_append_left leads (b ∷ []) false k early in
+          let same : row_at width (rows ++ row) k ≡ row_at width rows k =
+          row_at-append width rows row k (rw whole (row_ends k (length leads) width early)) in
+          let was = leads_kept meaning meaning' kept (slice_index_or leads k false) (row_at width rows k)
+          (next s (first + k)) (steps k early) in
+          subst (λ (f : Bool). LeadsTo meaning' f (row_at width (rows ++ row) k) (next s (first + k))) (sym flag)
+          (subst (λ (r : List ℕ). LeadsTo meaning' (slice_index_or leads k false) r (next s (first + k))) (sym same) was)
+      | inr late ↦
+          let e : length leads ≡ k = omega arith in
+          let flag : slice_index_or (leads ++ b ∷ []) k false ≡ b =
+          ap (λ (j : ℕ). slice_index_or (leads ++ b ∷ []) j false) (sym e) ∙ get_or-append_seam leads b [] false in
+          let same : row_at width (rows ++ row) k ≡ row =
+          ap (row_at width (rows ++ row)) (sym e) ∙ row_at-last width rows row (length leads) whole wide in
+          let here : LeadsTo meaning' b row (next s (first + k)) =
+          subst (λ (j : ℕ). LeadsTo meaning' b row (next s (first + j))) e led in
+          subst (λ (f : Bool). LeadsTo meaning' f (row_at width (rows ++ row) k) (next s (first + k))) (sym flag)
+          (subst (λ (r : List ℕ). LeadsTo meaning' b r (next s (first + k))) (sym same) here)
+    ]
+
+-- The edge of a step was followed.
+module _ {S : Type 0} (next : S → ℕ → Option S) (meaning : List ℕ → Option S) (limit : ℕ)
+    (nodes : List (List ℕ)) (edges : List Edge) (edge : Edge)
+    (h : IsSearching next meaning limit nodes edges edge.from edge.label)
+    (below : edge.from < length nodes) (node to : List ℕ) (here : slice_get nodes edge.from ≡ Some node)
+    (one : (m n : List ℕ) (s : S) → meaning m ≡ Some s → meaning n ≡ Some s → m ≡ n)
+    (nodes' : List (List ℕ)) (edges' : List Edge) where
+  moved_to : (label : ℕ) → nodes' ≡ nodes → edges' ≡ edges →
+      IsSearching next meaning limit nodes edges edge.from label →
+      IsSearching next meaning limit nodes' edges' edge.from label
+  moved_to label same_nodes same_edges searching =
+      subst (λ (ns : List (List ℕ)). IsSearching next meaning limit ns edges' edge.from label) (sym same_nodes)
+      (subst (λ (es : List Edge). IsSearching next meaning limit nodes es edge.from label) (sym same_edges) searching)
+
+  same_keeps : nodes' ≡ nodes →
+      (state_at meaning nodes' 0 ≡ state_at meaning nodes 0) × (slice_get nodes' edge.from ≡ Some node)
+      × (length nodes ≤ length nodes')
+  same_keeps same =
+      let count : length nodes' ≡ length nodes = ap (λ (ns : List (List ℕ)). length ns) same in (
+        ap (λ (ns : List (List ℕ)). state_at meaning ns 0) same,
+        ap (λ (ns : List (List ℕ)). slice_get ns edge.from) same ∙ here,
+        omega arith,
+      )
+
+  pub step_follows : (leads : Bool) →
+      ((s : S) → meaning node ≡ Some s → LeadsTo meaning leads to (next s edge.label)) → (fits : Bool) →
+      Follows leads to edge limit nodes edges nodes' edges' fits → GoesOn next meaning limit edge nodes' edges' fits
+  step_follows false value true follows =
+      moved_to (edge.label + 1) follows.1 follows.2
+      (step_nowhere next next meaning meaning limit nodes edges edge h refl (λ n s is. is) below node to here false
+      value refl)
+  step_follows false value false follows = absurd (let wrong : false ≡ true = follows.0 in cc)
+  step_follows true value true follows = elim follows.0 [
+    | inl there ↦
+        moved_to (edge.label + 1) there.2 there.3
+        (step_found next next meaning meaning limit nodes edges edge h refl (λ n s is. is) below node to here true
+        value refl there.0 there.1)
+    | inr absent ↦
+        let count : length nodes' ≡ length nodes + 1 = ap (λ (ns : List (List ℕ)). length ns) absent.1
+        ∙ length-append nodes (to ∷ []) in
+        let within : length nodes' ≤ limit = follows.1 in
+        let room : length nodes < limit = omega arith in
+        step_adds next next meaning meaning limit nodes edges edge h refl (λ n s is. is) below node to here true
+        value refl room one nodes' edges' (inr absent)
+  ]
+  step_follows true value false follows =
+      let cut = step_at_limit next next meaning meaning limit nodes edges edge h refl (λ n s is. is) below node to
+      here true value refl follows.1 one None tt (λ _. follows.0) in (
+        moved_to edge.label follows.2 follows.3 cut.0,
+        subst (λ (ns : List (List ℕ)). IsCut next (state_at meaning ns) (length ns) limit) (sym follows.2) cut.1,
+      )
+
+  -- the first node's state, the node that the edge leaves, and how many nodes there are
+  pub step_keeps : (leads fits : Bool) → Follows leads to edge limit nodes edges nodes' edges' fits →
+      (state_at meaning nodes' 0 ≡ state_at meaning nodes 0) × (slice_get nodes' edge.from ≡ Some node)
+      × (length nodes ≤ length nodes')
+  step_keeps false fits follows = same_keeps follows.1
+  step_keeps true true follows = elim follows.0 [
+    | inl there ↦ same_keeps there.2
+    | inr absent ↦
+        let count : length nodes' ≡ length nodes + 1 = ap (λ (ns : List (List ℕ)). length ns) absent.1
+        ∙ length-append nodes (to ∷ []) in
+        let other : edge.from ≢ length nodes = λ same. omega arith in (
+          ap (λ (ns : List (List ℕ)). state_at meaning ns 0) absent.1 ∙ first_stays meaning nodes to h.some,
+          ap (λ (ns : List (List ℕ)). slice_get ns edge.from) absent.1 ∙ (slice_get-more nodes to edge.from other ∙ here),
+          omega arith,
+        )
+  ]
+  step_keeps true false follows = same_keeps follows.2
+
+-- steps of a node are steps of whatever the node means
+pub steps_value : {S : Type 0} (next : S → ℕ → Option S) (meaning meaning' : List ℕ → Option S) (width : ℕ)
+    (node : List ℕ) (first : ℕ) (leads : List Bool) (rows : List ℕ) (label : ℕ) → IsSome (meaning node) →
+    ((n : List ℕ) (s : S) → meaning n ≡ Some s → meaning' n ≡ Some s) →
+    ((s : S) → meaning node ≡ Some s → AreSteps next meaning' width s first leads rows) →
+    first ≤ label → label < first + length leads →
+    (s : S) → meaning' node ≡ Some s →
+    LeadsTo meaning' (slice_index_or leads (label - first) false) (row_at width rows (label - first)) (next s label)
+steps_value {S} next meaning meaning' width node first leads rows label some kept steps from below s means =
+    let t = some_of (meaning node) some in
+    let same : t.0 ≡ s = same_Some t.0 s (sym (kept node t.0 t.1) ∙ means) in
+    let k = label - first in
+    let within : k < length leads = omega arith in
+    let place : first + k ≡ label = omega arith in
+    subst (λ (u : S). LeadsTo meaning' (slice_index_or leads k false) (row_at width rows k) (next u label)) same
+    (subst (λ (l : ℕ). LeadsTo meaning' (slice_index_or leads k false) (row_at width rows k) (next t.0 l)) place
+    (steps t.0 t.1 k within))
+
+-- a node was added where there was room
+pub adds_within : (node : List ℕ) (edge : Edge) (limit : ℕ) (nodes : List (List ℕ)) (edges : List Edge)
+    (nodes' : List (List ℕ)) (edges' : List Edge) → Adds node edge nodes edges nodes' edges' → length nodes < limit →
+    Fits node edge limit nodes edges nodes' edges' true
+adds_within node edge limit nodes edges nodes' edges' adds room = (
+  adds,
+  elim adds [
+    | inl there ↦ let e = ap (λ (ns : List (List ℕ)). length ns) there.2 in omega arith
+    | inr absent ↦
+        let count : length nodes' ≡ length nodes + 1 = ap (λ (ns : List (List ℕ)). length ns) absent.1
+        ∙ length-append nodes (node ∷ []) in
+        omega arith
+  ],
+)
+
+-- there was none
+pub fits_full : (node : List ℕ) (edge : Edge) (limit : ℕ) (nodes : List (List ℕ)) (edges : List Edge) →
+    limit ≤ length nodes → length nodes ≤ limit →
+    (number : Option ℕ) → IfSome number (λ i. slice_get nodes i ≡ Some node) →
+    (number ≡ None → (i : ℕ) → slice_get nodes i ≢ Some node) →
+    Fits node edge limit nodes edges nodes edges (is_some number)
+fits_full node edge limit nodes edges full within (Some i) there absent = (inl (i, there, refl, refl), within)
+fits_full node edge limit nodes edges full within None there absent = (absent refl, full, refl, refl)
+
+-- an edge of a node was followed, of which a step was made before
+pub step_taken : {S : Type 0} (next : S → ℕ → Option S) (meaning meaning' : List ℕ → Option S) (limit width width' : ℕ)
+    (nodes : List (List ℕ)) (edges : List Edge) (edge : Edge) (first count : ℕ) (node : List ℕ) (leads : List Bool)
+    (rows : List ℕ) (nodes' : List (List ℕ)) (edges' : List Edge) (fits : Bool) →
+    IsSearching next meaning' limit nodes edges edge.from edge.label → edge.from < length nodes →
+    slice_get nodes edge.from ≡ Some node → IsSome (meaning node) →
+    ((n : List ℕ) (s : S) → meaning n ≡ Some s → meaning' n ≡ Some s) →
+    (first < count → (m n : List ℕ) (s : S) → meaning' m ≡ Some s → meaning' n ≡ Some s → m ≡ n) →
+    (first ≤ count → first + length leads ≡ count) →
+    ((s : S) → meaning node ≡ Some s → AreSteps next meaning' width s first leads rows) → width' ≡ width →
+    first ≤ edge.label → edge.label < count →
+    Follows (slice_index_or leads (edge.label - first) false) (row_at width' rows (edge.label - first)) edge limit
+    nodes edges nodes' edges' fits →
+    GoesOn next meaning' limit edge nodes' edges' fits × (state_at meaning' nodes' 0 ≡ state_at meaning' nodes 0)
+    × (slice_get nodes' edge.from ≡ Some node) × (length nodes ≤ length nodes')
+step_taken {S} next meaning meaning' limit width width' nodes edges edge first count node leads rows nodes' edges' fits
+    h there here some kept one even steps same from below follows =
+    let order : first < count = omega arith in
+    let all : first + length leads ≡ count = even (omega arith) in
+    let within : edge.label < first + length leads = omega arith in
+    let k = edge.label - first in
+    let value : (s : S) → meaning' node ≡ Some s →
+    LeadsTo meaning' (slice_index_or leads k false) (row_at width' rows k) (next s edge.label) =
+    λ s means. subst (λ (w : ℕ). LeadsTo meaning' (slice_index_or leads k false) (row_at w rows k) (next s edge.label))
+    (sym same) (steps_value next meaning meaning' width node first leads rows edge.label some kept steps from within
+    s means) in
+    let on = step_follows next meaning' limit nodes edges edge h there node (row_at width' rows k) here (one order)
+    nodes' edges' (slice_index_or leads k false) value fits follows in
+    let keeps = step_keeps next meaning' limit nodes edges edge h there node (row_at width' rows k) here (one order)
+    nodes' edges' (slice_index_or leads k false) fits follows in
+    (on, keeps.0, keeps.1, keeps.2)
+
+-- each step made has a row
+pub rows_more : (width : ℕ) (leads : List Bool) (b : Bool) (rows row : List ℕ) → length rows ≡ length leads * width →
+    length row ≡ width → length (rows ++ row) ≡ length (leads ++ b ∷ []) * width
+rows_more width leads b rows row whole wide =
+    let count : length (leads ++ b ∷ []) ≡ length leads + 1 = length-append leads (b ∷ []) in
+    length-append rows row ∙ rw (count, row_begins (length leads) width, whole, wide) refl

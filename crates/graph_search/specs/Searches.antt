@@ -2,10 +2,12 @@
 -- second, and so on, and adds each new state as the last node. So nodes stand in the order of their
 -- witnesses.
 use Rattle.std.specs.Prelude.{◌≡◌, ◌≢◌, ℕ, ◌<◌, ◌≤◌, List, length, Option, Some, None, Bool, true, false, ◌+◌}
-use Rattle.std.specs.Prelude.{reverse}
+use Rattle.std.specs.Prelude.{reverse, slice_index_or}
 use Rattle.graph_search.specs.declared.edges.Edge.{Edge}
 use Rattle.graph_search.specs.Walks.{IsReachable, IsWalk, IsWitness, IsBefore}
-use Rattle.graph_search.specs.Trees.{IsFound, IsTrace, state_at, edge_at}
+use Rattle.interner.specs.Rows.{row_at}
+use Rattle.graph_search.specs.Graphs.{LeadsTo}
+use Rattle.graph_search.specs.Trees.{IsFound, IsTrace, Fits, state_at, edge_at}
 
 -- What a search found: at i is the state of node i, of so many nodes, and edge i how it was found.
 pub record IsExplored {S : Type 0} (next : S → ℕ → Option S) (start : S) (limit : ℕ)
@@ -96,3 +98,17 @@ Reaches next meaning limit node nodes edges (Some edge) =
     (edge.from < length nodes)
     × IsSearching next meaning limit nodes edges edge.from edge.label
     × IsCut next (state_at meaning nodes) (length nodes) limit
+
+-- Steps were made along the edges of a state from a label on: for each, whether there is one, and the
+-- node to which it leads.
+abbrev pub AreSteps : {S : Type 0} → (S → ℕ → Option S) → (List ℕ → Option S) → ℕ → S → ℕ →
+    List Bool → List ℕ → Type 0
+AreSteps next meaning width state first leads rows = (k : ℕ) → k < length leads →
+    LeadsTo meaning (slice_index_or leads k false) (row_at width rows k) (next state (first + k))
+
+-- The node of such a step was followed; or there is no such edge.
+abbrev pub Follows : Bool → List ℕ → Edge → ℕ → List (List ℕ) → List Edge → List (List ℕ) → List Edge →
+    Bool → Type 0
+Follows false node edge limit nodes edges nodes' edges' fits =
+    (fits ≡ true) × (nodes' ≡ nodes) × (edges' ≡ edges)
+Follows true node edge limit nodes edges nodes' edges' fits = Fits node edge limit nodes edges nodes' edges' fits

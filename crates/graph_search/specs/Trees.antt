@@ -1,7 +1,7 @@
 -- The nodes that a search found, numbered from 0 in the order in which it found them, each with the
 -- edge by which it did.
-use Rattle.std.specs.Prelude.{◌≡◌, ◌≢◌, ℕ, ◌<◌, List, [], ◌∷◌, ◌++◌, length, slice_get, Option}
-use Rattle.std.specs.Prelude.{Some, option_and_then, slice_index_or, ◌⊎◌, Bool}
+use Rattle.std.specs.Prelude.{◌≡◌, ◌≢◌, ℕ, ◌<◌, ◌≤◌, List, [], ◌∷◌, ◌++◌, length, slice_get, Option}
+use Rattle.std.specs.Prelude.{Some, option_and_then, slice_index_or, ◌⊎◌, Bool, true, false}
 use Rattle.graph_search.specs.declared.edges.Edge.{Edge}
 
 -- the state of node i
@@ -27,6 +27,13 @@ Adds node edge nodes edges nodes' edges' =
     ((i : ℕ) × (slice_get nodes i ≡ Some node) × (nodes' ≡ nodes) × (edges' ≡ edges))
     ⊎ (((i : ℕ) → slice_get nodes i ≢ Some node) × (nodes' ≡ nodes ++ node ∷ [])
     × (edges' ≡ edges ++ edge ∷ []))
+
+-- the same within a limit; or a node was not there, and there are as many as the limit
+abbrev pub Fits : List ℕ → Edge → ℕ → List (List ℕ) → List Edge → List (List ℕ) → List Edge → Bool → Type 0
+Fits node edge limit nodes edges nodes' edges' true =
+    Adds node edge nodes edges nodes' edges' × (length nodes' ≤ limit)
+Fits node edge limit nodes edges nodes' edges' false =
+    ((i : ℕ) → slice_get nodes i ≢ Some node) × (limit ≤ length nodes) × (nodes' ≡ nodes) × (edges' ≡ edges)
 
 -- What a search found: the nodes, all as wide, their edges, whether there are no more, and else the
 -- edge at which it was cut.

@@ -2,6 +2,7 @@
 //! nothing of what the states are.
 #![tactic(auto)]
 
+mod ahead;
 mod edges;
 mod graphs;
 mod progress;

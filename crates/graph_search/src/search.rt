@@ -8,14 +8,14 @@ ghost use Rattle.std.specs.Prelude.{
   ◌<◌,
   ◌≤◌,
   length,
-  slice_get,
   Some,
   IsSome,
   IfOk,
 };
 ghost use Rattle.graph_search.specs.Trees.{state_at, edge_at};
-ghost use Rattle.graph_search.specs.Searches.{IsExplored, IsSearching, GoesOn, Reaches, place_of};
+ghost use Rattle.graph_search.specs.Searches.{IsExplored, IsSearching, Reaches, place_of};
 
+use crate::ahead::Ahead;
 use crate::edges::Edge;
 use crate::graphs::Graph;
 use crate::progress::Progress;
@@ -118,9 +118,8 @@ fn search_on<G: Graph, P: Progress>(
         IsExplored (G.next graph.new) s limit (state_at (G.meaning graph.new) found.nodes)
         (edge_at found.edges) (length found.nodes) found.complete) }
 {
-    let mut row = Vec::new(alloc);
-    row.resize(graph.width(), 0)?;
-    let cut = expand_all(graph, &mut tree, row.as_mut_slice(), limit, place, progress)?;
+    let mut ahead = Ahead::new(alloc, graph.width())?;
+    let cut = expand_all(graph, &mut tree, &mut ahead, limit, place, progress)?;
     Ok(Reached::new(tree, cut))
 }
 
@@ -132,12 +131,12 @@ const REPORT_EVERY: u32 = 4096;
 fn expand_all<G: Graph, P: Progress>(
     graph: &mut G,
     tree: &mut Tree,
-    row: &mut [u32],
+    ahead: &mut Ahead,
     limit: u32,
     place: Edge,
     progress: &mut P,
 ) -> Result<Option<Edge>, AllocError>
-    requires room { length row.old ≡ G.width graph.old }
+    requires room { length ahead.old.row.items ≡ G.width graph.old }
     requires wide { tree.old.nodes.width ≡ G.width graph.old }
     requires before { IsSearching (G.next graph.old) (G.meaning graph.old) limit
         tree.old.nodes.rows tree.old.edges.items place.from place.label }
@@ -157,7 +156,7 @@ fn expand_all<G: Graph, P: Progress>(
         if node % REPORT_EVERY == 0 {
             progress.report(tree.len());
         }
-        let cut = expand(graph, tree, row, limit, Edge { from: node, label })?;
+        let cut = expand(graph, tree, ahead, limit, Edge { from: node, label })?;
         if cut.is_some() {
             return Ok(cut);
         }
@@ -167,15 +166,16 @@ fn expand_all<G: Graph, P: Progress>(
     Ok(None)
 }
 
-/// Follows the edges of one node, from this one on.
+/// Follows the edges of one node, from this one on: steps along all of them first, and then looks for
+/// the nodes to which they lead, one after another.
 fn expand<G: Graph>(
     graph: &mut G,
     tree: &mut Tree,
-    row: &mut [u32],
+    ahead: &mut Ahead,
     limit: u32,
     first: Edge,
 ) -> Result<Option<Edge>, AllocError>
-    requires room { length row.old ≡ G.width graph.old }
+    requires room { length ahead.old.row.items ≡ G.width graph.old }
     requires wide { tree.old.nodes.width ≡ G.width graph.old }
     requires there { first.from < length tree.old.nodes.rows }
     requires before { IsSearching (G.next graph.old) (G.meaning graph.old) limit
@@ -183,6 +183,7 @@ fn expand<G: Graph>(
     ensures same_graph { G.next graph.new ≡ G.next graph.old }
     ensures same_labels { G.label_count graph.new ≡ G.label_count graph.old }
     ensures same_width { G.width graph.new ≡ G.width graph.old }
+    ensures same_room { length ahead.new.row.items ≡ length ahead.old.row.items }
     ensures same_rows { tree.new.nodes.width ≡ tree.old.nodes.width }
     ensures first { IfOk result (λ _. state_at (G.meaning graph.new) tree.new.nodes.rows 0
         ≡ state_at (G.meaning graph.old) tree.old.nodes.rows 0) }
@@ -190,48 +191,15 @@ fn expand<G: Graph>(
     ensures after { IfOk result (Reaches (G.next graph.new) (G.meaning graph.new) limit
         (first.from + 1) tree.new.nodes.rows tree.new.edges.items) }
 {
+    ahead.step(graph, tree.node(first.from), first.label)?;
     for label in first.label..graph.label_count() {
         let edge = Edge {
             from: first.from,
             label,
         };
-        if !follow(graph, tree, row, limit, edge)? {
+        if !ahead.follow((label - first.label) as usize, tree, edge, limit)? {
             return Ok(Some(edge));
         }
     }
     Ok(None)
-}
-
-/// Follows one edge, where there is one.
-fn follow<G: Graph>(
-    graph: &mut G,
-    tree: &mut Tree,
-    row: &mut [u32],
-    limit: u32,
-    edge: Edge,
-) -> Result<bool, AllocError>
-    requires room { length row.old ≡ G.width graph.old }
-    requires wide { tree.old.nodes.width ≡ G.width graph.old }
-    requires labelled { edge.label < G.label_count graph.old }
-    requires there { edge.from < length tree.old.nodes.rows }
-    requires before { IsSearching (G.next graph.old) (G.meaning graph.old) limit
-        tree.old.nodes.rows tree.old.edges.items edge.from edge.label }
-    ensures same_graph { G.next graph.new ≡ G.next graph.old }
-    ensures same_labels { G.label_count graph.new ≡ G.label_count graph.old }
-    ensures same_width { G.width graph.new ≡ G.width graph.old }
-    ensures same_rows { tree.new.nodes.width ≡ tree.old.nodes.width }
-    ensures first { IfOk result (λ _. state_at (G.meaning graph.new) tree.new.nodes.rows 0
-        ≡ state_at (G.meaning graph.old) tree.old.nodes.rows 0) }
-    ensures grown { IfOk result (λ _. length tree.old.nodes.rows ≤ length tree.new.nodes.rows) }
-    ensures after { IfOk result (GoesOn (G.next graph.new) (G.meaning graph.new) limit
-        edge tree.new.nodes.rows tree.new.edges.items) }
-{
-    if !graph.step(tree.node(edge.from), edge.label, row)? {
-        return Ok(true);
-    }
-    if tree.len() < limit {
-        tree.add(row, edge)?;
-        return Ok(true);
-    }
-    Ok(tree.nodes.find(row).is_some())
 }

@@ -7,6 +7,7 @@ ghost use Rattle.std.specs.Prelude.{
   ◌+◌,
   ◌^◌,
   ◌<◌,
+  ◌≤◌,
   [],
   ◌∷◌,
   ◌++◌,
@@ -16,7 +17,7 @@ ghost use Rattle.std.specs.Prelude.{
   slice_index_or,
   IfOk,
 };
-ghost use Rattle.graph_search.specs.Trees.{Adds};
+ghost use Rattle.graph_search.specs.Trees.{Adds, Fits};
 
 use crate::edges::Edge;
 use interner::Interner;
@@ -75,5 +76,21 @@ impl Tree {
             self.edges.push(edge)?;
         }
         Ok(())
+    }
+
+    /// Adds a node with this edge, unless it is there. False where it is not there, and there are as
+    /// many nodes as the limit. Fails only when out of memory, or of numbers for nodes.
+    pub fn reach(&mut self, node: &[u32], edge: Edge, limit: u32) -> Result<bool, AllocError>
+        requires wide { length node.now ≡ self.old.nodes.width }
+        requires within { length self.old.nodes.rows ≤ limit }
+        ensures added { IfOk result (λ fits. Fits node.now edge limit
+            self.old.nodes.rows self.old.edges.items self.new.nodes.rows self.new.edges.items fits) }
+        ensures same_width { self.new.nodes.width ≡ self.old.nodes.width }
+    {
+        if self.len() < limit {
+            self.add(node, edge)?;
+            return Ok(true);
+        }
+        Ok(self.nodes.find(node).is_some())
     }
 }

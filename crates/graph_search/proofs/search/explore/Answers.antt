@@ -1,5 +1,3 @@
-use Rattle.std.proofs.Common.{◌∙◌, ap, List, ℕ}
-use Rattle.graph_search.specs.Trees.{state_at}
 use Rattle.graph_search.proofs.TreeLemmas.{searching_begins, some_of}
 use Rattle.graph_search.proofs.search.explore.Goals as goal
 

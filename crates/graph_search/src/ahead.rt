@@ -1,0 +1,116 @@
+//! Steps along the edges of a node, made before any of them is followed.
+
+ghost use Rattle.std.specs.Prelude.{
+  ◌≡◌,
+  ◌≢◌,
+  ℕ,
+  ◌+◌,
+  ◌-◌,
+  ◌*◌,
+  ◌<◌,
+  ◌≤◌,
+  List,
+  length,
+  slice_index_or,
+  Some,
+  false,
+  IsSome,
+  IfOk,
+};
+ghost use Rattle.interner.specs.Rows.{row_at};
+ghost use Rattle.graph_search.specs.Searches.{AreSteps, Follows};
+
+use crate::edges::Edge;
+use crate::graphs::Graph;
+use crate::trees::Tree;
+use std::alloc::{AllocError, Global};
+
+/// The steps along the edges of a node, label by label from one on.
+#[derive(Drop)]
+pub struct Ahead {
+    /// A node to write to.
+    pub row: Vec<u32>,
+    /// For each label, whether there is such an edge.
+    pub leads: Vec<bool>,
+    /// For each label a row, which is the node to which the edge leads, if there is one.
+    pub rows: Vec<u32>,
+}
+
+impl Ahead {
+    /// No steps yet, of nodes with so many numbers.
+    pub fn new(alloc: Global, width: usize) -> Result<Ahead, AllocError>
+        ensures { IfOk result (λ ahead. length ahead.row.items ≡ width) }
+    {
+        let mut row = Vec::new(alloc);
+        row.resize(width, 0)?;
+        Ok(Ahead {
+            row,
+            leads: Vec::new(alloc),
+            rows: Vec::new(alloc),
+        })
+    }
+
+    /// Steps along the edges of this node, in place of those before. Fails only when out of memory,
+    /// or where the graph's step does.
+    pub fn step<G: Graph>(
+        &mut self,
+        graph: &mut G,
+        node: &[u32],
+        first: u32,
+    ) -> Result<(), AllocError>
+        requires meant { IsSome (G.meaning graph.old node.now) }
+        requires room { length self.old.row.items ≡ G.width graph.old }
+        ensures same_graph { G.next graph.new ≡ G.next graph.old }
+        ensures same_labels { G.label_count graph.new ≡ G.label_count graph.old }
+        ensures same_width { G.width graph.new ≡ G.width graph.old }
+        ensures same_room { length self.new.row.items ≡ length self.old.row.items }
+        ensures kept { (n : List ℕ) (s : G.State) → G.meaning graph.old n ≡ Some s →
+            G.meaning graph.new n ≡ Some s }
+        ensures one_node { IfOk result (λ _. first < G.label_count graph.old →
+            (m n : List ℕ) (s : G.State) → G.meaning graph.new m ≡ Some s →
+            G.meaning graph.new n ≡ Some s → m ≡ n) }
+        ensures count { IfOk result (λ _.
+            first ≤ G.label_count graph.old →
+            first + length self.new.leads.items ≡ G.label_count graph.old) }
+        ensures whole { IfOk result (λ _. length self.new.rows.items
+            ≡ length self.new.leads.items * G.width graph.old) }
+        ensures steps { IfOk result (λ _. (s : G.State) → G.meaning graph.old node.now ≡ Some s →
+            AreSteps (G.next graph.new) (G.meaning graph.new) (G.width graph.old) s first
+            self.new.leads.items self.new.rows.items) }
+    {
+        self.leads.clear();
+        self.rows.clear();
+        for label in first..graph.label_count() {
+            let leads = graph.step(node, label, self.row.as_mut_slice())?;
+            self.leads.push(leads)?;
+            self.rows.extend_from_slice(self.row.as_slice())?;
+        }
+        Ok(())
+    }
+
+    /// Follows the edge of a step: adds the node to which it leads, unless it is there. False where
+    /// there are as many nodes as the limit, and it is none of them.
+    pub fn follow(
+        &self,
+        place: usize,
+        tree: &mut Tree,
+        edge: Edge,
+        limit: u32,
+    ) -> Result<bool, AllocError>
+        requires there { place < length self.now.leads.items }
+        requires whole { length self.now.rows.items
+            ≡ length self.now.leads.items * tree.old.nodes.width }
+        requires within { length tree.old.nodes.rows ≤ limit }
+        ensures followed { IfOk result (Follows (slice_index_or self.now.leads.items place false)
+            (row_at tree.old.nodes.width self.now.rows.items place) edge limit
+            tree.old.nodes.rows tree.old.edges.items tree.new.nodes.rows tree.new.edges.items) }
+        ensures same_width { tree.new.nodes.width ≡ tree.old.nodes.width }
+    {
+        if !self.leads[place] {
+            return Ok(true);
+        }
+        let width = tree.nodes.width();
+        let start = place * width;
+        tree.reach(&self.rows[start..start + width], edge, limit)
+    }
+}
