@@ -58,6 +58,7 @@ fn hart_authorities(
     found: &Reached,
     count: u32,
 ) -> Result<Vec<Vec<Authority>>, AllocError>
+    requires few { found.now.width ≤ 9 }
     requires count { count ≤ length graph.now.image.harts }
     requires meant { (i : ℕ) → i < length found.now.nodes →
         (s : MachineState) × (state_at (state_in graph.now) found.now.nodes i ≡ Some s) }

@@ -31,7 +31,7 @@ use cap_ops::Cap;
 use explore_rights::Rights;
 use graph_search::Reached;
 use state_store::Store;
-use states::MachineGraph;
+use states::{MachineGraph, Room};
 use std::alloc::{AllocError, Global};
 
 /// The greatest rights that were gathered, and which values and which parts of states were looked
@@ -144,6 +144,7 @@ fn gather_state(
     gathering: &mut Gathering,
     state: u32,
 ) -> Result<(), AllocError>
+    requires few { found.now.width ≤ 9 }
     requires place { place_of who ≤ length graph.now.image.harts }
     requires meant { (s : MachineState)
         × (state_at (state_in graph.now) found.now.nodes state ≡ Some s) }
@@ -155,9 +156,8 @@ fn gather_state(
         graph.now.store gathering.new.greatest.items gathering.new.values.items
         gathering.new.parts.items (state + 1)) }
 {
-    let Some(row) = found.node(state) else {
-        unreachable!()
-    };
+    let mut room = Room::new();
+    let row = room.read(found, state);
     let part = who.part(row);
     if is_marked(gathering.parts.as_slice(), part) {
         return Ok(());
@@ -175,6 +175,7 @@ pub fn greatest_of(
     found: &Reached,
     who: Holder,
 ) -> Result<Vec<Authority>, AllocError>
+    requires few { found.now.width ≤ 9 }
     requires place { place_of who ≤ length graph.now.image.harts }
     requires meant { (i : ℕ) → i < length found.now.nodes →
         (s : MachineState) × (state_at (state_in graph.now) found.now.nodes i ≡ Some s) }

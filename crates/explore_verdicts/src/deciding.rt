@@ -9,7 +9,7 @@ use explore_properties::When;
 use outcomes::is_final;
 use shown_states::SeenState;
 use state_store::State;
-use states::{Kept, StateTest};
+use states::{Kept, Room, StateTest};
 
 /// Whether a state decides when a condition holds.
 #[derive(Clone, Copy)]
@@ -46,7 +46,7 @@ fn first_passing<T: StateTest>(kept: &Kept, test: &T) -> Option<u32>
     ensures { IsFirstPassing kept.now (T.passing test.now) result }
 {
     for number in 0..kept.len() {
-        if test.passes(kept.state(number)) {
+        if test.passes(kept.state(number, &mut Room::new())) {
             return Some(number);
         }
     }

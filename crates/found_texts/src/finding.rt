@@ -38,7 +38,7 @@ use cores::Core;
 use explore_sights::Sight;
 use graph_search::Progress;
 use shown_states::{Answer, ConditionTest, Ending, Format, Loaded};
-use states::{Found, Kept, Search, find_from};
+use states::{Found, Kept, Room, Search, find_from};
 use std::alloc::{AllocError, Global};
 
 /// An answer, and the orders that it tells of.
@@ -67,7 +67,7 @@ fn witnessed(alloc: Global, core: &Core, kept: &Kept, number: u32) -> Result<Led
     let _granules = kept.image().granules();
     let view = core.view();
     let mut state = Loaded::new(alloc, view.harts, view.ram)?;
-    state.load(kept.state(number));
+    state.load(kept.state(number, &mut Room::new()));
     let order = kept.witness(alloc, number)?;
     Ok(Led { order, state })
 }

@@ -3,6 +3,7 @@
 ghost use Rattle.std.specs.Prelude.{
   ◌≡◌,
   ℕ,
+  ◌+◌,
   ◌<◌,
   ◌≤◌,
   length,
@@ -33,16 +34,17 @@ pub enum Round {
 }
 
 /// What these labels are, followed from a node, where labels below `actors` are those of actors.
-/// `row` is any row of a node's width, to work in. Fails only when out of memory, or of numbers.
+/// `rows` is room for two nodes, to work in. Fails only when out of memory, or of numbers.
 pub fn judge_labels<G: Graph>(
     graph: &mut G,
     found: &Reached,
     node: u32,
     labels: &[u32],
     actors: u32,
-    row: &mut [u32],
+    rows: &mut [u32],
 ) -> Result<Round, AllocError>
-    requires room { length row.old ≡ G.width graph.old }
+    requires wide { found.now.width ≡ G.width graph.old }
+    requires room { length rows.old ≡ G.width graph.old + G.width graph.old }
     requires labelled { actors ≤ G.label_count graph.old }
     requires there { node < length found.now.nodes }
     requires meant { AreMeant (state_at (G.meaning graph.old) found.now.nodes)
@@ -62,13 +64,13 @@ pub fn judge_labels<G: Graph>(
     let Some(_actor) = first_actor(labels, actors) else {
         return Ok(Round::NoLoop);
     };
-    let Some(end) = walk_end(graph, found, node, labels, row)? else {
+    let Some(end) = walk_end(graph, found, node, labels, rows)? else {
         return Ok(Round::NoLoop);
     };
     if end != node {
         return Ok(Round::NoLoop);
     }
-    if is_fair(graph, found, node, labels, actors, row)? {
+    if is_fair(graph, found, node, labels, actors, rows)? {
         Ok(Round::FairLoop)
     } else {
         Ok(Round::Loop)
@@ -105,9 +107,10 @@ fn walk_end<G: Graph>(
     found: &Reached,
     node: u32,
     labels: &[u32],
-    row: &mut [u32],
+    rows: &mut [u32],
 ) -> Result<Option<u32>, AllocError>
-    requires room { length row.old ≡ G.width graph.old }
+    requires wide { found.now.width ≡ G.width graph.old }
+    requires room { length rows.old ≡ G.width graph.old + G.width graph.old }
     requires there { node < length found.now.nodes }
     requires meant { AreMeant (state_at (G.meaning graph.old) found.now.nodes)
         (length found.now.nodes) }
@@ -132,7 +135,7 @@ fn walk_end<G: Graph>(
         if *label >= graph.label_count() {
             return Ok(None);
         }
-        let Some(to) = target_of(graph, found, here, *label, row)? else {
+        let Some(to) = target_of(graph, found, here, *label, rows)? else {
             return Ok(None);
         };
         here = to;
@@ -147,9 +150,10 @@ fn is_fair<G: Graph>(
     node: u32,
     labels: &[u32],
     actors: u32,
-    row: &mut [u32],
+    rows: &mut [u32],
 ) -> Result<bool, AllocError>
-    requires room { length row.old ≡ G.width graph.old }
+    requires wide { found.now.width ≡ G.width graph.old }
+    requires room { length rows.old ≡ G.width graph.old + G.width graph.old }
     requires labelled { actors ≤ G.label_count graph.old }
     requires there { node < length found.now.nodes }
     requires meant { AreMeant (state_at (G.meaning graph.old) found.now.nodes)
@@ -169,7 +173,7 @@ fn is_fair<G: Graph>(
         if takes(labels, actor) {
             continue;
         }
-        if has_edge(graph, found, node, actor, row)? {
+        if has_edge(graph, found, node, actor, rows)? {
             return Ok(false);
         }
     }

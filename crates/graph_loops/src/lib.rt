@@ -7,6 +7,6 @@ mod labels;
 mod scans;
 mod tables;
 
-pub use edges::{has_edge, target_of};
+pub use edges::{edge_room, has_edge, target_of};
 pub use labels::{Round, judge_labels};
 pub use scans::{Loops, judge_loops};

@@ -20,6 +20,7 @@ ghost use Rattle.graph_search.specs.Trees.{state_at};
 ghost use Rattle.graph_loops.specs.Loops.{IsKnown};
 ghost use Rattle.graph_loops.specs.Scans.{IsScanning, ScansTo};
 
+use crate::edges::{edge_room, follow, target_in};
 use crate::tables::{all_starved, is_still, place};
 use graph_search::{Edge, Graph, Reached};
 use std::alloc::{AllocError, Global};
@@ -52,6 +53,7 @@ pub fn judge_loops<G: Graph>(
     numbers: &[u32],
     actors: u32,
 ) -> Result<Loops, AllocError>
+    requires wide { found.now.width ≡ G.width graph.old }
     requires meant { (i : ℕ) → i < length found.now.nodes →
         (s : G.State) × (state_at (G.meaning graph.old) found.now.nodes i ≡ Some s) }
     requires distinct { (i j : ℕ) (s : G.State) →
@@ -76,15 +78,14 @@ pub fn judge_loops<G: Graph>(
         return Ok(Loops::Unknown);
     }
     let mut tables = new_tables(alloc, numbers.len(), actors)?;
-    let mut row = Vec::new(alloc);
-    row.resize(graph.width(), 0)?;
+    let mut rows = edge_room(alloc, graph)?;
     if !scan(
         graph,
         found,
         numbers,
         actors,
         &mut tables,
-        row.as_mut_slice(),
+        rows.as_mut_slice(),
     )? {
         return Ok(Loops::Unknown);
     }
@@ -124,9 +125,10 @@ fn scan<G: Graph>(
     numbers: &[u32],
     actors: u32,
     tables: &mut Tables,
-    row: &mut [u32],
+    rows: &mut [u32],
 ) -> Result<bool, AllocError>
-    requires room { length row.old ≡ G.width graph.old }
+    requires wide { found.now.width ≡ G.width graph.old }
+    requires room { length rows.old ≡ G.width graph.old + G.width graph.old }
     requires labelled { actors ≤ G.label_count graph.old }
     requires before { IsScanning (G.next graph.old) (G.meaning graph.old) actors found.now.nodes
         numbers.now tables.old.moves.items tables.old.runs.items 0 0 }
@@ -138,7 +140,7 @@ fn scan<G: Graph>(
         tables.new.moves.items tables.new.runs.items) }
 {
     for node in 0..found.len() {
-        if !scan_node(graph, found, numbers, actors, tables, row, node)? {
+        if !scan_node(graph, found, numbers, actors, tables, rows, node)? {
             return Ok(false);
         }
     }
@@ -152,10 +154,11 @@ fn scan_node<G: Graph>(
     numbers: &[u32],
     actors: u32,
     tables: &mut Tables,
-    row: &mut [u32],
+    rows: &mut [u32],
     node: u32,
 ) -> Result<bool, AllocError>
-    requires room { length row.old ≡ G.width graph.old }
+    requires wide { found.now.width ≡ G.width graph.old }
+    requires room { length rows.old ≡ G.width graph.old + G.width graph.old }
     requires labelled { actors ≤ G.label_count graph.old }
     requires there { node < length found.now.nodes }
     requires before { IsScanning (G.next graph.old) (G.meaning graph.old) actors found.now.nodes
@@ -169,7 +172,7 @@ fn scan_node<G: Graph>(
 {
     for label in 0..graph.label_count() {
         let edge = Edge { from: node, label };
-        if !scan_edge(graph, found, numbers, actors, tables, row, edge)? {
+        if !scan_edge(graph, found, numbers, actors, tables, rows, edge)? {
             return Ok(false);
         }
     }
@@ -183,10 +186,11 @@ fn scan_edge<G: Graph>(
     numbers: &[u32],
     actors: u32,
     tables: &mut Tables,
-    row: &mut [u32],
+    rows: &mut [u32],
     edge: Edge,
 ) -> Result<bool, AllocError>
-    requires room { length row.old ≡ G.width graph.old }
+    requires wide { found.now.width ≡ G.width graph.old }
+    requires room { length rows.old ≡ G.width graph.old + G.width graph.old }
     requires labelled { edge.label < G.label_count graph.old }
     requires there { edge.from < length found.now.nodes }
     requires before { IsScanning (G.next graph.old) (G.meaning graph.old) actors found.now.nodes
@@ -198,17 +202,14 @@ fn scan_edge<G: Graph>(
         (G.meaning graph.new) actors found.now.nodes numbers.now edge.from (edge.label + 1)
         tables.new.moves.items tables.new.runs.items) }
 {
-    let Some(node) = found.node(edge.from) else {
-        unreachable!()
-    };
     let number = numbers[edge.from as usize];
-    if !graph.step(node, edge.label, row)? {
+    if !follow(graph, found, edge.from, edge.label, rows)? {
         if edge.label < actors {
             tables.runs[place(number, numbers.len(), actors, edge.label)] = false;
         }
         return Ok(true);
     }
-    let Some(to) = found.find(row) else {
+    let Some(to) = target_in(found, rows, graph.width()) else {
         return Ok(false);
     };
     let next = numbers[to as usize];

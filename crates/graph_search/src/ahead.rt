@@ -16,6 +16,7 @@ ghost use Rattle.std.specs.Prelude.{
   false,
   IsSome,
   IfOk,
+  slice_get,
 };
 ghost use Rattle.interner.specs.Rows.{row_at};
 ghost use Rattle.graph_search.specs.Searches.{AreSteps, Follows};
@@ -28,6 +29,8 @@ use std::alloc::{AllocError, Global};
 /// The steps along the edges of a node, label by label from one on.
 #[derive(Drop)]
 pub struct Ahead {
+    /// The node.
+    pub node: Vec<u32>,
     /// A node to write to.
     pub row: Vec<u32>,
     /// For each label, whether there is such an edge.
@@ -39,30 +42,41 @@ pub struct Ahead {
 impl Ahead {
     /// No steps yet, of nodes with so many numbers.
     pub fn new(alloc: Global, width: usize) -> Result<Ahead, AllocError>
-        ensures { IfOk result (λ ahead. length ahead.row.items ≡ width) }
+        ensures node { IfOk result (λ ahead. length ahead.node.items ≡ width) }
+        ensures row { IfOk result (λ ahead. length ahead.row.items ≡ width) }
     {
+        let mut node = Vec::new(alloc);
+        node.resize(width, 0)?;
         let mut row = Vec::new(alloc);
         row.resize(width, 0)?;
         Ok(Ahead {
+            node,
             row,
             leads: Vec::new(alloc),
             rows: Vec::new(alloc),
         })
     }
 
-    /// Steps along the edges of this node, in place of those before. Fails only when out of memory,
-    /// or where the graph's step does.
-    pub fn step<G: Graph>(
-        &mut self,
-        graph: &mut G,
-        node: &[u32],
-        first: u32,
-    ) -> Result<(), AllocError>
-        requires meant { IsSome (G.meaning graph.old node.now) }
+    /// Takes the node of this number.
+    pub fn read(&mut self, tree: &Tree, number: u32)
+        requires there { number < length tree.now.nodes.rows }
+        requires room { length self.old.node.items ≡ tree.now.nodes.width }
+        ensures node { slice_get tree.now.nodes.rows number ≡ Some self.new.node.items }
+        ensures room { length self.new.node.items ≡ length self.old.node.items }
+        ensures same_row { self.new.row.items ≡ self.old.row.items }
+    {
+        tree.read(number, self.node.as_mut_slice());
+    }
+
+    /// Steps along the node's edges from this label on, in place of those before. Fails only when
+    /// out of memory, or where the graph's step does.
+    pub fn step<G: Graph>(&mut self, graph: &mut G, first: u32) -> Result<(), AllocError>
+        requires meant { IsSome (G.meaning graph.old self.old.node.items) }
         requires room { length self.old.row.items ≡ G.width graph.old }
         ensures same_graph { G.next graph.new ≡ G.next graph.old }
         ensures same_labels { G.label_count graph.new ≡ G.label_count graph.old }
         ensures same_width { G.width graph.new ≡ G.width graph.old }
+        ensures same_node { self.new.node.items ≡ self.old.node.items }
         ensures same_room { length self.new.row.items ≡ length self.old.row.items }
         ensures kept { (n : List ℕ) (s : G.State) → G.meaning graph.old n ≡ Some s →
             G.meaning graph.new n ≡ Some s }
@@ -74,14 +88,15 @@ impl Ahead {
             first + length self.new.leads.items ≡ G.label_count graph.old) }
         ensures whole { IfOk result (λ _. length self.new.rows.items
             ≡ length self.new.leads.items * G.width graph.old) }
-        ensures steps { IfOk result (λ _. (s : G.State) → G.meaning graph.old node.now ≡ Some s →
+        ensures steps { IfOk result (λ _. (s : G.State) →
+            G.meaning graph.old self.old.node.items ≡ Some s →
             AreSteps (G.next graph.new) (G.meaning graph.new) (G.width graph.old) s first
             self.new.leads.items self.new.rows.items) }
     {
         self.leads.clear();
         self.rows.clear();
         for label in first..graph.label_count() {
-            let leads = graph.step(node, label, self.row.as_mut_slice())?;
+            let leads = graph.step(self.node.as_slice(), label, self.row.as_mut_slice())?;
             self.leads.push(leads)?;
             self.rows.extend_from_slice(self.row.as_slice())?;
         }

@@ -11,10 +11,11 @@ ghost use Rattle.std.specs.Prelude.{
   Some,
   None,
   is_none,
-  option_copied,
   reverse,
   IfOk,
   IfSome,
+  true,
+  false,
 };
 ghost use Rattle.graph_search.specs.Trees.{IsTrace, IsOrderly, edge_at};
 
@@ -84,11 +85,22 @@ impl Reached {
         self.tree.len()
     }
 
-    /// The node of this number, if there is one.
-    pub fn node(&self, number: u32) -> Option<&[u32]>
-        ensures { option_copied result ≡ slice_get self.now.nodes number }
+    /// How many numbers a node has.
+    pub fn width(&self) -> usize
+        ensures { result ≡ self.now.width }
     {
-        self.tree.nodes.row(number)
+        self.tree.nodes.width()
+    }
+
+    /// Writes the node of this number. False where there is none, and then nothing is written.
+    pub fn read(&self, number: u32, node: &mut [u32]) -> bool
+        requires room { length node.old ≡ self.now.width }
+        ensures node { result ≡ true → slice_get self.now.nodes number ≡ Some node.new }
+        ensures none { result ≡ false → slice_get self.now.nodes number ≡ None }
+        ensures left { result ≡ false → node.new ≡ node.old }
+        ensures same_room { length node.new ≡ length node.old }
+    {
+        self.tree.nodes.read(number, node)
     }
 
     /// The number of this node, if it was found.

@@ -136,6 +136,7 @@ fn expand_all<G: Graph, P: Progress>(
     place: Edge,
     progress: &mut P,
 ) -> Result<Option<Edge>, AllocError>
+    requires node { length ahead.old.node.items ≡ G.width graph.old }
     requires room { length ahead.old.row.items ≡ G.width graph.old }
     requires wide { tree.old.nodes.width ≡ G.width graph.old }
     requires before { IsSearching (G.next graph.old) (G.meaning graph.old) limit
@@ -175,6 +176,7 @@ fn expand<G: Graph>(
     limit: u32,
     first: Edge,
 ) -> Result<Option<Edge>, AllocError>
+    requires node { length ahead.old.node.items ≡ G.width graph.old }
     requires room { length ahead.old.row.items ≡ G.width graph.old }
     requires wide { tree.old.nodes.width ≡ G.width graph.old }
     requires there { first.from < length tree.old.nodes.rows }
@@ -183,6 +185,7 @@ fn expand<G: Graph>(
     ensures same_graph { G.next graph.new ≡ G.next graph.old }
     ensures same_labels { G.label_count graph.new ≡ G.label_count graph.old }
     ensures same_width { G.width graph.new ≡ G.width graph.old }
+    ensures same_node { length ahead.new.node.items ≡ length ahead.old.node.items }
     ensures same_room { length ahead.new.row.items ≡ length ahead.old.row.items }
     ensures same_rows { tree.new.nodes.width ≡ tree.old.nodes.width }
     ensures first { IfOk result (λ _. state_at (G.meaning graph.new) tree.new.nodes.rows 0
@@ -191,7 +194,8 @@ fn expand<G: Graph>(
     ensures after { IfOk result (Reaches (G.next graph.new) (G.meaning graph.new) limit
         (first.from + 1) tree.new.nodes.rows tree.new.edges.items) }
 {
-    ahead.step(graph, tree.node(first.from), first.label)?;
+    ahead.read(tree, first.from);
+    ahead.step(graph, first.label)?;
     for label in first.label..graph.label_count() {
         let edge = Edge {
             from: first.from,

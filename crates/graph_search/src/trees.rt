@@ -20,13 +20,13 @@ ghost use Rattle.std.specs.Prelude.{
 ghost use Rattle.graph_search.specs.Trees.{Adds, Fits};
 
 use crate::edges::Edge;
-use interner::Interner;
+use graph_nodes::Nodes;
 use std::alloc::{AllocError, Global};
 
 /// The nodes found so far, and an edge for each: that of the first node means nothing.
 #[derive(Drop)]
 pub struct Tree {
-    pub nodes: Interner,
+    pub nodes: Nodes,
     pub edges: Vec<Edge>,
 }
 
@@ -37,7 +37,7 @@ impl Tree {
         ensures edges { IfOk result (λ tree. length tree.edges.items ≡ 1) }
         ensures width { IfOk result (λ tree. tree.nodes.width ≡ length start.now) }
     {
-        let mut nodes = Interner::new(alloc, start.len());
+        let mut nodes = Nodes::new(alloc, start.len());
         nodes.insert(start)?;
         let mut edges = Vec::new(alloc);
         edges.push(Edge { from: 0, label: 0 })?;
@@ -51,15 +51,16 @@ impl Tree {
         self.nodes.len() as u32
     }
 
-    /// The node of this number.
-    pub fn node(&self, number: u32) -> &[u32]
-        requires { number < length self.now.nodes.rows }
-        ensures { slice_get self.now.nodes.rows number ≡ Some result.now }
+    /// Writes the node of this number.
+    pub fn read(&self, number: u32, node: &mut [u32])
+        requires there { number < length self.now.nodes.rows }
+        requires room { length node.old ≡ self.now.nodes.width }
+        ensures node { slice_get self.now.nodes.rows number ≡ Some node.new }
+        ensures same_room { length node.new ≡ length node.old }
     {
-        let Some(node) = self.nodes.row(number) else {
+        if !self.nodes.read(number, node) {
             unreachable!()
-        };
-        node
+        }
     }
 
     /// Adds a node with this edge, unless it is there. Fails only when out of memory, or of numbers

@@ -4,6 +4,8 @@
 #[cfg(test)]
 mod loops;
 #[cfg(test)]
+mod nodes;
+#[cfg(test)]
 mod routes;
 #[cfg(test)]
 mod rows;

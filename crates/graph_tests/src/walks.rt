@@ -25,7 +25,14 @@ fn distance(number: u32) -> u32 {
 
 /// The number that a node is.
 fn number_at(found: &Reached, node: u32) -> Option<u32> {
-    found.node(node)?.first().copied()
+    let mut row = [0];
+    if found.width() != row.len() {
+        return None;
+    }
+    if !found.read(node, &mut row) {
+        return None;
+    }
+    Some(row[0])
 }
 
 /// The first node whose walk is not as long as its number's distance, or shorter than the walk of
@@ -87,7 +94,11 @@ fn counts(alloc: Global, limit: u32) -> Result<(u32, bool, bool), AllocError>
 {
     let found = search(alloc, 11, limit)?;
     let count = found.len();
-    Ok((count, found.is_complete(), found.node(count).is_none()))
+    Ok((
+        count,
+        found.is_complete(),
+        number_at(&found, count).is_none(),
+    ))
 }
 
 /// A search stops at its limit, and not before it.

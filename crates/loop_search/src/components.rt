@@ -4,7 +4,7 @@
 //! Nothing here is proved but that it ends and leaves the graph as it was: what is made of the
 //! components is checked afterwards.
 
-ghost use Rattle.std.specs.Prelude.{◌≡◌, ◌<◌, ◌≤◌, length, IfOk};
+ghost use Rattle.std.specs.Prelude.{◌≡◌, ◌+◌, ◌<◌, ◌≤◌, length, IfOk};
 ghost use Rattle.graph_search.specs.Trees.{state_at};
 ghost use Rattle.graph_loops.specs.Loops.{AreMeant};
 
@@ -54,9 +54,10 @@ pub fn components_of<G: Graph>(
     alloc: Global,
     graph: &mut G,
     found: &Reached,
-    row: &mut [u32],
+    rows: &mut [u32],
 ) -> Result<Vec<u32>, AllocError>
-    requires room { length row.old ≡ G.width graph.old }
+    requires wide { found.now.width ≡ G.width graph.old }
+    requires room { length rows.old ≡ G.width graph.old + G.width graph.old }
     requires meant { AreMeant (state_at (G.meaning graph.old) found.now.nodes)
         (length found.now.nodes) }
     ensures same_graph { G.next graph.new ≡ G.next graph.old }
@@ -76,7 +77,7 @@ pub fn components_of<G: Graph>(
         components: 0,
     };
     for node in 0..found.len() {
-        visit_from(graph, found, visits.as_mut_slice(), &mut path, node, row)?;
+        visit_from(graph, found, visits.as_mut_slice(), &mut path, node, rows)?;
     }
     let mut numbers = Vec::with_capacity(alloc, visits.len())?;
     for visit in &visits {
@@ -92,9 +93,10 @@ fn visit_from<G: Graph>(
     visits: &mut [Visit],
     path: &mut Path,
     root: u32,
-    row: &mut [u32],
+    rows: &mut [u32],
 ) -> Result<(), AllocError>
-    requires room { length row.old ≡ G.width graph.old }
+    requires wide { found.now.width ≡ G.width graph.old }
+    requires room { length rows.old ≡ G.width graph.old + G.width graph.old }
     requires meant { AreMeant (state_at (G.meaning graph.old) found.now.nodes)
         (length found.now.nodes) }
     requires even { length visits.old ≡ length found.now.nodes }
@@ -117,7 +119,7 @@ fn visit_from<G: Graph>(
         if here >= found.len() {
             break;
         }
-        here = advance(graph, found, visits, path, here, row)?;
+        here = advance(graph, found, visits, path, here, rows)?;
     }
     Ok(())
 }
@@ -146,9 +148,10 @@ fn advance<G: Graph>(
     visits: &mut [Visit],
     path: &mut Path,
     here: u32,
-    row: &mut [u32],
+    rows: &mut [u32],
 ) -> Result<u32, AllocError>
-    requires room { length row.old ≡ G.width graph.old }
+    requires wide { found.now.width ≡ G.width graph.old }
+    requires room { length rows.old ≡ G.width graph.old + G.width graph.old }
     requires meant { AreMeant (state_at (G.meaning graph.old) found.now.nodes)
         (length found.now.nodes) }
     requires even { length visits.old ≡ length found.now.nodes }
@@ -166,7 +169,7 @@ fn advance<G: Graph>(
         return Ok(leave(visits, path, here));
     }
     visits[here as usize].label = label + 1;
-    match target_of(graph, found, here, label, row)? {
+    match target_of(graph, found, here, label, rows)? {
         Some(to) => Ok(go_to(visits, path, here, to)),
         None => Ok(here),
     }

@@ -1,13 +1,13 @@
 //! Whether the states that a search found have loops.
 
-ghost use Rattle.std.specs.Prelude.{◌≡◌, ◌<◌, ◌≤◌, length, true, IfOk, IfSome};
+ghost use Rattle.std.specs.Prelude.{◌≡◌, ◌+◌, ◌<◌, ◌≤◌, length, true, IfOk, IfSome};
 ghost use Rattle.graph_search.specs.Trees.{state_at};
 ghost use Rattle.graph_loops.specs.Loops.{AreMeant, IsKnown};
 ghost use Rattle.loop_search.specs.Verdicts.{AreDistinct, IsVerdict, IsFoundLoop, IsFoundFair, IsTried};
 
 use crate::components::components_of;
 use crate::rounds::{MAX_ACTORS, Wanted, movers_of, running_at, shortest_loop};
-use graph_loops::{Loops, Round, judge_labels, judge_loops};
+use graph_loops::{Loops, Round, edge_room, judge_labels, judge_loops};
 use graph_search::{Graph, Reached};
 use std::alloc::{AllocError, Global};
 
@@ -67,6 +67,7 @@ pub fn search_loops<G: Graph>(
     found: &Reached,
     actors: u32,
 ) -> Result<Verdict, AllocError>
+    requires wide { found.now.width ≡ G.width graph.old }
     requires few { actors ≤ MAX_ACTORS }
     requires labelled { actors ≤ G.label_count graph.old }
     requires meant { AreMeant (state_at (G.meaning graph.old) found.now.nodes)
@@ -94,6 +95,7 @@ fn is_descending<G: Graph>(
     found: &Reached,
     actors: u32,
 ) -> Result<bool, AllocError>
+    requires wide { found.now.width ≡ G.width graph.old }
     requires labelled { actors ≤ G.label_count graph.old }
     requires meant { AreMeant (state_at (G.meaning graph.old) found.now.nodes)
         (length found.now.nodes) }
@@ -126,6 +128,7 @@ fn judge_numbers<G: Graph>(
     numbers: &[u32],
     actors: u32,
 ) -> Result<Loops, AllocError>
+    requires wide { found.now.width ≡ G.width graph.old }
     requires labelled { actors ≤ G.label_count graph.old }
     requires meant { AreMeant (state_at (G.meaning graph.old) found.now.nodes)
         (length found.now.nodes) }
@@ -150,6 +153,7 @@ fn search_components<G: Graph>(
     found: &Reached,
     actors: u32,
 ) -> Result<Verdict, AllocError>
+    requires wide { found.now.width ≡ G.width graph.old }
     requires few { actors ≤ MAX_ACTORS }
     requires labelled { actors ≤ G.label_count graph.old }
     requires meant { AreMeant (state_at (G.meaning graph.old) found.now.nodes)
@@ -163,19 +167,18 @@ fn search_components<G: Graph>(
     ensures verdict { IfOk result (IsVerdict (G.next graph.old) actors
         (state_at (G.meaning graph.old) found.now.nodes) found.now.complete) }
 {
-    let mut row = Vec::new(alloc);
-    row.resize(graph.width(), 0)?;
-    let row = row.as_mut_slice();
-    let numbers = components_of(alloc, graph, found, row)?;
-    let movers = movers_of(alloc, graph, found, numbers.as_slice(), actors, row)?;
+    let mut rows = edge_room(alloc, graph)?;
+    let rows = rows.as_mut_slice();
+    let numbers = components_of(alloc, graph, found, rows)?;
+    let movers = movers_of(alloc, graph, found, numbers.as_slice(), actors, rows)?;
     let components = Components { numbers, movers };
-    if let Some(fair) = fair_loop(alloc, graph, found, &components, actors, row)? {
+    if let Some(fair) = fair_loop(alloc, graph, found, &components, actors, rows)? {
         return Ok(Verdict::Fair(fair));
     }
     if !found.is_complete() {
         return Ok(Verdict::Unknown);
     }
-    judge_components(alloc, graph, found, &components, actors, row)
+    judge_components(alloc, graph, found, &components, actors, rows)
 }
 
 /// What the components show of loops, where none is fair.
@@ -185,9 +188,10 @@ fn judge_components<G: Graph>(
     found: &Reached,
     components: &Components,
     actors: u32,
-    row: &mut [u32],
+    rows: &mut [u32],
 ) -> Result<Verdict, AllocError>
-    requires room { length row.old ≡ G.width graph.old }
+    requires wide { found.now.width ≡ G.width graph.old }
+    requires room { length rows.old ≡ G.width graph.old + G.width graph.old }
     requires few { actors ≤ MAX_ACTORS }
     requires labelled { actors ≤ G.label_count graph.old }
     requires even { length components.now.numbers.items ≡ length found.now.nodes }
@@ -206,7 +210,7 @@ fn judge_components<G: Graph>(
     match judge_numbers(alloc, graph, found, components.numbers.as_slice(), actors)? {
         Loops::NoLoop => Ok(Verdict::NoLoop),
         Loops::Unknown => Ok(Verdict::Unknown),
-        Loops::Unfair => match any_loop(alloc, graph, found, components, actors, row)? {
+        Loops::Unfair => match any_loop(alloc, graph, found, components, actors, rows)? {
             Some(unfair) => Ok(Verdict::Unfair(unfair)),
             None => Ok(Verdict::Unknown),
         },
@@ -230,9 +234,10 @@ fn fair_loop<G: Graph>(
     found: &Reached,
     components: &Components,
     actors: u32,
-    row: &mut [u32],
+    rows: &mut [u32],
 ) -> Result<Option<FoundLoop>, AllocError>
-    requires room { length row.old ≡ G.width graph.old }
+    requires wide { found.now.width ≡ G.width graph.old }
+    requires room { length rows.old ≡ G.width graph.old + G.width graph.old }
     requires few { actors ≤ MAX_ACTORS }
     requires labelled { actors ≤ G.label_count graph.old }
     requires even { length components.now.numbers.items ≡ length found.now.nodes }
@@ -253,7 +258,7 @@ fn fair_loop<G: Graph>(
         if movers == 0 {
             continue;
         }
-        let running = running_at(graph, found, node, actors, row)?;
+        let running = running_at(graph, found, node, actors, rows)?;
         if running & !movers != 0 {
             continue;
         }
@@ -263,7 +268,7 @@ fn fair_loop<G: Graph>(
             actors,
             all: if running == 0 { None } else { Some(running) },
         };
-        match try_loop(alloc, graph, found, wanted, row)? {
+        match try_loop(alloc, graph, found, wanted, rows)? {
             Tried::Fair(found) => return Ok(Some(found)),
             Tried::Loop(_) | Tried::Nothing => {}
         }
@@ -278,9 +283,10 @@ fn any_loop<G: Graph>(
     found: &Reached,
     components: &Components,
     actors: u32,
-    row: &mut [u32],
+    rows: &mut [u32],
 ) -> Result<Option<FoundLoop>, AllocError>
-    requires room { length row.old ≡ G.width graph.old }
+    requires wide { found.now.width ≡ G.width graph.old }
+    requires room { length rows.old ≡ G.width graph.old + G.width graph.old }
     requires few { actors ≤ MAX_ACTORS }
     requires labelled { actors ≤ G.label_count graph.old }
     requires even { length components.now.numbers.items ≡ length found.now.nodes }
@@ -306,7 +312,7 @@ fn any_loop<G: Graph>(
             actors,
             all: None,
         };
-        match try_loop(alloc, graph, found, wanted, row)? {
+        match try_loop(alloc, graph, found, wanted, rows)? {
             Tried::Fair(found) => return Ok(Some(found)),
             Tried::Loop(found) => return Ok(Some(found)),
             Tried::Nothing => {}
@@ -321,9 +327,10 @@ fn try_loop<G: Graph>(
     graph: &mut G,
     found: &Reached,
     wanted: Wanted<'_>,
-    row: &mut [u32],
+    rows: &mut [u32],
 ) -> Result<Tried, AllocError>
-    requires room { length row.old ≡ G.width graph.old }
+    requires wide { found.now.width ≡ G.width graph.old }
+    requires room { length rows.old ≡ G.width graph.old + G.width graph.old }
     requires labelled { wanted.actors ≤ G.label_count graph.old }
     requires even { length wanted.components.now ≡ length found.now.nodes }
     requires there { wanted.node < length found.now.nodes }
@@ -340,10 +347,10 @@ fn try_loop<G: Graph>(
         (state_at (G.meaning graph.old) found.now.nodes)) }
 {
     let node = wanted.node;
-    let Some(labels) = shortest_loop(alloc, graph, found, wanted, row)? else {
+    let Some(labels) = shortest_loop(alloc, graph, found, wanted, rows)? else {
         return Ok(Tried::Nothing);
     };
-    match judge_labels(graph, found, node, labels.as_slice(), wanted.actors, row)? {
+    match judge_labels(graph, found, node, labels.as_slice(), wanted.actors, rows)? {
         Round::NoLoop => Ok(Tried::Nothing),
         Round::Loop => Ok(Tried::Loop(FoundLoop { node, labels })),
         Round::FairLoop => Ok(Tried::Fair(FoundLoop { node, labels })),

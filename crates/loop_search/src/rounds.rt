@@ -3,7 +3,7 @@
 //! Nothing here is proved but that it ends and leaves the graph as it was: the labels are followed
 //! again afterwards.
 
-ghost use Rattle.std.specs.Prelude.{◌≡◌, ◌<◌, ◌≤◌, length, Some, IfOk, IfSome};
+ghost use Rattle.std.specs.Prelude.{◌≡◌, ◌+◌, ◌<◌, ◌≤◌, length, Some, IfOk, IfSome};
 ghost use Rattle.graph_search.specs.Trees.{state_at};
 ghost use Rattle.graph_loops.specs.Loops.{AreMeant};
 
@@ -28,9 +28,10 @@ pub fn running_at<G: Graph>(
     found: &Reached,
     node: u32,
     actors: u32,
-    row: &mut [u32],
+    rows: &mut [u32],
 ) -> Result<u32, AllocError>
-    requires room { length row.old ≡ G.width graph.old }
+    requires wide { found.now.width ≡ G.width graph.old }
+    requires room { length rows.old ≡ G.width graph.old + G.width graph.old }
     requires few { actors ≤ MAX_ACTORS }
     requires labelled { actors ≤ G.label_count graph.old }
     requires there { node < length found.now.nodes }
@@ -46,7 +47,7 @@ pub fn running_at<G: Graph>(
 {
     let mut running = 0;
     for actor in 0..actors {
-        if has_edge(graph, found, node, actor, row)? {
+        if has_edge(graph, found, node, actor, rows)? {
             running |= one(actor);
         }
     }
@@ -60,9 +61,10 @@ pub fn movers_of<G: Graph>(
     found: &Reached,
     components: &[u32],
     actors: u32,
-    row: &mut [u32],
+    rows: &mut [u32],
 ) -> Result<Vec<u32>, AllocError>
-    requires room { length row.old ≡ G.width graph.old }
+    requires wide { found.now.width ≡ G.width graph.old }
+    requires room { length rows.old ≡ G.width graph.old + G.width graph.old }
     requires few { actors ≤ MAX_ACTORS }
     requires labelled { actors ≤ G.label_count graph.old }
     requires even { length components.now ≡ length found.now.nodes }
@@ -80,7 +82,7 @@ pub fn movers_of<G: Graph>(
     movers.resize(components.len(), 0)?;
     for node in 0..found.len() {
         let component = components[node as usize];
-        let moving = moving_at(graph, found, components, node, actors, row)?;
+        let moving = moving_at(graph, found, components, node, actors, rows)?;
         if let Some(all) = movers.get_mut(component as usize) {
             *all |= moving;
         }
@@ -95,9 +97,10 @@ fn moving_at<G: Graph>(
     components: &[u32],
     node: u32,
     actors: u32,
-    row: &mut [u32],
+    rows: &mut [u32],
 ) -> Result<u32, AllocError>
-    requires room { length row.old ≡ G.width graph.old }
+    requires wide { found.now.width ≡ G.width graph.old }
+    requires room { length rows.old ≡ G.width graph.old + G.width graph.old }
     requires few { actors ≤ MAX_ACTORS }
     requires labelled { actors ≤ G.label_count graph.old }
     requires even { length components.now ≡ length found.now.nodes }
@@ -114,7 +117,7 @@ fn moving_at<G: Graph>(
 {
     let mut moving = 0;
     for actor in 0..actors {
-        if let Some(to) = target_of(graph, found, node, actor, row)? {
+        if let Some(to) = target_of(graph, found, node, actor, rows)? {
             if components[to as usize] == components[node as usize] {
                 moving |= one(actor);
             }
@@ -214,9 +217,10 @@ pub fn shortest_loop<G: Graph>(
     graph: &mut G,
     found: &Reached,
     wanted: Wanted<'_>,
-    row: &mut [u32],
+    rows: &mut [u32],
 ) -> Result<Option<Vec<u32>>, AllocError>
-    requires room { length row.old ≡ G.width graph.old }
+    requires wide { found.now.width ≡ G.width graph.old }
+    requires room { length rows.old ≡ G.width graph.old + G.width graph.old }
     requires even { length wanted.components.now ≡ length found.now.nodes }
     requires there { wanted.node < length found.now.nodes }
     requires meant { AreMeant (state_at (G.meaning graph.old) found.now.nodes)
@@ -237,7 +241,7 @@ pub fn shortest_loop<G: Graph>(
         if place.0 >= found.len() {
             break;
         }
-        if let Some(label) = expand(graph, found, wanted, &mut places, number, place, row)? {
+        if let Some(label) = expand(graph, found, wanted, &mut places, number, place, rows)? {
             return Ok(Some(places.labels(alloc, number, label)?));
         }
     }
@@ -253,9 +257,10 @@ fn expand<G: Graph>(
     places: &mut Places,
     number: u32,
     place: (u32, u32),
-    row: &mut [u32],
+    rows: &mut [u32],
 ) -> Result<Option<u32>, AllocError>
-    requires room { length row.old ≡ G.width graph.old }
+    requires wide { found.now.width ≡ G.width graph.old }
+    requires room { length rows.old ≡ G.width graph.old + G.width graph.old }
     requires even { length wanted.components.now ≡ length found.now.nodes }
     requires start { wanted.node < length found.now.nodes }
     requires there { place.0 < length found.now.nodes }
@@ -270,7 +275,7 @@ fn expand<G: Graph>(
         (length found.now.nodes) }
 {
     for label in 0..graph.label_count() {
-        let Some(to) = target_of(graph, found, place.0, label, row)? else {
+        let Some(to) = target_of(graph, found, place.0, label, rows)? else {
             continue;
         };
         if wanted.components[to as usize] != wanted.components[wanted.node as usize] {

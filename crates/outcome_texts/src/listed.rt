@@ -22,7 +22,7 @@ use crate::told::Outcome;
 use cheri_model::NoMemory;
 use report_lines::write_comma;
 use shown_states::{Format, Loaded, write_json_string, write_state};
-use states::Kept;
+use states::{Kept, Room};
 use std::alloc::Global;
 
 /// Appends what stands before the state of an outcome, by its number.
@@ -80,7 +80,7 @@ fn load_outcome(state: &mut Loaded, kept: &Kept, number: u32)
     ensures harts { length state.new.harts ≡ length kept.now.image.harts }
     ensures granules { 16 * length state.new.memory ≡ kept.now.image.ram }
 {
-    state.load(kept.state(number));
+    state.load(kept.state(number, &mut Room::new()));
 }
 
 /// Appends an outcome in its state.

@@ -9,7 +9,7 @@ ghost use Rattle.states.specs.Kept.{at, count};
 use cheri_model::Status;
 use conditions::StateView;
 use shown_states::SeenState;
-use states::Kept;
+use states::{Kept, Room};
 use std::alloc::{AllocError, Global};
 
 /// Whether a hart of this status does not run.
@@ -40,7 +40,8 @@ fn judge(kept: &Kept, number: u32, numbers: &mut Vec<u32>) -> Result<(), AllocEr
     requires before { AreOutcomesBelow (at kept.now) number numbers.old.items }
     ensures { OnOk result (AreOutcomesBelow (at kept.now) (number + 1) numbers.new.items) }
 {
-    let state = SeenState::new(kept.state(number));
+    let mut room = Room::new();
+    let state = SeenState::new(kept.state(number, &mut room));
     if !is_final(&state) {
         return Ok(());
     }

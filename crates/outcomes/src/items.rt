@@ -10,7 +10,7 @@ ghost use Rattle.states.specs.Kept.{count};
 use cheri_model::Status;
 use conditions::{Shown, StateView};
 use shown_states::SeenState;
-use states::Kept;
+use states::{Kept, Room};
 use std::alloc::{AllocError, Global};
 
 /// What an item holds in a state: a number, or the status of a hart, of a trap its cause.
@@ -103,7 +103,8 @@ pub fn values_of(
     requires { number < count kept.now }
     ensures { IfOk result (λ values. values.items ≡ values_at kept.now shown.now number) }
 {
-    let state = SeenState::new(kept.state(number));
+    let mut room = Room::new();
+    let state = SeenState::new(kept.state(number, &mut room));
     let mut values = Vec::with_capacity(alloc, shown.len())?;
     for item in shown {
         values.push(value_of(*item, &state))?;

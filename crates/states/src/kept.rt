@@ -34,6 +34,7 @@ ghost use Rattle.states.specs.Kept.{
 };
 
 use crate::graph::MachineGraph;
+use crate::room::Room;
 use cheri_model::{Image, Op};
 use explore_sights::Sight;
 use explore_turns::order_of_turns;
@@ -188,22 +189,19 @@ impl Kept {
         &self.sight
     }
 
-    /// The state of this number.
-    pub fn state(&self, number: u32) -> State<'_>
+    /// The state of this number, whose row is written to `room`.
+    pub fn state<'a>(&'a self, number: u32, room: &'a mut Room) -> State<'a>
         requires { number < count self.now }
         ensures state { at self.now number ≡ state_of result.store.now result.row.now }
         ensures meant { IsSome (state_of result.store.now result.row.now) }
         ensures harts { length result.row.now ≡ length self.now.image.harts + 1 }
         ensures granules { 16 * result.store.now.granules ≡ self.now.image.ram }
     {
-        // Its clause says how large RAM may be.
+        // Its clause says how many harts there are, and how large RAM may be.
         let _granules = self.image.granules();
-        let Some(row) = self.reached.node(number) else {
-            unreachable!()
-        };
         State {
             store: self.graph.store(),
-            row,
+            row: room.read(&self.reached, number),
         }
     }
 

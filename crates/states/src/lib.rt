@@ -8,10 +8,12 @@ mod kept;
 pub mod laws;
 mod locals;
 mod passing;
+mod room;
 mod search;
 mod sweeping;
 
 pub use graph::{MAX_SWEEPS, MachineGraph};
 pub use kept::{Kept, Searched};
 pub use passing::StateTest;
+pub use room::Room;
 pub use search::{Found, Search, find_from, search_from};

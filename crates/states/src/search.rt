@@ -10,6 +10,7 @@ ghost use Rattle.states.specs.Searches.{AreTurnsOf, IsSearchable, search_of};
 use crate::graph::{MAX_SWEEPS, MachineGraph};
 use crate::kept::{Kept, Turns};
 use crate::passing::StateTest;
+use crate::room::Room;
 use cheri_model::Image;
 use cores::Core;
 use explore_sights::Sight;
@@ -174,7 +175,7 @@ fn first_passing<T: StateTest>(kept: &Kept, test: &T) -> Option<u32>
     ensures { IsFirstPassing kept.now (T.passing test.now) result }
 {
     for number in 0..kept.len() {
-        if test.passes(kept.state(number)) {
+        if test.passes(kept.state(number, &mut Room::new())) {
             return Some(number);
         }
     }

@@ -18,6 +18,18 @@ hart_authorities-requires-clause-meant c =
     graph_meant c.into_parts-parts.result.image c.into_parts-parts.result.sweeps.items c.into_parts-parts.result.sight c.into_parts-parts.result.graph
     c.into_parts-parts.result.reached c.into_parts-parts.result.limit c.into_parts-parts.ensures.kept
 
+pub hart_authorities-requires-clause-few : goal.hart_authorities-requires-clause-few
+hart_authorities-requires-clause-few c =
+    let few = (sizes_of c.into_parts-parts.result.image c.granules-granules.ensures.formed).harts_few in
+    let wide = c.into_parts-parts.ensures.kept.wide in
+    omega arith
+
+pub greatest_of-requires-clause-few : goal.greatest_of-requires-clause-few
+greatest_of-requires-clause-few c =
+    let few = (sizes_of c.into_parts-parts.result.image c.granules-granules.ensures.formed).harts_few in
+    let wide = c.into_parts-parts.ensures.kept.wide in
+    omega arith
+
 pub greatest_of-requires-clause-meant : goal.greatest_of-requires-clause-meant
 greatest_of-requires-clause-meant c =
     graph_meant c.into_parts-parts.result.image c.into_parts-parts.result.sweeps.items c.into_parts-parts.result.sight c.into_parts-parts.result.graph

@@ -1,4 +1,4 @@
-use Rattle.std.proofs.Common.{◌≡◌, ℕ, ◌<◌, ◌≤◌, length, take}
+use Rattle.std.proofs.Common.{◌≡◌, ◌+◌, ℕ, ◌<◌, ◌≤◌, length, take}
 use Rattle.std.specs.Prelude.{Some}
 use Rattle.graph_search.specs.Trees.{IsFound, state_at}
 use Rattle.graph_search.specs.Walks.{after, IsWalk}
@@ -12,7 +12,7 @@ invariant-loop-label g l = record {
   same_width : g.G.Graph.width l.graph ≡ g.G.Graph.width l.fn.graph;
   states : state_at (g.G.Graph.meaning l.graph) l.found.nodes ≡ state_at (g.G.Graph.meaning l.fn.graph) l.found.nodes;
   meant : AreMeant (state_at (g.G.Graph.meaning l.graph) l.found.nodes) (length l.found.nodes);
-  room : length l.row ≡ g.G.Graph.width l.graph;
+  room : length l.rows ≡ g.G.Graph.width l.graph + g.G.Graph.width l.graph;
   there : l.here < length l.found.nodes;
   walk : (s : g.G.Graph.State) → state_at (g.G.Graph.meaning l.fn.graph) l.found.nodes l.node ≡ Some s →
       after (g.G.Graph.next l.fn.graph) s (take l.label-index l.labels)

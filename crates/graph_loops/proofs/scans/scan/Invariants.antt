@@ -1,4 +1,4 @@
-use Rattle.std.proofs.Common.{◌≡◌, ◌≤◌, length}
+use Rattle.std.proofs.Common.{◌≡◌, ◌+◌, ◌≤◌, length}
 use Rattle.graph_search.specs.Trees.{state_at}
 use Rattle.graph_loops.specs.Scans.{IsScanning}
 use Rattle.graph_loops.proofs.scans.scan.Given as goal
@@ -8,7 +8,7 @@ invariant-loop-node g l = record {
   same_graph : g.G.Graph.next l.graph ≡ g.G.Graph.next l.fn.graph;
   same_labels : g.G.Graph.label_count l.graph ≡ g.G.Graph.label_count l.fn.graph;
   same_width : g.G.Graph.width l.graph ≡ g.G.Graph.width l.fn.graph;
-  room : length l.row ≡ g.G.Graph.width l.graph;
+  room : length l.rows ≡ g.G.Graph.width l.graph + g.G.Graph.width l.graph;
   labelled : l.actors ≤ g.G.Graph.label_count l.graph;
   ending : l.node-end ≡ length l.found.nodes;
   states : state_at (g.G.Graph.meaning l.graph) l.found.nodes ≡ state_at (g.G.Graph.meaning l.fn.graph) l.found.nodes;

@@ -7,8 +7,8 @@ use Rattle.graph_search.proofs.search.expand.Goals as goal
 pub step-requires-clause-meant : goal.step-requires-clause-meant
 step-requires-clause-meant g c =
     node_has_meaning (g.G.Graph.next c.args.graph.now) (g.G.Graph.meaning c.args.graph.now) c.args.limit
-    c.args.tree.now.nodes.rows c.args.tree.now.edges.items c.args.first.from c.args.first.label c.node.result.now
-    c.requires.before c.requires.there c.node.ensures
+    c.args.tree.now.nodes.rows c.args.tree.now.edges.items c.args.first.from c.args.first.label c.read.new.self.node.items
+    c.requires.before c.requires.there c.read.ensures.node
 
 pub loop-label-init : goal.loop-label-init
 loop-label-init g c = record {
@@ -38,12 +38,12 @@ returns-then-not-branch-clause-after g c =
     let t = step_taken (g.G.Graph.next c.step.new.graph) (g.G.Graph.meaning c.args.graph.now)
     (g.G.Graph.meaning c.step.new.graph) c.args.limit (g.G.Graph.width c.args.graph.now)
     c.loop-label.tree.nodes.width c.loop-label.tree.nodes.rows c.loop-label.tree.edges.items edge c.args.first.label
-    (g.G.Graph.label_count c.args.graph.now) c.node.result.now c.step.new.self.leads.items
+    (g.G.Graph.label_count c.args.graph.now) c.read.new.self.node.items c.step.new.self.leads.items
     c.step.new.self.rows.items c.follow.new.tree.nodes.rows c.follow.new.tree.edges.items c.in_ok-follow.field-0
-    c.loop-label.invariant.before c.loop-label.invariant.there (here ∙ c.node.ensures)
+    c.loop-label.invariant.before c.loop-label.invariant.there (here ∙ c.read.ensures.node)
     (node_has_meaning (g.G.Graph.next c.args.graph.now) (g.G.Graph.meaning c.args.graph.now) c.args.limit
-    c.args.tree.now.nodes.rows c.args.tree.now.edges.items c.args.first.from c.args.first.label c.node.result.now
-    c.requires.before c.requires.there c.node.ensures) c.step.ensures.kept c.in_ok-step.ensures.one_node c.in_ok-step.ensures.count
+    c.args.tree.now.nodes.rows c.args.tree.now.edges.items c.args.first.from c.args.first.label c.read.new.self.node.items
+    c.requires.before c.requires.there c.read.ensures.node) c.step.ensures.kept c.in_ok-step.ensures.one_node c.in_ok-step.ensures.count
     c.in_ok-step.ensures.steps (c.loop-label.invariant.same_rows ∙ c.requires.wide) begun (omega arith)
     c.in_ok-follow.ensures.followed in
     let off : c.in_ok-follow.field-0 ≡ false = search rules in
@@ -66,12 +66,12 @@ loop-label-preserved g c =
     let t = step_taken (g.G.Graph.next c.step.new.graph) (g.G.Graph.meaning c.args.graph.now)
     (g.G.Graph.meaning c.step.new.graph) c.args.limit (g.G.Graph.width c.args.graph.now)
     c.loop-label.tree.nodes.width c.loop-label.tree.nodes.rows c.loop-label.tree.edges.items edge c.args.first.label
-    (g.G.Graph.label_count c.args.graph.now) c.node.result.now c.step.new.self.leads.items
+    (g.G.Graph.label_count c.args.graph.now) c.read.new.self.node.items c.step.new.self.leads.items
     c.step.new.self.rows.items c.follow.new.tree.nodes.rows c.follow.new.tree.edges.items c.in_ok-follow.field-0
-    c.loop-label.invariant.before c.loop-label.invariant.there (here ∙ c.node.ensures)
+    c.loop-label.invariant.before c.loop-label.invariant.there (here ∙ c.read.ensures.node)
     (node_has_meaning (g.G.Graph.next c.args.graph.now) (g.G.Graph.meaning c.args.graph.now) c.args.limit
-    c.args.tree.now.nodes.rows c.args.tree.now.edges.items c.args.first.from c.args.first.label c.node.result.now
-    c.requires.before c.requires.there c.node.ensures) c.step.ensures.kept c.in_ok-step.ensures.one_node c.in_ok-step.ensures.count
+    c.args.tree.now.nodes.rows c.args.tree.now.edges.items c.args.first.from c.args.first.label c.read.new.self.node.items
+    c.requires.before c.requires.there c.read.ensures.node) c.step.ensures.kept c.in_ok-step.ensures.one_node c.in_ok-step.ensures.count
     c.in_ok-step.ensures.steps (c.loop-label.invariant.same_rows ∙ c.requires.wide) begun (omega arith)
     c.in_ok-follow.ensures.followed in
     let on : c.in_ok-follow.field-0 ≡ true = search rules in
@@ -85,7 +85,7 @@ loop-label-preserved g c =
     record {
       same_rows = c.follow.ensures.same_width ∙ c.loop-label.invariant.same_rows;
       ending = ending;
-      here = t.2 ∙ sym c.node.ensures;
+      here = t.2 ∙ sym c.read.ensures.node;
       grown = omega arith;
       there = omega arith;
       first = t.1 ∙ c.loop-label.invariant.first;

@@ -9,6 +9,7 @@ invariant-loop-node g l = record {
   same_labels : g.G.Graph.label_count l.graph ≡ g.G.Graph.label_count l.fn.graph;
   same_width : g.G.Graph.width l.graph ≡ g.G.Graph.width l.fn.graph;
   same_rows : l.tree.nodes.width ≡ l.fn.tree.nodes.width;
+  node : length l.ahead.node.items ≡ g.G.Graph.width l.graph;
   room : length l.ahead.row.items ≡ g.G.Graph.width l.graph;
   wide : l.tree.nodes.width ≡ g.G.Graph.width l.graph;
   there : l.node ≤ length l.tree.nodes.rows;

@@ -1,4 +1,4 @@
-use Rattle.std.proofs.Common.{◌≡◌, ℕ, ◌<◌, ◌≤◌, length}
+use Rattle.std.proofs.Common.{◌≡◌, ◌+◌, ℕ, ◌<◌, ◌≤◌, length}
 use Rattle.graph_search.specs.Trees.{state_at}
 use Rattle.graph_loops.specs.Loops.{AreMeant}
 use Rattle.loop_search.proofs.rounds.movers_of.Given as goal
@@ -10,6 +10,6 @@ invariant-loop-node g l = record {
   same_width : g.G.Graph.width l.graph ≡ g.G.Graph.width l.fn.graph;
   states : state_at (g.G.Graph.meaning l.graph) l.found.nodes ≡ state_at (g.G.Graph.meaning l.fn.graph) l.found.nodes;
   meant : AreMeant (state_at (g.G.Graph.meaning l.graph) l.found.nodes) (length l.found.nodes);
-  room : length l.row ≡ g.G.Graph.width l.graph;
+  room : length l.rows ≡ g.G.Graph.width l.graph + g.G.Graph.width l.graph;
   labelled : l.actors ≤ g.G.Graph.label_count l.graph;
 }

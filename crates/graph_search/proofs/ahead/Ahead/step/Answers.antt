@@ -1,5 +1,5 @@
 use Rattle.std.proofs.Common.{◌≡◌, ℕ, ◌+◌, List, Bool, [], ◌∷◌, ◌++◌, length, take, drop, arith, ap, sym, ◌∙◌, subst, rules, length-append}
-use Rattle.std.specs.Prelude.{Option}
+use Rattle.std.specs.Prelude.{Option, Some}
 use Rattle.std.proofs.Math.Seq.{take-append_seam}
 use Rattle.graph_search.specs.Graphs.{LeadsTo}
 use Rattle.graph_search.specs.Searches.{AreSteps}
@@ -16,7 +16,7 @@ loop-label-preserved g c =
     let len : c.loop-label.self.row.len ≡ length c.step.new.to = search rules in
     let wide : length c.step.new.to ≡ g.G.Graph.width c.args.graph.now = search rules in
     let back = written c.loop-label.self.row.len c.step.new.to c.loop-label.self.row.items len in
-    let row : c.as_slice.result.now ≡ c.step.new.to = c.as_slice.ensures.value ∙ back in
+    let row : c.as_slice-in-loop-label.result.now ≡ c.step.new.to = c.as_slice-in-loop-label.ensures.value ∙ back in
     let leads : c.push.new.self.items ≡ c.loop-label.self.leads.items ++ c.in_ok-leads.leads ∷ [] =
     c.in_ok-push.ensures.items in
     let rows : c.extend_from_slice.new.self.items ≡ c.loop-label.self.rows.items ++ c.step.new.to =
@@ -28,6 +28,7 @@ loop-label-preserved g c =
       same_graph = c.step.ensures.same_graph ∙ was.same_graph;
       same_labels = c.step.ensures.same_labels ∙ was.same_labels;
       same_width = c.step.ensures.same_width ∙ was.same_width;
+      same_node = was.same_node;
       same_room = ap (λ (r : List ℕ). length r) back ∙ wide ∙ sym c.requires.room;
       ending = was.ending ∙ sym c.step.ensures.same_labels;
       kept = λ n s is. c.step.ensures.kept n s (was.kept n s is);
@@ -36,7 +37,9 @@ loop-label-preserved g c =
       whole = rw (leads, rows) (rows_more (g.G.Graph.width c.args.graph.now) c.loop-label.self.leads.items
           c.in_ok-leads.leads c.loop-label.self.rows.items c.step.new.to was.whole wide);
       steps = λ s means.
-          let now = was.kept c.args.node.now s means in
+          let node = c.as_slice.ensures.value ∙ was.same_node in
+          let now = subst (λ (n : List ℕ). g.G.Graph.meaning c.loop-label.graph n ≡ Some s) (sym node)
+          (was.kept c.args.self.now.node.items s means) in
           let led : LeadsTo (g.G.Graph.meaning c.step.new.self) c.in_ok-leads.leads c.step.new.to
           (g.G.Graph.next c.loop-label.graph s (c.args.first + length c.loop-label.self.leads.items)) =
           subst (λ (l : ℕ). LeadsTo (g.G.Graph.meaning c.step.new.self) c.in_ok-leads.leads c.step.new.to

@@ -8,6 +8,7 @@ invariant-loop-label g l = record {
   same_graph : g.G.Graph.next l.graph ≡ g.G.Graph.next l.fn.graph;
   same_labels : g.G.Graph.label_count l.graph ≡ g.G.Graph.label_count l.fn.graph;
   same_width : g.G.Graph.width l.graph ≡ g.G.Graph.width l.fn.graph;
+  same_node : l.self.node.items ≡ l.fn.self.node.items;
   same_room : length l.self.row.items ≡ length l.fn.self.row.items;
   ending : l.label-end ≡ g.G.Graph.label_count l.graph;
   kept : (n : List ℕ) (s : g.G.Graph.State) → g.G.Graph.meaning l.fn.graph n ≡ Some s →
@@ -16,7 +17,7 @@ invariant-loop-label g l = record {
       g.G.Graph.meaning l.graph n ≡ Some s → m ≡ n;
   count : l.first + length l.self.leads.items ≡ l.label;
   whole : length l.self.rows.items ≡ length l.self.leads.items * g.G.Graph.width l.fn.graph;
-  steps : (s : g.G.Graph.State) → g.G.Graph.meaning l.fn.graph l.node ≡ Some s →
+  steps : (s : g.G.Graph.State) → g.G.Graph.meaning l.fn.graph l.fn.self.node.items ≡ Some s →
       AreSteps (g.G.Graph.next l.graph) (g.G.Graph.meaning l.graph) (g.G.Graph.width l.fn.graph) s l.first
       l.self.leads.items l.self.rows.items;
 }

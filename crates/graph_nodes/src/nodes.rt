@@ -1,0 +1,171 @@
+//! The nodes.
+
+ghost use Rattle.std.specs.Prelude.{
+  ◌≡◌,
+  ◌≢◌,
+  ℕ,
+  ◌^◌,
+  ◌<◌,
+  [],
+  Some,
+  None,
+  length,
+  slice_get,
+  true,
+  false,
+  IfOk,
+  IfSome,
+  OnErr,
+};
+ghost use Rattle.interner.specs.Rows.{IsDistinct, IsInterned, IsRow};
+ghost use Rattle.graph_nodes.specs.Kept.{HasBits};
+
+use crate::packing::{halves_of, pack, unpack, word_of};
+use interner::Interner;
+use std::alloc::{AllocError, Global};
+use std::marker::Model;
+
+/// Rows of numbers, all as wide, each kept once. Rows are numbered from 0 on in the order in which
+/// they came. Each is kept in one word of 64 bits, as long as they all fit.
+#[derive(Drop)]
+pub struct Nodes {
+    width: usize,
+    /// How many bits each number of a row has but the first, where rows are kept in words.
+    bits: Option<u32>,
+    /// What is kept of each row: the halves of its word, or the row.
+    kept: Interner,
+    alloc: Global,
+}
+
+impl Model for Nodes {
+    ghost use Rattle.interner.specs.Rows.{Rows};
+    ghost use Rattle.graph_nodes.specs.Kept.{rows_of, AreKept};
+
+    ghost Value = { Rows };
+
+    ghost view = { λ a. rows_of a.bits a.width a.kept };
+
+    ghost invariant = { λ a. AreKept a.bits a.width a.kept };
+}
+
+/// How many bits of a word each number has but the first, which has the others, in rows of so many
+/// numbers. None where rows are kept number by number.
+fn bits_of(width: usize) -> Option<u32>
+    ensures { HasBits result width }
+{
+    match width {
+        1 | 2 => Some(32),
+        3 => Some(20),
+        4 => Some(16),
+        5 => Some(12),
+        6 => Some(10),
+        7 => Some(9),
+        8 => Some(8),
+        9 => Some(7),
+        _ => None,
+    }
+}
+
+impl Nodes {
+    /// No rows, of so many numbers each. Allocates nothing.
+    pub fn new(alloc: Global, width: usize) -> Nodes
+        ensures width { result.width ≡ width }
+        ensures rows { result.rows ≡ [] }
+    {
+        let bits = bits_of(width);
+        let kept_width = match bits {
+            Some(_) => 2,
+            None => width,
+        };
+        Nodes {
+            width,
+            bits,
+            kept: Interner::new(alloc, kept_width),
+            alloc,
+        }
+    }
+
+    /// How many numbers a row has.
+    pub fn width(&self) -> usize
+        ensures { result ≡ self.now.width }
+    {
+        self.width
+    }
+
+    /// How many rows there are: fewer than 2^32, and no two of them the same.
+    pub fn len(&self) -> usize
+        ensures count { result ≡ length self.now.rows }
+        ensures few { result < 2 ^ 32 }
+        ensures distinct { IsDistinct self.now }
+    {
+        self.kept.len()
+    }
+
+    /// Writes the row of this number. False where there is none, and then nothing is written.
+    pub fn read(&self, number: u32, row: &mut [u32]) -> bool
+        requires room { length row.old ≡ self.now.width }
+        ensures row { result ≡ true → slice_get self.now.rows number ≡ Some row.new }
+        ensures none { result ≡ false → slice_get self.now.rows number ≡ None }
+        ensures left { result ≡ false → row.new ≡ row.old }
+        ensures same_room { length row.new ≡ length row.old }
+    {
+        let Some(kept) = self.kept.row(number) else {
+            return false;
+        };
+        match self.bits {
+            Some(bits) => unpack(bits, word_of(kept), row),
+            None => row.copy_from_slice(kept),
+        }
+        true
+    }
+
+    /// The number of this row, if it is there.
+    pub fn find(&self, row: &[u32]) -> Option<u32>
+        ensures found { IfSome result (λ number. IsRow self.now number row.now) }
+        ensures absent { result ≡ None → (i : ℕ) → slice_get self.now.rows i ≢ Some row.now }
+    {
+        let Some(bits) = self.bits else {
+            return self.kept.find(row);
+        };
+        if row.len() != self.width {
+            return None;
+        }
+        let word = pack(bits, row)?;
+        self.kept.find(&halves_of(word))
+    }
+
+    /// The number of this row, which becomes the last one where it is not there. Fails only when out
+    /// of memory, or of numbers after 2^32 - 1 rows; then nothing changes.
+    pub fn insert(&mut self, row: &[u32]) -> Result<u32, AllocError>
+        requires { length row.now ≡ self.old.width }
+        ensures interned { IfOk result (λ number. IsInterned self.old self.new row.now number) }
+        ensures same_width { self.new.width ≡ self.old.width }
+        ensures unchanged { OnErr result (self.new ≡ self.old) }
+    {
+        let Some(bits) = self.bits else {
+            return self.kept.insert(row);
+        };
+        if let Some(word) = pack(bits, row) {
+            return self.kept.insert(&halves_of(word));
+        }
+        self.kept = self.unpacked()?;
+        self.bits = None;
+        self.kept.insert(row)
+    }
+
+    /// The rows, kept number by number.
+    fn unpacked(&self) -> Result<Interner, AllocError>
+        ensures { IfOk result (λ wide. wide ≡ self.now) }
+    {
+        let mut wide = Interner::new(self.alloc, self.width);
+        let mut row = Vec::new(self.alloc);
+        row.resize(self.width, 0)?;
+        for number in 0..self.len() {
+            if !self.read(number as u32, row.as_mut_slice()) {
+                unreachable!()
+            }
+            wide.insert(row.as_slice())?;
+        }
+        Ok(wide)
+    }
+}
