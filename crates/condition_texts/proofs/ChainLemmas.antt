@@ -46,32 +46,32 @@ use Rattle.condition_texts.specs.Chains.{may_end, Plain, Compares, HasStatus, Re
 
 -- ---- plain logic
 
-if_so : {A : Type 0} (test : Bool) (x y : A) → test ≡ true → (if test then x else y) ≡ x
+pub if_so : {A : Type 0} (test : Bool) (x y : A) → test ≡ true → (if test then x else y) ≡ x
 if_so true x y is = refl
 if_so false x y is = absurd (cc)
 
-if_not : {A : Type 0} (test : Bool) (x y : A) → test ≡ false → (if test then x else y) ≡ y
+pub if_not : {A : Type 0} (test : Bool) (x y : A) → test ≡ false → (if test then x else y) ≡ y
 if_not false x y is = refl
 if_not true x y is = absurd (cc)
 
-choose : (b : Bool) (P : Type 0) → (b ≡ true → P) → (b ≡ false → P) → P
+pub choose : (b : Bool) (P : Type 0) → (b ≡ true → P) → (b ≡ false → P) → P
 choose true P one other = one refl
 choose false P one other = other refl
 
-clash : (b : Bool) → b ≡ true → b ≡ false → ⊥
+pub clash : (b : Bool) → b ≡ true → b ≡ false → ⊥
 clash b is not_so = let c : true ≡ false = sym is ∙ not_so in cc
 
-no_some : {A : Type 0} (x : A) → None ≡ Some x → ⊥
+pub no_some : {A : Type 0} (x : A) → None ≡ Some x → ⊥
 no_some x is = cc
 
 abbrev okay : {A : Type 0} → A → Result A ℕ
 okay x = Ok x
 
-bound : {A B : Type 0} (r : Result A ℕ) (f : A → Result B ℕ) (y : B) → (r >>= f) ≡ Ok y → (x : A) × (r ≡ Ok x) × (f x ≡ Ok y)
+pub bound : {A B : Type 0} (r : Result A ℕ) (f : A → Result B ℕ) (y : B) → (r >>= f) ≡ Ok y → (x : A) × (r ≡ Ok x) × (f x ≡ Ok y)
 bound (Ok x) f y is = (x, refl, is)
 bound (Err e) f y is = absurd (cc)
 
-given : {A : Type 0} (o : Option A) (n : ℕ) (x : A) → ok_or o n ≡ Ok x → o ≡ Some x
+pub given : {A : Type 0} (o : Option A) (n : ℕ) (x : A) → ok_or o n ≡ Ok x → o ≡ Some x
 given (Some z) n x is = let same : z ≡ x = cc in ap Some same
 given None n x is = absurd (cc)
 
@@ -232,11 +232,11 @@ module _ (image : ImageParts) where
   unnamed_all = refl
 
 -- a place begins with a digit or with `m`, so that it is no `h.`
-first_true : (x y : Bool) → (x && y) ≡ true → x ≡ true
+pub first_true : (x y : Bool) → (x && y) ≡ true → x ≡ true
 first_true true y is = refl
 first_true false y is = absurd (cc)
 
-second_true : (x y : Bool) → (x && y) ≡ true → y ≡ true
+pub second_true : (x y : Bool) → (x && y) ≡ true → y ≡ true
 second_true true y is = is
 second_true false y is = absurd (cc)
 

@@ -7,3 +7,4 @@ pub mod ReadingLemmas
 pub mod StartLemmas
 pub mod WordLemmas
 pub mod ChainLemmas
+pub mod PlainLemmas

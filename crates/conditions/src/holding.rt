@@ -2,6 +2,7 @@
 #![tactic(auto, unfolding(crate::proofs::Unfold::holding))]
 
 ghost use Rattle.std.specs.Prelude.{◌≡◌, ◌+◌, ◌<◌, ◌^◌, if◌then◌else◌, length};
+ghost use Rattle.cap_model.specs.results.Addresses.{address_of};
 ghost use Rattle.cheri_model.specs.runs.Machine.{hart_at};
 ghost use Rattle.conditions.specs.Formulas.{Formula};
 ghost use Rattle.conditions.specs.Entries.{entries_of};
@@ -12,12 +13,13 @@ ghost use Rattle.conditions.specs.Values.{
   grants,
   registers_grant,
   reaches,
+  is_between,
   atom_holds,
 };
 
 use crate::entries::Entry;
 use crate::formulas::{Parts, parts_of};
-use crate::parts::{Atom, Comparison, Joint, StatusTest};
+use crate::parts::{Atom, Comparison, Joint, StatusTest, Subject};
 use crate::values::{pcc_of_hart, register_of_hart, status_of_hart};
 use crate::view::StateView;
 use bitflags::Flags;
@@ -89,6 +91,13 @@ fn reaches<V: StateView>(view: &V, hart: usize, addr: u64, perms: Perms) -> bool
     grants(addr, perms, pcc_of_hart(view, hart)) || registers_grant(view, hart, addr, perms)
 }
 
+/// Whether an address is at least the first one and below the second.
+fn is_between(first: u64, second: u64, addr: u64) -> bool
+    ensures { result ≡ is_between first second addr }
+{
+    first <= addr && addr < second
+}
+
 impl Atom {
     /// Whether this holds in a state, where `h` is the hart of a number.
     pub(crate) fn holds<V: StateView>(&self, view: &V, each: usize) -> bool
@@ -102,8 +111,7 @@ impl Atom {
             Atom::Reaches(who, addr, perms) => reaches(view, (*who).hart(each), *addr, *perms),
             Atom::IsAt(who, addr) => pcc_of_hart(view, (*who).hart(each)).addr() == *addr,
             Atom::IsIn(who, first, second) => {
-                let addr = pcc_of_hart(view, (*who).hart(each)).addr();
-                *first <= addr && addr < *second
+                is_between(*first, *second, pcc_of_hart(view, (*who).hart(each)).addr())
             }
         }
     }
@@ -129,8 +137,23 @@ fn one_more(count: usize, holds: bool) -> usize
     if holds { count + 1 } else { count }
 }
 
-/// Of how many harts one thing is so, each being `h` in turn.
-fn how_many_say<V: StateView>(view: &V, atom: &Atom) -> usize
+/// Of how many harts the address of PCC is at least the first one and below the second. Locks are
+/// asked this of each state, so it looks at nothing else.
+fn how_many_between<V: StateView>(view: &V, first: u64, second: u64) -> usize
+    ensures { result ≡ how_many
+        (λ hart. is_between first second (address_of (hart_at (V.state view.now) hart).pcc))
+        (length (V.state view.now).harts) }
+{
+    let mut count = 0;
+    for hart in 0..view.hart_count() {
+        let addr = view.pcc(hart).addr();
+        count = one_more(count, is_between(first, second, addr));
+    }
+    count
+}
+
+/// Of how many harts one thing of any kind is so, each being `h` in turn.
+fn how_many_hold<V: StateView>(view: &V, atom: &Atom) -> usize
     ensures { result ≡ how_many (λ hart. atom_holds (V.state view.now) hart atom.now)
         (length (V.state view.now).harts) }
 {
@@ -139,6 +162,18 @@ fn how_many_say<V: StateView>(view: &V, atom: &Atom) -> usize
         count = one_more(count, atom.holds(view, hart));
     }
     count
+}
+
+/// Of how many harts one thing is so, each being `h` in turn.
+#[tactic(auto, unfolding(crate::proofs::Unfold::counting))]
+fn how_many_say<V: StateView>(view: &V, atom: &Atom) -> usize
+    ensures { result ≡ how_many (λ hart. atom_holds (V.state view.now) hart atom.now)
+        (length (V.state view.now).harts) }
+{
+    match *atom {
+        Atom::IsIn(Subject::Each, first, second) => how_many_between(view, first, second),
+        _ => how_many_hold(view, atom),
+    }
 }
 
 /// Of how many harts the condition of some entries holds, each being `h` in turn. One thing alone,

@@ -1,6 +1,6 @@
 use Rattle.std.proofs.Common.{arith}
 use Rattle.conditions.proofs.HoldingLemmas.{many_none, many_step, many_bound, many_all}
-use Rattle.conditions.proofs.holding.how_many_say.Goals as goal
+use Rattle.conditions.proofs.holding.how_many_hold.Goals as goal
 
 pub loop-hart-init : goal.loop-hart-init
 loop-hart-init g c = (omega arith, many_none _)

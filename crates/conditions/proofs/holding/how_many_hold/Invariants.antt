@@ -2,7 +2,7 @@
 use Rattle.std.proofs.Common.{◌≡◌, ◌≤◌}
 use Rattle.conditions.specs.Holding.{how_many}
 use Rattle.conditions.specs.Values.{atom_holds}
-use Rattle.conditions.proofs.holding.how_many_say.Given as goal
+use Rattle.conditions.proofs.holding.how_many_hold.Given as goal
 
 abbrev pub invariant-loop-hart : goal.invariant-loop-hart
 invariant-loop-hart g l =
