@@ -1,0 +1,4 @@
+//! Laws: maps that are written are read as they are.
+#![tactic(auto)]
+
+pub mod laws;
