@@ -140,6 +140,8 @@ async function withBrowser(work) {
   const browser = spawn("chromium", [
     "--headless=new", "--no-sandbox", "--disable-gpu", "--no-first-run", "--disable-extensions",
     "--disable-background-networking", "--disable-component-update",
+    // a tab that isn't seen would get little of a busy machine's time
+    "--disable-renderer-backgrounding", "--disable-backgrounding-occluded-windows",
     "--remote-debugging-port=0", `--user-data-dir=${profile}`, "about:blank",
   ], { stdio: ["ignore", "ignore", "pipe"] });
   try {

@@ -34,16 +34,21 @@ const desk = (() => {
     return judged;
   }
 
-  /** The part of the faulty line that is marked, where the fault has a column. */
-  function partOf({ place, column }) {
-    return column > 0 ? assembly.markedAt(listing.value.split("\n")[place - 1] ?? "", column) : null;
+  /** The faults of the text that are shown: of a listing that isn't long each faulty line's, else the first. */
+  function faultsNow() {
+    const { text, answer, isGood } = read();
+    if (isGood) return [];
+    const isOfLine = answer.status === STATUS.LISTING && answer.place > 0 && text.length < LARGE_LISTING;
+    judged.faults ??= faulty.marked(isOfLine ? runs.faultsOf(text, answer) : [answer], text);
+    return judged.faults;
   }
 
-  /** Judges the text, and marks its faulty line. Gives its fault's line, or nothing where it is good. */
+  /** Judges the text, and marks its faulty lines. Gives its first fault's line, or nothing where it is good. */
   function judgeListing() {
     const { answer, isGood, listing: meant } = read();
-    code.fault(!isGood && answer.place > 0 ? answer.place : null, isGood ? null : partOf(answer));
-    faulty.showListing(answer, listing.value, code.goTo);
+    const found = faultsNow();
+    code.faults(faulty.partsOf(found));
+    faulty.showListing(found, code.goTo);
     assembly.showMeant(isGood ? meant : null);
     return isGood ? "" : answer.line;
   }

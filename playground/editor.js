@@ -45,19 +45,19 @@ const editor = (() => {
   }
 
   /** A row beside a line: its breakpoint, its fault or trap, the harts whose next instruction it has, its number. */
-  function rowOf(line, { marks, points, faulty, trapped }) {
+  function rowOf(line, { marks, points, faults, trapped }) {
     const harts = marks.get(line) ?? "";
     const next = harts && `\u25B6${harts.length <= MOST_NAMED ? harts : `\u00D7${harts.length}`}`;
-    const mark = line === faulty ? "\u2717" : (line === trapped ? "\u26a0" : "") + next;
-    const kind = line === faulty ? "faulty" : mark ? "next" : null;
+    const mark = faults.has(line) ? "\u2717" : (line === trapped ? "\u26a0" : "") + next;
+    const kind = faults.has(line) ? "faulty" : mark ? "next" : null;
     return element("div", { class: kind, "data-line": line },
       element("span", { class: "mark-of-line" }, points.has(line) ? "\u25CF" : "", mark), String(line));
   }
 
   /** The lines that have a bar behind them, each with its kind. */
-  function barsOf({ marks, faulty, trapped }) {
+  function barsOf({ marks, faults, trapped }) {
     const kinds = new Map([...marks.keys()].map((line) => [line, "next"]));
-    for (const line of [trapped, faulty]) if (line !== null) kinds.set(line, "faulty");
+    for (const line of [trapped, ...faults.keys()]) if (line !== null) kinds.set(line, "faulty");
     return kinds;
   }
 
@@ -85,7 +85,7 @@ const editor = (() => {
    * a line's number is clicked.
    */
   function over(area, gutter, bars, toggle) {
-    const shown = { marks: new Map(), points: new Set(), faulty: null, part: null, trapped: null };
+    const shown = { marks: new Map(), points: new Set(), faults: new Map(), trapped: null };
 
     /** The rows of numbers and marks that are in sight, and the bars. */
     function show() {
@@ -102,8 +102,8 @@ const editor = (() => {
 
     /** What is marked within a line. */
     function marksIn(line) {
-      if (line !== shown.faulty || !shown.part) return [];
-      return [underline(area.value.split("\n")[line - 1] ?? "", shown.part, area.scrollLeft)];
+      const part = shown.faults.get(line);
+      return part ? [underline(area.value.split("\n")[line - 1] ?? "", part, area.scrollLeft)] : [];
     }
 
     /** Shows other marks than before. */
@@ -131,7 +131,8 @@ const editor = (() => {
     return {
       ...linesOf(area), next, show,
       breakpoints: (lines) => mark({ points: new Set(lines) }),
-      fault: (line, part = null) => mark({ faulty: line, part }),
+      /** Marks the faulty lines: each line's number to the part of it that is meant, or null. */
+      faults: (lines) => mark({ faults: lines }),
     };
   }
 

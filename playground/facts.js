@@ -3,7 +3,7 @@ const facts = (() => {
   const { cell, element, plural, row, table } = draw;
   const KINDS = [["reads", ""], ["finds", "mem "], ["leaves", "mem "], ["sets", ""]];
 
-  const shorter = (words) => words.replace(/\b[0-9a-f]{16,17}\b/g, values.short);
+  const { shorter } = values;
 
   /**
    * The event with the program's own words in place of the canonical ones, labels, spelling and comment, and with the line

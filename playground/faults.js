@@ -7,7 +7,8 @@ const faults = (() => {
   const REGISTER = /^c([0-9]|[12][0-9]|3[01])$/;
   const NUMBER = /^(0x[0-9a-fA-F]+|[0-9]+)$/;
   const IMMEDIATE = /^-?(0x[0-9a-fA-F]+|[0-9]+)$/;
-  const PERMISSIONS = /^(all|none|[a-z_0-9]+(\+[a-z_0-9]+)*)$/;
+  const ONE_OF = "(?:global|execute|load|store|load_cap|store_cap|store_local|seal|cinvoke|unseal|sysregs|set_cid|sw[0-3])";
+  const PERMISSIONS = new RegExp(`^(?:all|none|${ONE_OF}(?:\\+${ONE_OF})*)$`);
 
   /** What an operand of a form has to look like, and its range. */
   const OPERANDS = {
@@ -52,13 +53,14 @@ const faults = (() => {
     return digits === undefined ? null : BigInt(digits) * (sign ? -1n : 1n);
   }
 
-  /** The first operand that hasn't its shape, or else is missing or one too many. */
+  /** The first operand that hasn't its shape, or else is missing or one too many; or nothing. */
   function wrongOperand(tokens, form) {
     const wanted = optional(form, tokens.length - 1);
     const wrong = wanted.findIndex((kind, index) =>
       !tokens[index + 1] || !OPERANDS[kind].shape.test(tokens[index + 1].text));
     if (wrong >= 0) return { token: tokens[wrong + 1] ?? null, expected: OPERANDS[wanted[wrong]].is };
-    return { token: tokens[wanted.length + 1] ?? tokens[0], expected: "nothing more on this line" };
+    const more = tokens[wanted.length + 1];
+    return more && { token: more, expected: "nothing more on this line" };
   }
 
   function outOfRange(tokens, form) {
@@ -106,23 +108,29 @@ const faults = (() => {
     const tokens = source.tokensOf(line);
     const finder = FINDERS[kind];
     if (!finder || (tokens.length === 0 && kind !== 1)) return null;
-    const { token, expected, isWhole } = finder(line, tokens, formOf(tokens, instructions));
+    const wrong = finder(line, tokens, formOf(tokens, instructions));
+    if (!wrong) return null;
+    const { token, expected, isWhole } = wrong;
     if (!token) return { at: line.split("#")[0].trimEnd().length, length: 1, found: "the end of the line", expected };
     const length = isWhole ? line.split("#")[0].trimEnd().length - token.at : Math.max(token.text.length, 1);
     return { at: token.at, length, found: isWhole ? line.slice(token.at, token.at + length) : token.text, expected };
   }
 
-  /** The line with carets below the marked part, and words below it. */
-  function drawnWith(line, { at, length }, ...words) {
-    const [from, to] = [Math.max(0, at - 40), Math.max(at + length, at + 40)];
-    const blank = line.slice(from, at).replace(/[^\t]/g, " ");
-    return element("div", { class: "marked-line" },
-      element("pre", {}, `${line.slice(from, to)}\n${blank}${"^".repeat(length)}`), ...words);
+  /** What was found and expected, in words; nothing where that isn't told. */
+  function wordsOf(marked) {
+    if (!marked?.expected) return "";
+    return element("span", {}, "Found ", element("code", {}, marked.found), `; expected ${marked.expected}.`);
   }
 
-  /** The same with what was found and expected. */
-  const drawn = (line, marked) => drawnWith(line, marked,
-    element("p", {}, "Found ", element("code", {}, marked.found), `; expected ${marked.expected}.`));
+  /** The line with carets below the marked part, and what was found and expected below it. */
+  function drawn(line, marked) {
+    const { at, length } = marked;
+    const [from, to] = [Math.max(0, at - 40), Math.max(at + length, at + 40)];
+    const blank = line.slice(from, at).replace(/[^\t]/g, " ");
+    const words = wordsOf(marked);
+    return element("div", { class: "marked-line" },
+      element("pre", {}, `${line.slice(from, to)}\n${blank}${"^".repeat(length)}`), words && element("p", {}, words));
+  }
 
-  return { drawn, drawnWith, explain };
+  return { drawn, explain, wordsOf };
 })();

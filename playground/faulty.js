@@ -1,4 +1,4 @@
-/** Where a listing or an order is faulty: the line or byte marked, with the fault in words. */
+/** Where a listing or an order is faulty: the lines or the byte marked, with the faults in words. */
 const faulty = (() => {
   const part = (id) => document.getElementById(id);
   const { element } = draw;
@@ -7,6 +7,8 @@ const faulty = (() => {
     [STATUS.LISTING]: "listing", [STATUS.ORDER]: "order", [STATUS.STEP]: "step", [STATUS.ASSEMBLY]: "assembly",
   };
   const AROUND = 16;
+  /** So many faults after the first are told in words. */
+  const MOST_OTHERS = 8;
   let meanings = new Map();
 
   /** Takes the table of what kinds of faults mean. */
@@ -19,30 +21,52 @@ const faulty = (() => {
     return means ? element("p", { class: "meaning" }, means) : null;
   }
 
-  /** The line of a listing's fault, marked, with what was found and expected. */
-  function drawnListing(words, { kind }) {
-    const found = faults.explain(words, kind, help.forms());
-    return found && faults.drawn(words, found);
+  /** What of a faulty line is meant, and of a listing what was found and expected; nothing where none is told. */
+  function markOf(line, { status, place, kind, column }) {
+    if (place === 0) return null;
+    if (status === STATUS.ASSEMBLY) return assembly.markedAt(line, column);
+    return status === STATUS.LISTING ? faults.explain(line, kind, help.forms()) : null;
   }
 
-  /** The line of a fault of assembly, marked at its column. */
-  const drawnAssembly = (words, { column }) => faults.drawnWith(words, assembly.markedAt(words, column));
+  /** Answers that are faults, each with the line of the text that it is about, and its mark. */
+  function marked(list, text) {
+    const lines = text.split("\n");
+    return list.map((answer) => {
+      const line = lines[answer.place - 1] ?? "";
+      return { ...answer, words: line, mark: markOf(line, answer) };
+    });
+  }
 
-  /** Shows the fault of a listing or of assembly, or none; `goTo` goes to its line and column. */
-  function showListing(answer, text, goTo) {
-    const { status, place, column, line } = answer;
+  /** Of each of these faults the line, and the part of it that is meant. */
+  const partsOf = (list) => new Map(list.filter(({ place }) => place > 0).map(({ place, mark }) => [place, mark]));
+
+  /** The button that goes to a fault. */
+  function buttonTo({ status, place, column, mark }, goTo) {
     const isAssembly = status === STATUS.ASSEMBLY;
-    const isOfText = isAssembly || status === STATUS.LISTING;
+    const go = element("button", { type: "button" }, `Go to line ${place}${isAssembly ? `, column ${column}` : ""}`);
+    go.addEventListener("click", () => goTo(place, isAssembly ? mark : undefined));
+    return go;
+  }
+
+  /** The faults after the first, a line for each. */
+  function others(list, goTo) {
+    const rows = list.slice(0, MOST_OTHERS).map((fault) => element("li", {}, fault.line, " ", buttonTo(fault, goTo), " ",
+      faults.wordsOf(fault.mark)));
+    const left = list.length - rows.length;
+    return [element("p", {}, list.length === 1 ? "One more faulty line:" : `${list.length} more faulty lines:`),
+      element("ul", {}, ...rows), left > 0 ? element("p", {}, `and ${left} more, marked in the listing.`) : null];
+  }
+
+  /** Shows the marked faults of a listing or of assembly, the first in full; `goTo` goes to the line and part of one. */
+  function showListing(list, goTo) {
+    const [first, ...more] = list;
     const parts = [];
-    if (status !== STATUS.DONE) parts.push(line);
-    if (isOfText && place > 0) {
-      const words = text.split("\n")[place - 1] ?? "";
-      const go = element("button", { type: "button" },
-        isAssembly ? `Go to line ${place}, column ${column}` : `Go to line ${place}`);
-      go.addEventListener("click", () => goTo(place, isAssembly ? assembly.markedAt(words, column) : undefined));
-      parts.push(" ", go, (isAssembly ? drawnAssembly : drawnListing)(words, answer));
+    if (first) {
+      parts.push(first.line);
+      if (first.place > 0) parts.push(" ", buttonTo(first, goTo));
+      parts.push(first.mark && faults.drawn(first.words, first.mark), meaningOf(first));
+      if (more.length > 0) parts.push(...others(more, goTo));
     }
-    parts.push(isOfText && meaningOf(answer));
     part("listing-fault").replaceChildren(...parts.filter(Boolean));
   }
 
@@ -69,5 +93,5 @@ const faulty = (() => {
     part("order-fault").replaceChildren(...parts.filter(Boolean));
   }
 
-  return { begin, showListing, showOrder };
+  return { begin, marked, partsOf, showListing, showOrder };
 })();

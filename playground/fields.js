@@ -3,7 +3,7 @@
  * write addresses, are hexadecimal; all else is read as on a command line.
  */
 const fields = (() => {
-  const WORD = /^(?:0x)?([0-9a-f]{16})_([0-9a-f]{16})$/i;
+  const WORD = /^([0-9a-f]{16})_([0-9a-f]{16})$/i;
   const PADDED = /^0[0-9a-f]{15,16}$/i;
   const NUMBER = /^(0x[0-9a-f]+|[0-9]+)$/i;
 

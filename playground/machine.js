@@ -5,6 +5,8 @@
 const machine = (() => {
   /** Room for every report: the largest has less than 15,800,000 bytes. */
   const ROOM = 16_777_200;
+  /** Room for a line. */
+  const LINE_ROOM = 4096;
   const ANSWER_BYTES = 40;
   const STATUS = { DONE: 0, LISTING: 1, ORDER: 2, STEP: 3, MEMORY: 4, ROOM: 5, NUMBER: 6, ASSEMBLY: 7, MAP: 8, NAME: 9 };
   const OUT_OF_MEMORY = { status: STATUS.MEMORY, kind: 0, place: 0, column: 0, text: "", line: "memory" };
@@ -75,9 +77,9 @@ const machine = (() => {
    * Calls the module: the texts, then the numbers. An answer has `status`, `kind`, `place` and
    * `column` of the fault, the `text`, and the fault's `line`.
    */
-  function call(name, texts, numbers = []) {
+  function call(name, texts, numbers = [], room = ROOM) {
     try {
-      const answered = callWith(name, texts, numbers, ROOM);
+      const answered = callWith(name, texts, numbers, room);
       if (answered.status !== STATUS.ROOM) return answered;
       return callWith(name, texts, numbers, answered.needed + 256);
     } catch (trap) {
@@ -95,14 +97,14 @@ const machine = (() => {
 
   return {
     STATUS, begin, has, memoryBytes,
-    check: (listing) => call("cheri_check", [listing]),
+    check: (listing) => call("cheri_check", [listing], [], LINE_ROOM),
     run: (listing, order) => call("cheri_run", [listing, order]),
     json: (listing, order) => call("cheri_json", [listing, order]),
     explain: (listing, order, from, to) => call("cheri_explain", [listing, order], [from, to]),
     explainMap: (listing, order, map, from, to) => call("cheri_explain_map", [listing, order, map], [from, to]),
     look: (listing, order, at, from, to) => call("cheri_look", [listing, order], [at, from, to]),
-    bounds: (base, len) => call("cheri_bounds", [base, len]),
-    decode: (word) => call("cheri_decode", [word]),
+    bounds: (base, len) => call("cheri_bounds", [base, len], [], LINE_ROOM),
+    decode: (word) => call("cheri_decode", [word], [], LINE_ROOM),
     assemble: (text) => call("cheri_assemble", [text]),
     map: (text, name) => call("cheri_map", [text, name]),
   };

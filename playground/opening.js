@@ -132,12 +132,17 @@ const opening = (() => {
     });
   }
 
+  /** The fragment of what is open now. */
+  function fragmentNow(isForPage) {
+    const { name } = works.current();
+    return share.fragmentOf(listing.value, order.value,
+      { at: desk.position(), ...(name && { name }), ...(assembly.isOn() && { asm: 1 }), ...(isForPage && { embed: 1 }) });
+  }
+
   async function makeLink() {
     const isForPage = part("share-embed").checked;
     const kind = assembly.isOn() ? "assembly" : "listing";
-    const { name } = works.current();
-    const fragment = await share.fragmentOf(listing.value, order.value,
-      { at: desk.position(), ...(name && { name }), ...(assembly.isOn() && { asm: 1 }), ...(isForPage && { embed: 1 }) });
+    const fragment = await fragmentNow(isForPage);
     const link = withoutFragment() + fragment;
     const isShort = link.length <= share.MOST_CHARACTERS;
     part("share-link").value = isShort ? link : "";
@@ -151,12 +156,13 @@ const opening = (() => {
     part("share-link").select();
   }
 
-  /** Within another page there is no gallery, and nothing is kept. */
+  /** Within another page there is no gallery, and nothing is kept: a link to the whole page takes what was changed along. */
   function beginEmbedded() {
     if (!share.isEmbedded(location)) return;
     document.documentElement.dataset.embed = "yes";
-    works.turnOff();
-    part("whole-page").href = location.href.replace(/[?&]embed=1(?=&|$|#)/, "").replace("#embed=1", "");
+    const whole = location.href.replace(/[?&]embed=1(?=&|$|#)/, "").replace("#embed=1", "");
+    works.turnOff(async () => { part("whole-page").href = whole.split("#")[0] + await fragmentNow(false); });
+    part("whole-page").href = whole;
   }
 
   /** Takes the gallery, and opens the first texts. */

@@ -17,7 +17,7 @@ const registers = (() => {
   function markOf(place, changed) {
     if (!changed.has(place)) return { kind: null, mark: null };
     const lost = changed.get(place);
-    const mark = element("span", { class: "mark" }, lost ? "tag cleared" : "changed");
+    const mark = element("span", { class: "mark" }, lost ? "cleared" : "changed");
     return { kind: lost ? "changed lost" : "changed", mark };
   }
 

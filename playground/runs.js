@@ -5,6 +5,9 @@ const runs = (() => {
   const LAST = 4_294_967_295;
   /** So many events are asked for at once, where one is looked for. */
   const MANY = 5000;
+  /** So many faulty lines are looked for, in so many characters of listings that are asked about. */
+  const MOST_FAULTS = 50;
+  const MOST_ASKED = 400_000;
 
   /** The end of a run: its state, how many operations were done, and the fault that ended it. */
   function endOf(listing, order) {
@@ -44,5 +47,23 @@ const runs = (() => {
     return -1;
   }
 
-  return { LAST, MOST_OPERATIONS, endOf, find, firstAt, imageOf, stopOf };
+  /**
+   * Each faulty line of a listing with the fault that it has where the others stay as they are: they make nothing, but
+   * their labels are there and their instructions are counted. `first` is the answer of `check`. A faulty line is put
+   * out of the way, and the listing asked about again.
+   */
+  function faultsOf(listing, first) {
+    const lines = listing.split("\n");
+    const found = new Map();
+    const most = Math.min(MOST_FAULTS, Math.ceil(MOST_ASKED / listing.length));
+    for (let answer = first; answer.status === STATUS.LISTING && answer.place > 0 && found.size < most;) {
+      const index = answer.place - 1;
+      lines[index] = found.has(answer.place) ? "" : source.withoutFault(lines[index], help.forms());
+      if (!found.has(answer.place)) found.set(answer.place, answer);
+      answer = machine.check(lines.join("\n"));
+    }
+    return [...found.values()].sort((one, other) => one.place - other.place);
+  }
+
+  return { LAST, MOST_OPERATIONS, endOf, faultsOf, find, firstAt, imageOf, stopOf };
 })();

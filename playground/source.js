@@ -47,5 +47,12 @@ const source = (() => {
     });
   }
 
-  return { addressAt, addressesOf, registersOf, tokensOf, wordsOf };
+  /** What stands for a faulty line where it makes nothing: an instruction that is counted, a label alone, or nothing. */
+  function withoutFault(line, instructions) {
+    const first = tokensOf(line)[0]?.text ?? "";
+    if (instructions.has(first)) return "ecall";
+    return first.endsWith(":") && first !== line.trim() ? first : "";
+  }
+
+  return { addressAt, addressesOf, registersOf, tokensOf, withoutFault, wordsOf };
 })();

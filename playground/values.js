@@ -3,16 +3,20 @@ const values = (() => {
   const { cell, element, valueCells } = draw;
   const COLUMNS = ["Tag", "Value", "Bounds", "Allows", "From"];
   const MOST_DECIMAL = 10_000_000n;
+  const MEBIBYTE = 1n << 20n;
+  const MOST_MEBIBYTES = 10_000n;
 
   const short = (hex) => `0x${hex.replace(/^0+(?=.)/, "")}`;
+  const shorter = (words) => words.replace(/\b[0-9a-f]{16,17}\b/g, short);
   const number = (hex) => BigInt(`0x${hex}`);
 
-  /** A length in words: decimal, or a power of two, or hexadecimal. */
+  /** A length in words: decimal, a power of two, mebibytes, or hexadecimal. */
   function lengthWords(length) {
     const power = length.toString(2).length - 1;
-    const count = length < MOST_DECIMAL ? length.toLocaleString("en")
-      : length === 1n << BigInt(power) ? `2^${power}` : `0x${length.toString(16)}`;
-    return `${count} byte${length === 1n ? "" : "s"}`;
+    if (length < MOST_DECIMAL) return `${length.toLocaleString("en")} byte${length === 1n ? "" : "s"}`;
+    if (length === 1n << BigInt(power)) return `2^${power} bytes`;
+    const isWhole = length % MEBIBYTE === 0n && length < MOST_MEBIBYTES * MEBIBYTE;
+    return isWhole ? `${(length / MEBIBYTE).toLocaleString("en")} MiB` : `0x${length.toString(16)} bytes`;
   }
 
   const boundsWords = ({ base, top }) =>
@@ -44,7 +48,10 @@ const values = (() => {
     const [tag, , bounds, allows, from] = drawn;
     const full = fullWords(value, drawn);
     tag.title = full;
-    const reach = cell("bounds", element("span", {}, boundsWords(value)), bounds.querySelector("svg"));
+    const reach = cell("bounds", element("span", { title: `${value.base} to ${value.top}` }, boundsWords(value)),
+      bounds.querySelector("svg"));
+    from.title = from.textContent;
+    from.textContent = from.textContent.replace(/^mem:([0-9a-f]+)$/, (words, address) => short(address));
     allows.title = allows.textContent;
     const sealed = value.type === "unsealed" ? null : allows.querySelector(".type").textContent.trim();
     if (sealed) allows.prepend(element("b", {}, `${sealed} `));
@@ -61,5 +68,5 @@ const values = (() => {
     return element("tr", { role: "row", class: "full", ...attributes }, whole);
   }
 
-  return { COLUMNS, cells, fullRow, short };
+  return { COLUMNS, cells, fullRow, short, shorter };
 })();

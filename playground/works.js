@@ -8,6 +8,8 @@ const works = (() => {
   let current = { id: null, name: "", example: null };
   let isKept = true;
   let isOff = false;
+  /** What is done with changes that aren't kept. */
+  let pass = () => {};
 
   const option = ({ id, name }) => element("option", { value: id }, name);
 
@@ -34,8 +36,11 @@ const works = (() => {
 
   /** What is open was changed: keeps it. */
   function changed(texts) {
+    if (isOff) {
+      pass(texts);
+      return;
+    }
     if (location.hash.length > 1) history.replaceState(null, "", location.href.split("#")[0]);
-    if (isOff) return;
     const isNew = current.id === null;
     if (isNew) {
       current = { id: store.newId(), name: store.freeName(current.name || "my work"), example: null };
@@ -77,6 +82,7 @@ const works = (() => {
     current: () => current,
     /** What was open last; nothing where nothing is kept. */
     last: () => (isOff ? null : store.last()),
-    turnOff: () => { isOff = true; },
+    /** From now on nothing is kept: changes are passed to `take`. */
+    turnOff: (take) => { [isOff, pass] = [true, take]; },
   };
 })();

@@ -205,7 +205,7 @@ async function checkDownloads(tab) {
 
 // ---------------------------------------------------------- faults, fragments, markup
 
-/** The page with all that it may say at once: a fault of each text, a notice, a breakpoint, what changed before. */
+/** The page with all that it may say at once: two faulty lines, a fault of the order, a notice, a breakpoint, what changed before. */
 async function openFaulty(tab) {
   await open(tab, "#1.AAAA");
   await tab.ask((text) => {
@@ -218,7 +218,7 @@ async function openFaulty(tab) {
     enter("order", "00 11 22x");
     field("point").click();
     field("full").click();
-    enter("listing", `${text}add c1, c2\n`);
+    enter("listing", `${text}add c1, c2\nnothing\n`);
     field("race").querySelector("button").click();
     for (const details of document.querySelectorAll("details")) details.open = true;
   }, gallery.find(({ name }) => name === "leak").text);

@@ -15,6 +15,8 @@ const [page, answers] = process.argv.slice(2);
 const url = `file://${path.resolve(page)}`;
 const cases = readLines(answers);
 const { gallery } = readPage(page);
+/** How long the page may take to be there, and how long where the machine is busy. */
+const [MOST_LOADING, MOST_BUSY] = [500, 1000];
 
 async function open(tab, fragment = "") {
   await tab.go("about:blank");
@@ -59,9 +61,10 @@ async function checkPath(tab) {
 withFirefox(async (newTab) => {
   const tab = await newTab();
   let loaded = Infinity;
-  for (let count = 0; count < 3; count += 1) loaded = Math.min(loaded, await open(tab));
+  // machines are busy: the best of some
+  for (let count = 0; count < 10 && loaded > MOST_LOADING; count += 1) loaded = Math.min(loaded, await open(tab));
   console.log(`playground: Firefox: the page is there: ${loaded.toFixed(0)} ms`);
-  check("Firefox: the page is there in less than a second", loaded < 1000, loaded);
+  check("Firefox: the page is there in less than a second", loaded < MOST_BUSY, loaded);
   await checkPath(tab);
   await checkCases(tab, "Firefox", cases);
   await checkAssembled(tab, "Firefox", readLines(`${answers}.assembly`));

@@ -46,10 +46,30 @@ async function checkPlaces(one, say) {
   say("what an event reads and writes stands in lines of one line each", facts.length === 0 && rows > 0, facts);
   const row = await one.ask(() => document.querySelector('[data-place="0:c5"]')?.textContent ?? "");
   say("bounds are short, with the length", row.includes("16 bytes from 0x80000000"), row);
+  const lesson = await one.ask(() => document.querySelector("#example-lesson a")?.getAttribute("href"));
+  say("an example leads to its part of the lesson", /^lesson\.html#part-\d+$/.test(lesson), lesson);
   await click(one, "full");
   const full = await textOf(one, "harts");
   say("the full form is there on demand", full.includes("0000000080000000 to 00000000080000010"));
   await click(one, "full");
+}
+
+/** Columns of values have place enough. */
+async function checkWidths(one, say) {
+  await forget(one);
+  await openExample(one, "scores");
+  const cut = await one.ask(() => [...document.querySelectorAll(":is(#harts, #facts, #memory) :is(.bounds span, td.from, td.word)")]
+    .filter((part) => part.scrollWidth > part.clientWidth).map((part) => part.textContent));
+  const harts = await textOf(one, "harts");
+  const narrow = [];
+  for (const width of [980, 1024, 1130, 1240, 1280]) {
+    await one.screen(width, 800);
+    narrow.push(...await one.ask((width) => [...document.querySelectorAll("#harts thead th, #facts thead th")]
+      .map((head) => [width, head.textContent, head.getBoundingClientRect().width]).filter(([, , wide]) => wide < 35), width));
+  }
+  say("each column is seen at 980 to 1,280 pixels", narrow.length === 0, narrow);
+  say("no bound, value or origin is cut at 1,280 pixels", cut.length === 0 && harts.includes("1,794 MiB from 0x10000000"), cut);
+  await openExample(one, "leak");
 }
 
 async function checkSource(one, say) {
@@ -80,7 +100,8 @@ async function checkWords(one, say) {
   const faults = [["add c1, c2", "the end of the line", "a register", 10],
     ["addi c1, c2, 5000", "5000", "from -2048 to 2047", 13],
     ["addd c1, c2, c3", "addd", "an instruction", 0], ["cjal c0, nowhere", "nowhere", "name of a label", 9],
-    ["lb c1, 4[c5]", "4[c5]", "an offset", 7], [".set c5 int 1", "c5", "not set yet", 5]];
+    ["lb c1, 4[c5]", "4[c5]", "an offset", 7], [".hart 0x10000000 16 0x10000000 load+run", "load+run", "permissions", 31],
+    [".set c5 int 1", "c5", "not set yet", 5]];
   const wrong = [];
   for (const [line, found, expected, column] of faults) {
     await enter(one, "listing", `${HEAD}${line}\necall\n`);
@@ -93,6 +114,48 @@ async function checkWords(one, say) {
   say("faults say what was found and what was expected, with a caret", wrong.length === 0, wrong.slice(0, 2));
   const means = await textOf(one, "listing-fault");
   say("and what the kind of fault means", means.includes("6 Twice: the name is defined on an earlier line"), means);
+}
+
+/** Lines, and the kind of fault that each has while the others stay as they are; none of a good one. */
+const MANY_FAULTS = [["again: x", "3 Operand"], ["addd c1, c2", "2 Word"], ["addi c1, c2, 5000", "4 Range"],
+  ["cjal c0, again", null], ["cjal c0, nowhere", "5 Label"], [".hart 0x10000000 16 0x10000000 run", "3 Operand"],
+  [".set c5 int 1", "6 Twice"], ["ecall", null]];
+
+async function checkAllFaults(one, say) {
+  await forget(one);
+  const above = HEAD.split("\n").length;
+  const lineOf = (index) => above + index;
+  const wanted = MANY_FAULTS.map(([, kind], index) => kind && `${lineOf(index)}: ${kind}`).filter(Boolean);
+  const text = HEAD + MANY_FAULTS.map(([line]) => line).join("\n");
+  await enter(one, "listing", text);
+  const marked = () => one.ask(() => [...document.querySelectorAll("#gutter .faulty")].map((row) => row.dataset.line).join());
+  const numbers = wanted.map((words) => words.split(":")[0]).join();
+  say("all faulty lines are marked at once", await marked() === numbers, await marked());
+  const words = await textOf(one, "listing-fault");
+  const missing = wanted.filter((line) => !words.includes(`listing line ${line}`));
+  say("and told, each with its own fault", missing.length === 0 && words.includes("5 more faulty lines"), [missing, words]);
+  say("with what was found and expected", words.includes("Found nowhere; expected the name of a label"), words);
+  const underlined = await one.ask(() => document.querySelectorAll("#bars .at-column").length);
+  say("what is meant is underlined in each", underlined === wanted.length, underlined);
+  await one.ask(() => { document.querySelectorAll("#listing-fault li button")[1].focus(); });
+  await one.press("Enter");
+  const chosen = await one.ask(() => {
+    const { value, selectionStart, selectionEnd } = document.getElementById("listing");
+    return [document.activeElement.id, value.slice(selectionStart, selectionEnd)].join();
+  });
+  say("a button goes to another faulty line", chosen === `listing,${MANY_FAULTS[2][0]}`, chosen);
+  await enter(one, "listing", text.replace("5000", "500"));
+  say("a line that is mended is no longer marked", await marked() === numbers.replace(`${lineOf(2)},`, ""), await marked());
+  await enter(one, "listing", `${HEAD}ecall\n`);
+  say("nor is any of a good listing", await marked() === "" && await textOf(one, "listing-fault") === "", await marked());
+  const [taken, count] = await one.ask((head) => {
+    const text = `${head}${"nothing\n".repeat(2000)}`;
+    const began = performance.now();
+    const list = faulty.marked(runs.faultsOf(text, machine.check(text)), text);
+    faulty.showListing(list, () => {});
+    return [performance.now() - began, list.length];
+  }, HEAD);
+  say("many faulty lines are found within half a second", taken < 500 && count > 20, [taken, count]);
 }
 
 // ------------------------------------------------------------------- runs
@@ -250,8 +313,18 @@ async function checkHelp(one, say) {
     });
   });
   say("each instruction has its help", missing.length === 0, missing);
+  const pointed = (type) => one.ask((type) => {
+    const area = document.getElementById("listing");
+    const [line, top] = [area.value.split("\n").indexOf("ecall"), area.getBoundingClientRect().top];
+    const clientY = top + (line + 0.9) * parseFloat(getComputedStyle(area).lineHeight);
+    area.dispatchEvent(new PointerEvent(type, { clientY }));
+    return document.getElementById("help").textContent;
+  }, type);
+  const [over, left] = [await pointed("pointermove"), await pointed("pointerleave")];
+  say("the line that is pointed at has it, and then that of the cursor again", over.startsWith("ecall")
+    && left.startsWith("csetbounds"), [over, left]);
 }
 
 module.exports = {
-  parts: [checkPlaces, checkSource, checkWords, checkRuns, checkPoints, checkMemory, checkTimes, checkHelp],
+  parts: [checkPlaces, checkWidths, checkSource, checkWords, checkAllFaults, checkRuns, checkPoints, checkMemory, checkTimes, checkHelp],
 };

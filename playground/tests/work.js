@@ -131,6 +131,8 @@ async function checkFields(one, say) {
   say("other digits are decimal", decimal === "read as 0x3e8" && bounds.includes("ie="), [decimal, bounds]);
   const [none, bad] = await answers("decode", "decode-word", "c0ffee", "decode-line");
   say("what is no number stays none", none === "" && bad === "bad number", [none, bad]);
+  const [prefixed, refused] = await answers("decode", "decode-word", `0x${word}`, "decode-line");
+  say("so is what a command line doesn't take", prefixed === "" && refused === "bad number", [prefixed, refused]);
 }
 
 // ------------------------------------------------------------------- files and links
@@ -189,8 +191,15 @@ async function checkLinks(one, say) {
   const before = await kept();
   await enter(one, "order", "1");
   say("embedded nothing is kept", await kept() === before, await kept());
-  const whole = await one.ask(() => document.getElementById("whole-page").href);
-  say("embedded there is a link to the whole page", whole.includes("#1.") && !whole.includes("embed"), whole);
+  const isTaken = () => one.until(async () => {
+    const { hash } = new URL(document.getElementById("whole-page").href);
+    return !hash.includes("embed") && (await share.read(hash))?.order === "1";
+  });
+  say("embedded there is a link to the whole page, with what was changed", await isTaken(),
+    await one.ask(() => document.getElementById("whole-page").href));
+  await one.reload();
+  say("a reload brings back what the frame had", await isSeen("example") === false && await valueOf(one, "order") !== "1",
+    await valueOf(one, "order"));
 }
 
 module.exports = { parts: [checkKept, checkAsked, checkUndo, checkNotices, checkFields, checkFiles, checkLinks] };
