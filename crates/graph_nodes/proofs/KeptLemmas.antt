@@ -1,22 +1,22 @@
 -- Rows, and what is kept of them.
-use Rattle.std.proofs.Common.{◌≡◌, ◌≢◌, ℕ, zero, suc, ◌+◌, ◌-◌, ◌*◌, ◌/◌, ◌%◌, ◌^◌, ◌<◌, ◌≤◌, List, [], ◌∷◌, ◌++◌, map, take, get_or, length, Option, Some, None, IfSome, Result, Ok, Err, IfOk, OnErr, ◌⊎◌, ⊎_elim, arith, ap, sym, ◌∙◌, refl, subst, inl, inr, length-append}
+use Rattle.std.proofs.Common.{◌≡◌, ◌≢◌, ℕ, zero, suc, ◌+◌, ◌-◌, ◌*◌, ◌<◌, ◌≤◌, List, [], ◌∷◌, ◌++◌, map, take, get_or, length, Option, Some, None, IfSome, Result, Ok, Err, IfOk, OnErr, ◌⊎◌, ⊎_elim, arith, ap, sym, ◌∙◌, refl, subst, inl, inr}
 use Rattle.std.specs.Prelude.{slice_get, option_map}
 use Rattle.std.proofs.Math.Seq.{take-suc}
 use Rattle.std.proofs.lemmas.List.{map-append, map-id, length-map}
 use Rattle.std.proofs.lemmas.Option.{none-some, same_Some, slice_get-map, slice_get_within, get_or_from_slice_get}
-use Rattle.interner.specs.Rows.{Rows, IsRow, IsDistinct, IsInterned, with_row}
-use Rattle.graph_nodes.specs.Packing.{packed, unpacked, halves_of, word_of}
-use Rattle.graph_nodes.specs.Kept.{kept_of, row_of, rows_of, AreKept}
-
-pub halves_back : (word : ℕ) → word_of (halves_of word) ≡ word
-unfolding halves_of word_of
-halves_back word = omega arith
+use Rattle.interner.specs.Rows.{Rows, IsRow, IsDistinct, IsInterned}
+use Rattle.graph_nodes.specs.Packing.{unpacked}
+use Rattle.graph_nodes.specs.Kept.{kept_word, kept_of, kept_in, kept_width, row_of, rows_of, HasBits, AreKept}
 
 -- what is kept of a row that fits into this word
 pub row_of_word : (bits width word : ℕ) (row : List ℕ) → length row ≡ width → unpacked bits (length row - 1) word ≡ row →
-    row_of (Some bits) width (halves_of word) ≡ row
-row_of_word bits width word row wide back =
-    rw (halves_back word, ← wide) back
+    row_of (Some bits) width (kept_word word) ≡ row
+row_of_word bits width word row wide back = rw (← wide) back
+
+-- a row of this width has room in a word
+pub has_room : (bits : Option ℕ) (b width n : ℕ) → HasBits bits width → bits ≡ Some b → n ≡ width → (n - 1) * b ≤ 64
+has_room (Some d) b width n fit is wide = rw (wide, ← same_Some d b is) fit.3
+has_room None b width n fit is wide = absurd (none-some b is)
 
 -- What is kept of a row that is there.
 record IsKeptAt (bits : Option ℕ) (width : ℕ) (kept : Rows) (i : ℕ) (row : List ℕ) : Type 0 where
@@ -90,20 +90,6 @@ pub found_row : (bits : Option ℕ) (width : ℕ) (kept : Rows) (what row : List
     IfSome found (λ number. IsRow (rows_of bits width kept) number row)
 found_row bits width kept what row None means is = is
 found_row bits width kept what row (Some number) means is = row_there bits width kept number what row is means
-
-two_halves : (word : ℕ) → length (halves_of word) ≡ 2
-unfolding halves_of
-two_halves word = refl
-
--- what is kept of a row in a word are two numbers
-pub halves_wide : (bits width : ℕ) (kept : Rows) → AreKept (Some bits) width kept → (i : ℕ) (what : List ℕ) →
-    slice_get kept.rows i ≡ Some what → length what ≡ 2
-halves_wide bits width kept are i what there =
-    on (packed bits (row_of (Some bits) width what)) (are.same i what there)
-  where
-    on : (word : Option ℕ) → option_map halves_of word ≡ Some what → length what ≡ 2
-    on None is = absurd (none-some what is)
-    on (Some word) is = ap length (sym (same_Some (halves_of word) what is)) ∙ two_halves word
 
 pub same_rows : (a b : Rows) → a.width ≡ b.width → a.rows ≡ b.rows → a ≡ b
 same_rows a b width rows = ap (λ (w : ℕ). record { width = w; rows = a.rows }) width ∙ ap (λ (r : List (List ℕ)). record { width = b.width; rows = r }) rows
@@ -211,3 +197,23 @@ rows_kept bits width kept rows are is = subst (AreKept None width) (sym is) (rec
 
 pub rows_themselves : (width : ℕ) (rows : Rows) → rows.width ≡ width → rows_of None width rows ≡ rows
 rows_themselves width rows wide = same_rows (rows_of None width rows) rows (sym wide) (map-id rows.rows)
+
+-- No rows are kept in any form.
+pub no_rows : (bits : Option ℕ) (width : ℕ) (words wide : Rows) → words.rows ≡ [] → wide.rows ≡ [] →
+    (rows_of bits width (kept_in bits words wide)).rows ≡ []
+no_rows None width words wide no_words none = ap (map (row_of None width)) none
+no_rows (Some bits) width words wide no_words none = ap (map (row_of (Some bits) width)) no_words
+
+kept_empty : (bits : Option ℕ) (width : ℕ) (kept : Rows) → HasBits bits width → kept.width ≡ kept_width bits width →
+    kept.rows ≡ [] → AreKept bits width kept
+kept_empty bits width kept fit wide none = record {
+  fit = fit;
+  wide = wide;
+  same = λ i k at. absurd (none-some k (sym (ap (λ (r : List (List ℕ)). slice_get r i) none) ∙ at));
+  long = λ i k at. absurd (none-some k (sym (ap (λ (r : List (List ℕ)). slice_get r i) none) ∙ at));
+}
+
+pub none_kept : (bits : Option ℕ) (width : ℕ) (words wide : Rows) → HasBits bits width → words.width ≡ 1 →
+    wide.width ≡ width → words.rows ≡ [] → wide.rows ≡ [] → AreKept bits width (kept_in bits words wide)
+none_kept None width words wide fit one same no_words none = kept_empty None width wide fit same none
+none_kept (Some bits) width words wide fit one same no_words none = kept_empty (Some bits) width words fit one no_words

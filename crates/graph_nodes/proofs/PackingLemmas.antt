@@ -1,11 +1,13 @@
 -- What a word of digits says.
-use Rattle.std.proofs.Common.{◌≡◌, ℕ, zero, suc, ◌+◌, ◌-◌, ◌*◌, ◌/◌, ◌%◌, ◌^◌, ◌<◌, ◌≤◌, ◌&&◌, nat_lt, true, false, if◌then◌else◌, List, [], ◌∷◌, ◌++◌, length, get_or, drop, Option, Some, None, option_and_then, IfSome, arith, ap, sym, ◌∙◌, refl, inl, inr, pow-add, lt-ltb, le-ltb}
+use Rattle.std.proofs.Common.{◌≡◌, ℕ, zero, suc, ◌+◌, ◌-◌, ◌*◌, ◌/◌, ◌%◌, ◌^◌, ◌<◌, ◌≤◌, List, [], ◌∷◌, ◌++◌, length, drop, Option, Some, None, option_and_then, IfSome, arith, ap, sym, ◌∙◌, refl, inl, inr, pow-add, lt-ltb, le-ltb}
 use Rattle.std.specs.Prelude.{slice_index, slice_set}
+use Rattle.std.proofs.Math.Nat.{suc-mul, zero-mul, mul-le-mul_right}
+use Rattle.std.proofs.Math.Pow.{pow_mono}
 use Rattle.std.proofs.lemmas.Nat.{mul-add-lt, div-mul-add, mod-mul-add}
 use Rattle.std.proofs.lemmas.Bool.{cases_lt}
 use Rattle.std.proofs.lemmas.List.{append-nil, append_assoc, at_drop_more, drop_all, drop-set}
 use Rattle.std.proofs.lemmas.Option.{none-some, same_Some}
-use Rattle.graph_nodes.specs.Packing.{with_digit, with_digits, packed, unpacked, halves_of, word_of}
+use Rattle.graph_nodes.specs.Packing.{with_digit, with_digits, wrapped, packed, unpacked}
 
 -- a word has room for one more digit
 pub digit_fits : (bits word digit : ℕ) → bits ≤ 32 → word < 2 ^ (64 - bits) → digit < 2 ^ bits → word * 2 ^ bits + digit < 2 ^ 64
@@ -69,17 +71,93 @@ digits_back bits n word more (digit ∷ digits) is = on (λ w e. digits_back bit
           append_assoc (unpacked bits n word) (digit ∷ []) digits,
         ) refl
 
--- the digits from place i on are the one there, and those after it
-pub digits_from : (bits word : ℕ) (digits : List ℕ) (i d : ℕ) → i < length digits →
-    with_digits bits word (drop i digits)
-    ≡ option_and_then (λ w. with_digits bits w (drop (i + 1) digits)) (with_digit bits word (get_or digits i d))
-unfolding with_digits
-digits_from bits word digits i d below = at_drop_more (with_digits bits word) digits i d below
+-- the word with these digits behind it, of which the first bits are lost where they don't fit
+pub all_wrapped : ℕ → ℕ → List ℕ → ℕ
+all_wrapped bits word [] = word
+all_wrapped bits word (digit ∷ digits) = all_wrapped bits (wrapped bits word digit) digits
 
--- no digits are left
-pub digits_end : (bits word : ℕ) (digits : List ℕ) (i : ℕ) → length digits ≤ i → with_digits bits word (drop i digits) ≡ Some word
+pub wrapped_from : (bits word : ℕ) (digits : List ℕ) (i : ℕ) → i < length digits →
+    all_wrapped bits word (drop i digits)
+    ≡ all_wrapped bits (wrapped bits word (slice_index digits i)) (drop (i + 1) digits)
+unfolding all_wrapped
+wrapped_from bits word digits i below = at_drop_more (all_wrapped bits word) digits i 0 below
+
+pub wrapped_end : (bits word : ℕ) (digits : List ℕ) (i : ℕ) → length digits ≤ i →
+    all_wrapped bits word (drop i digits) ≡ word
+unfolding all_wrapped
+wrapped_end bits word digits i past = rw (drop_all i digits past) refl
+
+-- a digit is too large
+pub one_too_large : (bits word : ℕ) (digits : List ℕ) (k : ℕ) → k < length digits → 2 ^ bits ≤ slice_index digits k →
+    with_digits bits word digits ≡ None
 unfolding with_digits
-digits_end bits word digits i past = rw (drop_all i digits past) refl
+one_too_large bits word [] k below large = absurd (omega arith)
+one_too_large bits word (digit ∷ digits) zero below large =
+    ap (option_and_then (λ w. with_digits bits w digits)) (digit_too_large bits word digit large)
+one_too_large bits word (digit ∷ digits) (suc k) below large =
+    none_after (λ w. with_digits bits w digits) (λ w. one_too_large bits w digits k (omega arith) large)
+    (with_digit bits word digit)
+  where
+    none_after : (f : ℕ → Option ℕ) → ((w : ℕ) → f w ≡ None) → (o : Option ℕ) → option_and_then f o ≡ None
+    none_after f none None = refl
+    none_after f none (Some w) = none w
+
+-- the powers of a word's rooms before and after a digit
+room_after : (bits n : ℕ) → suc n * bits ≤ 64 → 2 ^ bits * 2 ^ (64 - suc n * bits) ≡ 2 ^ (64 - n * bits)
+room_after bits n few =
+    let e = suc-mul n bits in
+    let sum : bits + (64 - suc n * bits) ≡ 64 - n * bits = omega arith in
+    sym (pow-add 2 bits (64 - suc n * bits)) ∙ ap (λ k. 2 ^ k) sum
+
+-- the word is too large for so many digits
+pub no_room : (bits word : ℕ) (digits : List ℕ) → bits ≤ 32 → length digits * bits ≤ 64 → word < 2 ^ 64 →
+    2 ^ (64 - length digits * bits) ≤ word → with_digits bits word digits ≡ None
+unfolding with_digits
+no_room bits word [] small few whole large = absurd (too_large 0 bits word (zero-mul bits) whole large)
+  where
+    too_large : (n bits word : ℕ) → n * bits ≡ 0 → word < 2 ^ 64 → 2 ^ (64 - n * bits) ≤ word → ⊥
+    too_large n bits word none whole large =
+        let above : 2 ^ (64 - 0) ≤ word = rw none at large in
+        omega arith
+no_room bits word (digit ∷ digits) small few whole large =
+    elim (cases_lt digit (2 ^ bits)) [
+      | inr big ↦ ap (option_and_then (λ w. with_digits bits w digits)) (digit_too_large bits word digit big)
+      | inl low ↦ elim (cases_lt word (2 ^ (64 - bits))) [
+        | inr big ↦ ap (option_and_then (λ w. with_digits bits w digits)) (word_too_large bits word digit low big)
+        | inl room ↦
+            let e = suc-mul (length digits) bits in
+            let more = word * 2 ^ bits + digit in
+            let fits : more < 2 ^ 64 = digit_fits bits word digit small room low in
+            let product = room_after bits (length digits) few in
+            let scaled = mul-le-mul_right (2 ^ bits) large in
+            let large_more : 2 ^ (64 - length digits * bits) ≤ more = omega arith in
+            ap (option_and_then (λ w. with_digits bits w digits)) (digit_there bits word digit room low)
+            ∙ no_room bits more digits small (omega arith) fits large_more
+      ]
+    ]
+
+-- all digits fit
+pub all_fit : (bits word : ℕ) (digits : List ℕ) → bits ≤ 32 → length digits * bits ≤ 64 →
+    ((k : ℕ) → k < length digits → slice_index digits k < 2 ^ bits) → word < 2 ^ (64 - length digits * bits) →
+    with_digits bits word digits ≡ Some (all_wrapped bits word digits)
+unfolding with_digits all_wrapped
+all_fit bits word [] small few low room = refl
+all_fit bits word (digit ∷ digits) small few low room =
+    let n = length digits in
+    let e = suc-mul n bits in
+    let first : digit < 2 ^ bits = low 0 (omega arith) in
+    let product = room_after bits n few in
+    let more = word * 2 ^ bits + digit in
+    let below : more < 2 ^ bits * 2 ^ (64 - suc n * bits) =
+    mul-add-lt word (2 ^ bits) digit (2 ^ (64 - suc n * bits)) room first in
+    let next : more < 2 ^ (64 - n * bits) = rw product at below in
+    let less : 2 ^ (64 - suc n * bits) ≤ 2 ^ (64 - bits) = pow_mono (omega arith) in
+    let fits : word < 2 ^ (64 - bits) = omega arith in
+    let whole : more < 2 ^ 64 = digit_fits bits word digit small fits first in
+    let same : wrapped bits word digit ≡ more = omega arith in
+    ap (option_and_then (λ w. with_digits bits w digits)) (digit_there bits word digit fits first)
+    ∙ all_fit bits more digits small (omega arith) (λ k under. low (suc k) (omega arith)) next
+    ∙ ap (λ w. Some (all_wrapped bits w digits)) (sym same)
 
 -- a row whose word this is is the word's
 pub row_back : (bits word first : ℕ) (digits : List ℕ) → first < 2 ^ 32 → with_digits bits first digits ≡ Some word →

@@ -20,8 +20,8 @@ ghost use Rattle.std.specs.Prelude.{
 ghost use Rattle.interner.specs.Rows.{IsDistinct, IsInterned, IsRow};
 ghost use Rattle.graph_nodes.specs.Kept.{HasBits};
 
-use crate::packing::{halves_of, pack, unpack, word_of};
-use interner::Interner;
+use crate::packing::{pack, unpack};
+use interner::{Interner, Words};
 use std::alloc::{AllocError, Global};
 use std::marker::Model;
 
@@ -32,20 +32,22 @@ pub struct Nodes {
     width: usize,
     /// How many bits each number of a row has but the first, where rows are kept in words.
     bits: Option<u32>,
-    /// What is kept of each row: the halves of its word, or the row.
-    kept: Interner,
+    /// The words of the rows, where they are kept in words.
+    words: Words,
+    /// The rows, where they are kept number by number.
+    wide: Interner,
     alloc: Global,
 }
 
 impl Model for Nodes {
     ghost use Rattle.interner.specs.Rows.{Rows};
-    ghost use Rattle.graph_nodes.specs.Kept.{rows_of, AreKept};
+    ghost use Rattle.graph_nodes.specs.Kept.{kept_in, rows_of, AreKept};
 
     ghost Value = { Rows };
 
-    ghost view = { λ a. rows_of a.bits a.width a.kept };
+    ghost view = { λ a. rows_of a.bits a.width (kept_in a.bits a.words a.wide) };
 
-    ghost invariant = { λ a. AreKept a.bits a.width a.kept };
+    ghost invariant = { λ a. AreKept a.bits a.width (kept_in a.bits a.words a.wide) };
 }
 
 /// How many bits of a word each number has but the first, which has the others, in rows of so many
@@ -68,19 +70,16 @@ fn bits_of(width: usize) -> Option<u32>
 
 impl Nodes {
     /// No rows, of so many numbers each. Allocates nothing.
+    #[tactic(auto, using(crate::proofs::KeptLemmas::no_rows, crate::proofs::KeptLemmas::none_kept))]
     pub fn new(alloc: Global, width: usize) -> Nodes
         ensures width { result.width ≡ width }
         ensures rows { result.rows ≡ [] }
     {
-        let bits = bits_of(width);
-        let kept_width = match bits {
-            Some(_) => 2,
-            None => width,
-        };
         Nodes {
             width,
-            bits,
-            kept: Interner::new(alloc, kept_width),
+            bits: bits_of(width),
+            words: Words::new(alloc),
+            wide: Interner::new(alloc, width),
             alloc,
         }
     }
@@ -98,7 +97,10 @@ impl Nodes {
         ensures few { result < 2 ^ 32 }
         ensures distinct { IsDistinct self.now }
     {
-        self.kept.len()
+        let Some(_) = self.bits else {
+            return self.wide.len();
+        };
+        self.words.len()
     }
 
     /// Writes the row of this number. False where there is none, and then nothing is written.
@@ -109,13 +111,17 @@ impl Nodes {
         ensures left { result ≡ false → row.new ≡ row.old }
         ensures same_room { length row.new ≡ length row.old }
     {
-        let Some(kept) = self.kept.row(number) else {
+        let Some(bits) = self.bits else {
+            let Some(kept) = self.wide.row(number) else {
+                return false;
+            };
+            row.copy_from_slice(kept);
+            return true;
+        };
+        let Some(word) = self.words.word(number) else {
             return false;
         };
-        match self.bits {
-            Some(bits) => unpack(bits, word_of(kept), row),
-            None => row.copy_from_slice(kept),
-        }
+        unpack(bits, word, row);
         true
     }
 
@@ -125,13 +131,13 @@ impl Nodes {
         ensures absent { result ≡ None → (i : ℕ) → slice_get self.now.rows i ≢ Some row.now }
     {
         let Some(bits) = self.bits else {
-            return self.kept.find(row);
+            return self.wide.find(row);
         };
         if row.len() != self.width {
             return None;
         }
         let word = pack(bits, row)?;
-        self.kept.find(&halves_of(word))
+        self.words.find(word)
     }
 
     /// The number of this row, which becomes the last one where it is not there. Fails only when out
@@ -143,14 +149,27 @@ impl Nodes {
         ensures unchanged { OnErr result (self.new ≡ self.old) }
     {
         let Some(bits) = self.bits else {
-            return self.kept.insert(row);
+            return self.wide.insert(row);
         };
         if let Some(word) = pack(bits, row) {
-            return self.kept.insert(&halves_of(word));
+            return self.words.insert(word);
         }
-        self.kept = self.unpacked()?;
+        self.insert_wide(row)
+    }
+
+    /// The same where rows are to be kept number by number from now on.
+    #[cold]
+    #[inline(never)]
+    fn insert_wide(&mut self, row: &[u32]) -> Result<u32, AllocError>
+        requires { length row.now ≡ self.old.width }
+        ensures interned { IfOk result (λ number. IsInterned self.old self.new row.now number) }
+        ensures same_width { self.new.width ≡ self.old.width }
+        ensures unchanged { OnErr result (self.new ≡ self.old) }
+    {
+        self.wide = self.unpacked()?;
         self.bits = None;
-        self.kept.insert(row)
+        self.words = Words::new(self.alloc);
+        self.wide.insert(row)
     }
 
     /// The rows, kept number by number.

@@ -1,27 +1,19 @@
 //! A row as one word: its first number, and behind it the others, each as a digit of so many bits.
 
-#![tactic(auto, unfolding(crate::specs::Packing::halves_of, crate::specs::Packing::word_of), using(crate::proofs::PackingLemmas::digit_fits, crate::proofs::PackingLemmas::digit_there, crate::proofs::PackingLemmas::digit_too_large, crate::proofs::PackingLemmas::word_too_large))]
-
 ghost use Rattle.std.specs.Prelude.{
   ◌≡◌,
   ℕ,
-  ◌+◌,
   ◌-◌,
+  ◌*◌,
   ◌^◌,
   ◌<◌,
   ◌≤◌,
   length,
-  Some,
+  true,
+  false,
   IfSome,
 };
-ghost use Rattle.graph_nodes.specs.Packing.{
-  with_digit,
-  with_digits,
-  packed,
-  unpacked,
-  halves_of,
-  word_of,
-};
+ghost use Rattle.graph_nodes.specs.Packing.{with_digits, wrapped, packed, unpacked};
 
 /// The numbers that half a word can hold.
 const HALF: u64 = 1 << 32;
@@ -34,32 +26,46 @@ fn base_of(bits: u32) -> u64
     1 << bits
 }
 
-/// The word with one more digit behind it, if both fit.
-fn with_digit(bits: u32, word: u64, digit: u32) -> Option<u64>
-    requires some { 0 < bits }
-    requires few { bits ≤ 32 }
-    ensures { result ≡ with_digit bits word digit }
+/// The word with one more digit behind it, of which the first bits may be lost.
+fn with_digit(bits: u32, word: u64, digit: u32) -> u64
+    requires { bits ≤ 32 }
+    ensures { result ≡ wrapped bits word digit }
 {
-    let digit = u64::from(digit);
-    let base = base_of(bits);
-    if digit >= base {
-        return None;
-    }
-    if word >= base_of(64 - bits) {
-        return None;
-    }
-    Some(word * base + digit)
+    word.wrapping_mul(base_of(bits))
+        .wrapping_add(u64::from(digit))
 }
 
-/// The word with these digits behind it.
+/// Whether a word has room for so many bits behind it.
+fn has_room(word: u64, bits: usize) -> bool
+    requires { bits ≤ 64 }
+    ensures room { result ≡ true → word < 2 ^ (64 - bits) }
+    ensures none { result ≡ false → 2 ^ (64 - bits) ≤ word }
+{
+    if bits == 0 {
+        return true;
+    }
+    word < base_of(64 - bits as u32)
+}
+
+/// The word with these digits behind it, if they all fit.
 fn with_digits(bits: u32, first: u64, digits: &[u32]) -> Option<u64>
     requires some { 0 < bits }
     requires few { bits ≤ 32 }
+    requires room { length digits.now * bits ≤ 64 }
     ensures { result ≡ with_digits bits first digits.now }
 {
     let mut word = first;
+    let mut largest = 0u32;
     for digit in digits {
-        word = with_digit(bits, word, *digit)?;
+        word = with_digit(bits, word, *digit);
+        largest = largest.max(*digit);
+    }
+    let base = base_of(bits);
+    if u64::from(largest) >= base {
+        return None;
+    }
+    if !has_room(first, digits.len() * bits as usize) {
+        return None;
     }
     Some(word)
 }
@@ -68,6 +74,7 @@ fn with_digits(bits: u32, first: u64, digits: &[u32]) -> Option<u64>
 pub fn pack(bits: u32, row: &[u32]) -> Option<u64>
     requires some { 0 < bits }
     requires few { bits ≤ 32 }
+    requires room { (length row.now - 1) * bits ≤ 64 }
     ensures word { result ≡ packed bits row.now }
     ensures back { IfSome result (λ word. unpacked bits (length row.now - 1) word ≡ row.now) }
 {
@@ -91,19 +98,4 @@ pub fn unpack(bits: u32, word: u64, row: &mut [u32])
         place -= 1;
     }
     row[0] = (rest % HALF) as u32;
-}
-
-/// A word as two numbers, the lower half first.
-pub fn halves_of(word: u64) -> [u32; 2]
-    ensures { result ≡ halves_of word }
-{
-    [(word % HALF) as u32, (word / HALF) as u32]
-}
-
-/// The word of two halves.
-pub fn word_of(halves: &[u32]) -> u64
-    requires { length halves.now ≡ 2 }
-    ensures { result ≡ word_of halves.now }
-{
-    u64::from(halves[0]) + u64::from(halves[1]) * HALF
 }

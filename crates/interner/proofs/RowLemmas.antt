@@ -1,6 +1,6 @@
 -- Rows in a list of numbers.
 use Rattle.std.proofs.Common.{◌≡◌, ◌≢◌, ℕ, zero, suc, ◌+◌, ◌*◌, ◌<◌, ◌≤◌, List, [], ◌∷◌, ◌++◌, length, get_or, take, drop, arith, ap, sym, ◌∙◌, refl, inl, inr, length-append}
-use Rattle.std.specs.Prelude.{slice_get, Some, None}
+use Rattle.std.specs.Prelude.{slice_get, Option, Some, None, IfSome}
 use Rattle.std.proofs.Math.Nat.{mul-le-mul_right, suc-mul}
 use Rattle.std.proofs.Math.Seq.{get_or-append_seam, drop-append_seam, take-length}
 use Rattle.std.proofs.lemmas.List.{length-drop, length-take-le, get_or_append_left, drop-append-le, take-append-le}
@@ -155,3 +155,8 @@ rows_interned width numbers row n whole wide =
     (rows_of width numbers n ++ row ∷ []) =
     ap (record_of width) more in
     (here, inr (same, sym (length-rows_of width numbers n)))
+
+-- what is so of a number is so of what follows from it
+pub if_some : (o : Option ℕ) (P Q : ℕ → Type 0) → ((n : ℕ) → P n → Q n) → IfSome o P → IfSome o Q
+if_some None P Q leads h = h
+if_some (Some n) P Q leads h = leads n h

@@ -50,6 +50,8 @@ fn put(slots: &mut Vec<u64>, homes: usize, slot: u64) -> Result<(), AllocError>
 }
 
 /// A table with so many homes, with the slots of this one.
+#[cold]
+#[inline(never)]
 fn regrown(alloc: Global, slots: &[u64], homes: usize) -> Result<Vec<u64>, AllocError>
     requires { homes ≤ 2 ^ 32 }
     ensures room { IfOk result (λ new. homes ≤ length new.items) }
@@ -70,6 +72,7 @@ fn regrown(alloc: Global, slots: &[u64], homes: usize) -> Result<Vec<u64>, Alloc
 
 /// Makes room for one more row: twice as many homes where three quarters of them would do for the
 /// rows. No row changes. Fails only when out of memory, and then nothing changes.
+#[inline(always)]
 pub fn grow(
     alloc: Global,
     slots: &mut Vec<u64>,

@@ -6,5 +6,8 @@ mod growth;
 mod hashes;
 mod slots;
 mod table;
+mod word_slots;
+mod words;
 
 pub use table::Interner;
+pub use words::Words;

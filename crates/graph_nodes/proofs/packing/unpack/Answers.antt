@@ -1,4 +1,4 @@
-use Rattle.std.proofs.Common.{◌≡◌, ◌<◌, ◌%◌, arith, ◌∙◌}
+use Rattle.std.proofs.Common.{◌%◌, arith, ◌∙◌}
 use Rattle.std.proofs.lemmas.List.{length-set}
 use Rattle.graph_nodes.proofs.PackingLemmas.{digit_written, first_written}
 use Rattle.graph_nodes.proofs.packing.unpack.Goals as goal

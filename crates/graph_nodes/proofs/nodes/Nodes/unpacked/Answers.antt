@@ -1,7 +1,7 @@
-use Rattle.std.proofs.Common.{◌≡◌, ◌+◌, ◌++◌, ℕ, List, length, take, drop, arith, ap, sym, ◌∙◌, refl, rules}
+use Rattle.std.proofs.Common.{◌≡◌, ◌++◌, ℕ, List, length, take, drop, ap, sym, ◌∙◌, rules}
 use Rattle.std.specs.Prelude.{slice_get, Some}
 use Rattle.std.proofs.Math.Seq.{take-append_seam}
-use Rattle.graph_nodes.proofs.KeptLemmas.{rows_copied, rows_whole}
+use Rattle.graph_nodes.proofs.KeptLemmas.{rows_copied}
 use Rattle.graph_nodes.proofs.nodes.Nodes.unpacked.Goals as goal
 
 -- what was written to a row of this length is the row

@@ -1,15 +1,11 @@
 use Rattle.std.proofs.Common.{◌≡◌, ℕ, ◌+◌, ◌<◌, ap, ◌∙◌}
-use Rattle.std.specs.Prelude.{Option, Some, None, IfSome, slice_index}
+use Rattle.std.specs.Prelude.{Some, slice_index}
 use Rattle.interner.specs.Hashes.{home_of}
 use Rattle.interner.specs.Rows.{IsRow}
 use Rattle.interner.specs.Slots.{link_in}
-use Rattle.interner.proofs.RowLemmas.{slice_get-rows_of, row_number, row_found, row_wide}
+use Rattle.interner.proofs.RowLemmas.{slice_get-rows_of, row_number, row_found, row_wide, if_some}
 use Rattle.interner.proofs.SlotLemmas.{link_some, found_in, absent_in}
 use Rattle.interner.proofs.table.Interner.find.Goals as goal
-
-if_some : (o : Option ℕ) (P Q : ℕ → Type 0) → ((n : ℕ) → P n → Q n) → IfSome o P → IfSome o Q
-if_some None P Q leads h = h
-if_some (Some n) P Q leads h = leads n h
 
 pub returns-then-row-self-clause-absent : goal.returns-then-row-self-clause-absent
 returns-then-row-self-clause-absent c _ i found =
