@@ -1,9 +1,10 @@
 -- What is so of the lists of a search.
-use Rattle.std.proofs.Common.{◌≡◌, ◌≢◌, ℕ, zero, suc, ◌+◌, ◌-◌, ◌*◌, ◌<◌, ◌≤◌, List, [], ◌∷◌, ◌++◌, length, arith, ap, sym, ◌∙◌, refl, inl, inr, subst, length-append}
+use Rattle.std.proofs.Common.{◌≡◌, ◌≢◌, ℕ, zero, suc, ◌+◌, ◌-◌, ◌*◌, ◌<◌, ◌≤◌, List, [], ◌∷◌, ◌++◌, length, take, drop, arith, ap, sym, ◌∙◌, refl, inl, inr, subst, length-append}
 use Rattle.std.specs.Prelude.{Option, Some, None, IsSome, IfSome, is_some, is_none, Bool, true, false, option_and_then, slice_get, slice_index_or}
 use Rattle.std.proofs.Math.Path.{fun_ext}
-use Rattle.std.proofs.Math.Seq.{get_or-append_seam}
-use Rattle.std.proofs.lemmas.List.{get_or_append_left}
+use Rattle.std.proofs.Math.Seq.{get_or-append_seam, take-append_seam}
+use Rattle.std.proofs.lemmas.List.{get_or_append_left, length-take-le, length-drop, take-append-drop, append_assoc}
+use borrow.Rule.Slice.PartMut.{put_mid, post_of}
 use Rattle.std.proofs.lemmas.Bool.{cases_lt}
 use Rattle.std.proofs.lemmas.Option.{none-some, same_Some, slice_get_within, option_and_then_some}
 use Rattle.interner.specs.Rows.{row_at}
@@ -375,34 +376,94 @@ leads_kept {S} meaning meaning' kept true row to led =
     let t = some_of to led.0 in
     (led.0, kept row t.0 (led.1 ∙ t.1) ∙ sym t.1)
 
+-- A row was written among rows.
+module _ (width n : ℕ) (rows row back rows' : List ℕ) (room : (n + 1) * width ≤ length rows) (wide : length row ≡ width)
+    (is : rows' ≡ take (n * width) rows ++ (row ++ back)) where
+  front_long : length (take (n * width) rows) ≡ n * width
+  front_long =
+      let e = row_begins n width in
+      length-take-le (n * width) rows (omega arith)
+
+  row_there : row_at width rows' n ≡ row
+  row_there =
+      let long = front_long in
+      let e = row_begins n width in
+      let both = length-append (take (n * width) rows) row in
+      let ends : (n + 1) * width ≤ length (take (n * width) rows ++ row) = omega arith in
+      ap (λ (xs : List ℕ). row_at width xs n) (is ∙ sym (append_assoc (take (n * width) rows) row back))
+      ∙ row_at-append width (take (n * width) rows ++ row) back n ends
+      ∙ row_at-last width (take (n * width) rows) row n long wide
+
+  row_before : (k : ℕ) → k < n → row_at width rows' k ≡ row_at width rows k
+  row_before k below =
+      let long = front_long in
+      let ends : (k + 1) * width ≤ length (take (n * width) rows) = rw long (row_ends k n width below) in
+      ap (λ (xs : List ℕ). row_at width xs k) is
+      ∙ row_at-append width (take (n * width) rows) (row ++ back) k ends
+      ∙ sym (ap (λ (xs : List ℕ). row_at width xs k) (sym (take-append-drop (n * width) rows))
+      ∙ row_at-append width (take (n * width) rows) (drop (n * width) rows) k ends)
+
+-- what was written to a row of this length is the row
+written : (len : ℕ) (to items : List ℕ) → len ≡ length to → take len (to ++ drop (length to) items) ≡ to
+written len to items same = rw same (take-append_seam to (drop (length to) items))
+
+-- row k was written among the rows of a vector
+pub row_written : (width k len : ℕ) (items seen to : List ℕ) → seen ≡ items → len ≡ length items →
+    k * width + width ≤ length items → length to ≡ width →
+    let put = put_mid (k * width) (k * width + width - k * width) seen to in
+    (take len (put ++ drop (length put) items)
+    ≡ take (k * width) items ++ (to ++ post_of (k * width) (k * width + width - k * width) items))
+    × (length (take len (put ++ drop (length put) items)) ≡ length items)
+row_written width k len items seen to same long room wide =
+    let a = k * width in
+    let w = a + width - a in
+    let rest = drop w (drop a items) in
+    let front = length-take-le a items (omega arith) in
+    let after = length-drop a items in
+    let behind = length-drop w (drop a items) in
+    let both = length-append to rest in
+    let whole = length-append (take a items) (to ++ rest) in
+    let all : length (take a items ++ (to ++ rest)) ≡ length items = omega arith in
+    let back = written len (take a items ++ (to ++ rest)) items (long ∙ sym all) in
+    rw same (back, ap (λ (xs : List ℕ). length xs) back ∙ all)
+
+-- there is room for the row of a label
+pub row_fits : (width first label count room : ℕ) → label < count → room ≡ count * width →
+    (label - first) * width + width ≤ room
+row_fits width first label count room below is =
+    let within : label - first < count = omega arith in
+    let ends = row_ends (label - first) count width within in
+    let begins = row_begins (label - first) width in
+    omega arith
+
 -- one step more was made
 pub steps_more : {S : Type 0} (next : S → ℕ → Option S) (meaning meaning' : List ℕ → Option S) (width : ℕ) (s : S)
-    (first : ℕ) (leads : List Bool) (rows : List ℕ) (b : Bool) (row : List ℕ) →
+    (first : ℕ) (leads : List Bool) (rows row back rows' : List ℕ) (b : Bool) →
     ((n : List ℕ) (u : S) → meaning n ≡ Some u → meaning' n ≡ Some u) →
-    length rows ≡ length leads * width → length row ≡ width →
+    (length leads + 1) * width ≤ length rows → length row ≡ width →
+    rows' ≡ take (length leads * width) rows ++ (row ++ back) →
     AreSteps next meaning width s first leads rows → LeadsTo meaning' b row (next s (first + length leads)) →
-    AreSteps next meaning' width s first (leads ++ b ∷ []) (rows ++ row)
-steps_more {S} next meaning meaning' width s first leads rows b row kept whole wide steps led k below =
+    AreSteps next meaning' width s first (leads ++ b ∷ []) rows'
+steps_more {S} next meaning meaning' width s first leads rows row back rows' b kept room wide is steps led k below =
     let count : length (leads ++ b ∷ []) ≡ length leads + 1 = length-append leads (b ∷ []) in
     elim (cases_lt k (length leads)) [
       | inl early ↦
           let flag : slice_index_or (leads ++ b ∷ []) k false ≡ slice_index_or leads k false =
           get_or_append_left leads (b ∷ []) false k early in
-          let same : row_at width (rows ++ row) k ≡ row_at width rows k =
-          row_at-append width rows row k (rw whole (row_ends k (length leads) width early)) in
+          let same = row_before width (length leads) rows row back rows' room wide is k early in
           let was = leads_kept meaning meaning' kept (slice_index_or leads k false) (row_at width rows k)
           (next s (first + k)) (steps k early) in
-          subst (λ (f : Bool). LeadsTo meaning' f (row_at width (rows ++ row) k) (next s (first + k))) (sym flag)
+          subst (λ (f : Bool). LeadsTo meaning' f (row_at width rows' k) (next s (first + k))) (sym flag)
           (subst (λ (r : List ℕ). LeadsTo meaning' (slice_index_or leads k false) r (next s (first + k))) (sym same) was)
       | inr late ↦
           let e : length leads ≡ k = omega arith in
           let flag : slice_index_or (leads ++ b ∷ []) k false ≡ b =
           ap (λ (j : ℕ). slice_index_or (leads ++ b ∷ []) j false) (sym e) ∙ get_or-append_seam leads b [] false in
-          let same : row_at width (rows ++ row) k ≡ row =
-          ap (row_at width (rows ++ row)) (sym e) ∙ row_at-last width rows row (length leads) whole wide in
+          let same : row_at width rows' k ≡ row =
+          ap (row_at width rows') (sym e) ∙ row_there width (length leads) rows row back rows' room wide is in
           let here : LeadsTo meaning' b row (next s (first + k)) =
           subst (λ (j : ℕ). LeadsTo meaning' b row (next s (first + j))) e led in
-          subst (λ (f : Bool). LeadsTo meaning' f (row_at width (rows ++ row) k) (next s (first + k))) (sym flag)
+          subst (λ (f : Bool). LeadsTo meaning' f (row_at width rows' k) (next s (first + k))) (sym flag)
           (subst (λ (r : List ℕ). LeadsTo meaning' b r (next s (first + k))) (sym same) here)
     ]
 
@@ -549,10 +610,3 @@ step_taken {S} next meaning meaning' limit width width' nodes edges edge first c
     let keeps = step_keeps next meaning' limit nodes edges edge h there node (row_at width' rows k) here (one order)
     nodes' edges' (slice_index_or leads k false) fits follows in
     (on, keeps.0, keeps.1, keeps.2)
-
--- each step made has a row
-pub rows_more : (width : ℕ) (leads : List Bool) (b : Bool) (rows row : List ℕ) → length rows ≡ length leads * width →
-    length row ≡ width → length (rows ++ row) ≡ length (leads ++ b ∷ []) * width
-rows_more width leads b rows row whole wide =
-    let count : length (leads ++ b ∷ []) ≡ length leads + 1 = length-append leads (b ∷ []) in
-    length-append rows row ∙ rw (count, row_begins (length leads) width, whole, wide) refl

@@ -31,29 +31,28 @@ use std::alloc::{AllocError, Global};
 pub struct Ahead {
     /// The node.
     pub node: Vec<u32>,
-    /// A node to write to.
-    pub row: Vec<u32>,
     /// For each label, whether there is such an edge.
     pub leads: Vec<bool>,
-    /// For each label a row, which is the node to which the edge leads, if there is one.
+    /// For each label a row, which is the node to which the edge leads, if there is one. There is room
+    /// for the rows of all labels.
     pub rows: Vec<u32>,
 }
 
 impl Ahead {
-    /// No steps yet, of nodes with so many numbers.
-    pub fn new(alloc: Global, width: usize) -> Result<Ahead, AllocError>
+    /// No steps yet, of nodes with so many numbers, along edges with so many labels.
+    pub fn new(alloc: Global, width: usize, labels: u32) -> Result<Ahead, AllocError>
         ensures node { IfOk result (λ ahead. length ahead.node.items ≡ width) }
-        ensures row { IfOk result (λ ahead. length ahead.row.items ≡ width) }
+        ensures room { IfOk result (λ ahead. length ahead.rows.items ≡ labels * width) }
     {
         let mut node = Vec::new(alloc);
         node.resize(width, 0)?;
-        let mut row = Vec::new(alloc);
-        row.resize(width, 0)?;
+        let room = (labels as usize).checked_mul(width).ok_or(AllocError)?;
+        let mut rows = Vec::new(alloc);
+        rows.resize(room, 0)?;
         Ok(Ahead {
             node,
-            row,
             leads: Vec::new(alloc),
-            rows: Vec::new(alloc),
+            rows,
         })
     }
 
@@ -63,7 +62,7 @@ impl Ahead {
         requires room { length self.old.node.items ≡ tree.now.nodes.width }
         ensures node { slice_get tree.now.nodes.rows number ≡ Some self.new.node.items }
         ensures room { length self.new.node.items ≡ length self.old.node.items }
-        ensures same_row { self.new.row.items ≡ self.old.row.items }
+        ensures same_rows { self.new.rows.items ≡ self.old.rows.items }
     {
         tree.read(number, self.node.as_mut_slice());
     }
@@ -72,12 +71,13 @@ impl Ahead {
     /// out of memory, or where the graph's step does.
     pub fn step<G: Graph>(&mut self, graph: &mut G, first: u32) -> Result<(), AllocError>
         requires meant { IsSome (G.meaning graph.old self.old.node.items) }
-        requires room { length self.old.row.items ≡ G.width graph.old }
+        requires wide { length self.old.node.items ≡ G.width graph.old }
+        requires room { length self.old.rows.items ≡ G.label_count graph.old * G.width graph.old }
         ensures same_graph { G.next graph.new ≡ G.next graph.old }
         ensures same_labels { G.label_count graph.new ≡ G.label_count graph.old }
         ensures same_width { G.width graph.new ≡ G.width graph.old }
         ensures same_node { self.new.node.items ≡ self.old.node.items }
-        ensures same_room { length self.new.row.items ≡ length self.old.row.items }
+        ensures same_room { length self.new.rows.items ≡ length self.old.rows.items }
         ensures kept { (n : List ℕ) (s : G.State) → G.meaning graph.old n ≡ Some s →
             G.meaning graph.new n ≡ Some s }
         ensures one_node { IfOk result (λ _. first < G.label_count graph.old →
@@ -86,19 +86,20 @@ impl Ahead {
         ensures count { IfOk result (λ _.
             first ≤ G.label_count graph.old →
             first + length self.new.leads.items ≡ G.label_count graph.old) }
-        ensures whole { IfOk result (λ _. length self.new.rows.items
-            ≡ length self.new.leads.items * G.width graph.old) }
+        ensures whole { IfOk result (λ _. length self.new.leads.items * G.width graph.old
+            ≤ length self.new.rows.items) }
         ensures steps { IfOk result (λ _. (s : G.State) →
             G.meaning graph.old self.old.node.items ≡ Some s →
             AreSteps (G.next graph.new) (G.meaning graph.new) (G.width graph.old) s first
             self.new.leads.items self.new.rows.items) }
     {
         self.leads.clear();
-        self.rows.clear();
+        let width = self.node.len();
         for label in first..graph.label_count() {
-            let leads = graph.step(self.node.as_slice(), label, self.row.as_mut_slice())?;
+            let start = (label - first) as usize * width;
+            let to = &mut self.rows.as_mut_slice()[start..start + width];
+            let leads = graph.step(self.node.as_slice(), label, to)?;
             self.leads.push(leads)?;
-            self.rows.extend_from_slice(self.row.as_slice())?;
         }
         Ok(())
     }
@@ -113,8 +114,8 @@ impl Ahead {
         limit: u32,
     ) -> Result<bool, AllocError>
         requires there { place < length self.now.leads.items }
-        requires whole { length self.now.rows.items
-            ≡ length self.now.leads.items * tree.old.nodes.width }
+        requires whole { length self.now.leads.items * tree.old.nodes.width
+            ≤ length self.now.rows.items }
         requires within { length tree.old.nodes.rows ≤ limit }
         ensures followed { IfOk result (Follows (slice_index_or self.now.leads.items place false)
             (row_at tree.old.nodes.width self.now.rows.items place) edge limit

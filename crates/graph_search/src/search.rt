@@ -4,6 +4,7 @@ ghost use Rattle.std.specs.Prelude.{
   ◌≡◌,
   ℕ,
   ◌+◌,
+  ◌*◌,
   ◌^◌,
   ◌<◌,
   ◌≤◌,
@@ -118,7 +119,7 @@ fn search_on<G: Graph, P: Progress>(
         IsExplored (G.next graph.new) s limit (state_at (G.meaning graph.new) found.nodes)
         (edge_at found.edges) (length found.nodes) found.complete) }
 {
-    let mut ahead = Ahead::new(alloc, graph.width())?;
+    let mut ahead = Ahead::new(alloc, graph.width(), graph.label_count())?;
     let cut = expand_all(graph, &mut tree, &mut ahead, limit, place, progress)?;
     Ok(Reached::new(tree, cut))
 }
@@ -137,7 +138,7 @@ fn expand_all<G: Graph, P: Progress>(
     progress: &mut P,
 ) -> Result<Option<Edge>, AllocError>
     requires node { length ahead.old.node.items ≡ G.width graph.old }
-    requires room { length ahead.old.row.items ≡ G.width graph.old }
+    requires room { length ahead.old.rows.items ≡ G.label_count graph.old * G.width graph.old }
     requires wide { tree.old.nodes.width ≡ G.width graph.old }
     requires before { IsSearching (G.next graph.old) (G.meaning graph.old) limit
         tree.old.nodes.rows tree.old.edges.items place.from place.label }
@@ -177,7 +178,7 @@ fn expand<G: Graph>(
     first: Edge,
 ) -> Result<Option<Edge>, AllocError>
     requires node { length ahead.old.node.items ≡ G.width graph.old }
-    requires room { length ahead.old.row.items ≡ G.width graph.old }
+    requires room { length ahead.old.rows.items ≡ G.label_count graph.old * G.width graph.old }
     requires wide { tree.old.nodes.width ≡ G.width graph.old }
     requires there { first.from < length tree.old.nodes.rows }
     requires before { IsSearching (G.next graph.old) (G.meaning graph.old) limit
@@ -186,7 +187,7 @@ fn expand<G: Graph>(
     ensures same_labels { G.label_count graph.new ≡ G.label_count graph.old }
     ensures same_width { G.width graph.new ≡ G.width graph.old }
     ensures same_node { length ahead.new.node.items ≡ length ahead.old.node.items }
-    ensures same_room { length ahead.new.row.items ≡ length ahead.old.row.items }
+    ensures same_room { length ahead.new.rows.items ≡ length ahead.old.rows.items }
     ensures same_rows { tree.new.nodes.width ≡ tree.old.nodes.width }
     ensures first { IfOk result (λ _. state_at (G.meaning graph.new) tree.new.nodes.rows 0
         ≡ state_at (G.meaning graph.old) tree.old.nodes.rows 0) }

@@ -1,4 +1,4 @@
-use Rattle.std.proofs.Common.{◌≡◌, ◌≤◌, ◌-◌, length}
+use Rattle.std.proofs.Common.{◌≡◌, ◌≤◌, ◌-◌, ◌*◌, length}
 use Rattle.graph_search.specs.Trees.{state_at}
 use Rattle.graph_search.specs.Searches.{IsSearching}
 use Rattle.graph_search.proofs.search.expand_all.Given as goal
@@ -10,7 +10,7 @@ invariant-loop-node g l = record {
   same_width : g.G.Graph.width l.graph ≡ g.G.Graph.width l.fn.graph;
   same_rows : l.tree.nodes.width ≡ l.fn.tree.nodes.width;
   node : length l.ahead.node.items ≡ g.G.Graph.width l.graph;
-  room : length l.ahead.row.items ≡ g.G.Graph.width l.graph;
+  room : length l.ahead.rows.items ≡ g.G.Graph.label_count l.graph * g.G.Graph.width l.graph;
   wide : l.tree.nodes.width ≡ g.G.Graph.width l.graph;
   there : l.node ≤ length l.tree.nodes.rows;
   first : state_at (g.G.Graph.meaning l.graph) l.tree.nodes.rows 0
