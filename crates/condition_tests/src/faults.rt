@@ -2,7 +2,8 @@
 
 use cheri_model::Image;
 use condition_texts::{TextFault, read_condition, read_items};
-use grammar::labels::{Labels, labels_of};
+use grammar::labels::labels_of;
+use listing_maps::Names;
 use listings::read_listing;
 use std::alloc::Global;
 use std::process::Abort;
@@ -233,12 +234,12 @@ fn image(alloc: Global) -> Result<Image, Fail> {
 fn refuses_condition(
     rt: &impl Abort,
     alloc: Global,
-    labels: &Labels<'_>,
+    names: &Names<'_>,
     image: &Image,
     text: &str,
     byte: usize,
 ) {
-    match read_condition(alloc, labels, image, text) {
+    match read_condition(alloc, names, image, text) {
         Ok(_) => panic!(rt; "{text:?} is taken for a condition"),
         Err(fault) => assert!(rt; fault == TextFault::Condition(byte), "{text:?}"),
     }
@@ -251,18 +252,18 @@ fn refuses_items(rt: &impl Abort, alloc: Global, image: &Image, text: &str, byte
     }
 }
 
-fn takes_condition(rt: &impl Abort, alloc: Global, labels: &Labels<'_>, image: &Image, text: &str) {
-    if read_condition(alloc, labels, image, text).is_err() {
+fn takes_condition(rt: &impl Abort, alloc: Global, names: &Names<'_>, image: &Image, text: &str) {
+    if read_condition(alloc, names, image, text).is_err() {
         panic!(rt; "{text:?} is refused");
     }
 }
 
-fn conditions_are_judged(rt: &impl Abort, alloc: Global, labels: &Labels<'_>, image: &Image) {
+fn conditions_are_judged(rt: &impl Abort, alloc: Global, names: &Names<'_>, image: &Image) {
     for text in GOOD {
-        takes_condition(rt, alloc, labels, image, text);
+        takes_condition(rt, alloc, names, image, text);
     }
     for (text, byte) in BAD {
-        refuses_condition(rt, alloc, labels, image, text, *byte);
+        refuses_condition(rt, alloc, names, image, text, *byte);
     }
 }
 
@@ -270,7 +271,11 @@ fn conditions_are_judged(rt: &impl Abort, alloc: Global, labels: &Labels<'_>, im
 fn conditions_are_read_or_refused_at_their_first_faulty_word(rt: HostRuntime) -> Result<(), Fail> {
     let image = image(rt.alloc())?;
     let labels = labels_of(rt.alloc(), LISTING)?;
-    conditions_are_judged(&rt, rt.alloc(), &labels, &image);
+    let names = Names {
+        labels: &labels,
+        sources: None,
+    };
+    conditions_are_judged(&rt, rt.alloc(), &names, &image);
     Ok(())
 }
 

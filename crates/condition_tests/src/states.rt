@@ -6,8 +6,9 @@ use cap_ops::Cap;
 use cheri_model::{Image, Perms, RAM_BASE, Reg, Status, Trap};
 use condition_texts::read_condition;
 use conditions::StateView;
-use grammar::labels::{Labels, labels_of};
+use grammar::labels::labels_of;
 use hart::Hart;
+use listing_maps::Names;
 use listings::read_listing;
 use std::alloc::Global;
 use std::process::Abort;
@@ -156,25 +157,25 @@ fn filled_ram(alloc: Global) -> Result<Ram, Fail> {
 /// Whether a condition holds in a state, or nothing of a text that is none.
 fn answer(
     alloc: Global,
-    labels: &Labels<'_>,
+    names: &Names<'_>,
     image: &Image,
     shown: &Shown<'_>,
     text: &str,
 ) -> Option<bool> {
-    let condition = read_condition(alloc, labels, image, text).ok()?;
+    let condition = read_condition(alloc, names, image, text).ok()?;
     Some(condition.holds(shown))
 }
 
 fn conditions_are_asked(
     rt: &impl Abort,
     alloc: Global,
-    labels: &Labels<'_>,
+    names: &Names<'_>,
     image: &Image,
     shown: &Shown<'_>,
 ) {
     for (text, holds) in ANSWERS {
         assert!(rt;
-            answer(alloc, labels, image, shown, text) == Some(*holds),
+            answer(alloc, names, image, shown, text) == Some(*holds),
             "{text:?}"
         );
     }
@@ -194,6 +195,10 @@ fn conditions_hold_as_the_model_says(rt: HostRuntime) -> Result<(), Fail> {
         ram: &ram,
     };
     let labels = labels_of(rt.alloc(), LISTING)?;
-    conditions_are_asked(&rt, rt.alloc(), &labels, &image, &shown);
+    let names = Names {
+        labels: &labels,
+        sources: None,
+    };
+    conditions_are_asked(&rt, rt.alloc(), &names, &image, &shown);
     Ok(())
 }

@@ -9,7 +9,6 @@ use Rattle.cheri_model.specs.instructions.Tables.{found_at}
 use Rattle.cheri_model.specs.runs.Image.{ImageParts}
 use Rattle.grammar.specs.Faults.{◌>>=◌}
 use Rattle.grammar.specs.Labels.{LabelParts, is_decimal_digit}
-use Rattle.grammar.specs.LabelMap.{label_parts}
 use Rattle.conditions.specs.declared.parts.Atom.{Atom}
 use Rattle.conditions.specs.declared.parts.Atom.TheVariants as atom
 use Rattle.conditions.specs.declared.parts.Comparison.{Comparison}
@@ -28,9 +27,10 @@ use Rattle.condition_texts.specs.Places.{hart_numbered, number_in, source_of}
 use Rattle.condition_texts.specs.Atoms.{comparison_of, status_of, address_in_word, permissions_in}
 use Rattle.condition_texts.specs.WordPairs.{word_pairs}
 use Rattle.condition_texts.specs.Terms.{target_in, range_in, term_of}
+use Rattle.listing_maps.specs.Names.{names_of}
 
--- what a condition is read from: the labels of its listing, the image, and its words, each with the
--- byte where it begins
+-- what a condition is read from: the names that it may have, as labels of its listing, the image, and
+-- its words, each with the byte where it begins
 pub record Context : Type 0 where
   pub labels : LabelParts
   pub image : ImageParts
@@ -39,7 +39,7 @@ pub record Context : Type 0 where
 abbrev pub context_of : Reader → Context
 context_of r =
     record {
-      labels = label_parts r.labels.now;
+      labels = names_of r.names.now;
       image = r.image.now;
       words = word_pairs r.words.now;
     }

@@ -2,16 +2,16 @@
 #![tactic(auto, unfolding(crate::proofs::Unfold::condition))]
 
 ghost use Rattle.std.specs.Prelude.{◌≡◌, slice_get};
-ghost use Rattle.grammar.specs.LabelMap.{label_parts};
 ghost use Rattle.condition_texts.specs.Conditions.{GivesCondition, condition_of, start_of};
 ghost use Rattle.condition_texts.specs.WordPairs.{word_pairs};
+ghost use Rattle.listing_maps.specs.Names.{names_of};
 
 use crate::fault::TextFault;
 use crate::reading::Reader;
 use crate::words::{Word, WordFault, condition_words};
 use cheri_model::Image;
 use conditions::Condition;
-use grammar::labels::Labels;
+use listing_maps::Names;
 use std::alloc::Global;
 
 /// The most bytes of a condition.
@@ -30,17 +30,17 @@ fn start_of(text: &[u8], words: &[Word<'_>], number: usize) -> usize
     }
 }
 
-/// The condition that a text writes, for an image and the labels of its listing: its harts, places
-/// and labels are theirs. A fault is at the first word that cannot stand where it is; running out
+/// The condition that a text writes, for an image and what beside its listing may be named: its
+/// harts, places and names are theirs. A fault is at the first word that cannot stand where it is; running out
 /// of memory says nothing of the text.
 pub fn read_condition<'a>(
     alloc: Global,
-    labels: &'a Labels<'a>,
+    names: &'a Names<'a>,
     image: &'a Image,
     text: &'a str,
 ) -> Result<Condition, TextFault>
     ensures { GivesCondition result
-        (condition_of (label_parts labels.now) image.now text.now) }
+        (condition_of (names_of names.now) image.now text.now) }
 {
     let text = text.as_bytes();
     if text.len() > MAX_BYTES {
@@ -48,7 +48,7 @@ pub fn read_condition<'a>(
     }
     let words = condition_words(alloc, text)?;
     let reader = Reader {
-        labels,
+        names,
         image,
         words: words.as_slice(),
     };

@@ -41,12 +41,12 @@ use crate::terms::{range_in, target_in, term_of};
 use crate::words::Word;
 use cheri_model::{Image, Perms};
 use conditions::{Atom, Comparison, Source, StatusTest, Subject, Term};
-use grammar::labels::Labels;
+use listing_maps::Names;
 
-/// What a condition is read from: the labels of its listing, the image, and its words.
+/// What a condition is read from: what it may name beside its listing, the image, and its words.
 #[derive(Clone, Copy)]
 pub(crate) struct Reader<'a> {
-    pub(crate) labels: &'a Labels<'a>,
+    pub(crate) names: &'a Names<'a>,
     pub(crate) image: &'a Image,
     pub(crate) words: &'a [Word<'a>],
 }
@@ -151,7 +151,7 @@ impl Reader<'_> {
         ensures room { IfOk result (λ _. at < length self.now.words.now) }
     {
         match self.word(at) {
-            Some(word) => target_in(self.labels, word).ok_or(at),
+            Some(word) => target_in(self.names, word).ok_or(at),
             None => Err(at),
         }
     }
@@ -163,7 +163,7 @@ impl Reader<'_> {
         ensures room { IfOk result (λ _. at < length self.now.words.now) }
     {
         match self.word(at) {
-            Some(word) => range_in(self.labels, word).ok_or(at),
+            Some(word) => range_in(self.names, word).ok_or(at),
             None => Err(at),
         }
     }
@@ -177,7 +177,7 @@ impl Reader<'_> {
         let Some(word) = self.word(at) else {
             return Err(at);
         };
-        match term_of(self.labels, self.image, each, word) {
+        match term_of(self.names, self.image, each, word) {
             Some(term) => Ok(term),
             None => Err(at),
         }

@@ -2,8 +2,8 @@
 use Rattle.std.specs.Prelude.{ℕ, List}
 use Rattle.cheri_model.specs.declared.operation.Op.{Op}
 use Rattle.cheri_model.specs.runs.Image.{ImageParts}
-use Rattle.explained_orders.specs.ExplainedOrders.{explanation_of, order_head}
+use Rattle.explained_orders.specs.ExplainedOrders.{Sources, explanation_of, order_head}
 
-unfoldable pub explained : List ℕ → ImageParts → List Op → List ℕ
+unfoldable pub explained : List ℕ → Sources → ImageParts → List Op → List ℕ
 unfolding explanation_of order_head
-explained listing image order = explanation_of listing image order
+explained listing sources image order = explanation_of listing sources image order

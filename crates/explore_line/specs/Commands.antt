@@ -24,23 +24,23 @@ outcomes_command =
     with_search_options (with_rule (with_rule (new_app (codes "outcomes"))
     (required_word (codes "listing"))) (single_option (codes "show")))
 
--- `find LISTING CONDITION [--explain]`
+-- `find LISTING CONDITION [--explain] [--map MAP]`
 abbrev pub find_command : App
 find_command =
-    with_search_options (with_rule (with_rule (with_rule (new_app (codes "find"))
+    with_search_options (with_rule (with_rule (with_rule (with_rule (new_app (codes "find"))
     (required_word (codes "listing"))) (required_word (codes "condition")))
-    (flag (codes "explain")))
+    (flag (codes "explain"))) (single_option (codes "map")))
 
 -- `authority LISTING`
 abbrev pub authority_command : App
 authority_command =
     with_search_options (with_rule (new_app (codes "authority")) (required_word (codes "listing")))
 
--- `check LISTING [--explain]`, whose sweeps are lines of the listing
+-- `check LISTING [--explain] [--map MAP]`, whose sweeps are lines of the listing
 abbrev pub check_command : App
 check_command =
-    with_options (with_rule (with_rule (new_app (codes "check")) (required_word (codes "listing")))
-    (flag (codes "explain")))
+    with_options (with_rule (with_rule (with_rule (new_app (codes "check"))
+    (required_word (codes "listing"))) (flag (codes "explain"))) (single_option (codes "map")))
 
 -- the program, which wants one of these
 abbrev pub explore_alone : App

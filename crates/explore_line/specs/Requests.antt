@@ -1,6 +1,7 @@
 -- What the arguments of a command line of `cheri_explore` ask for.
 use Rattle.std.specs.Prelude.{ℕ, Bool, false, List, Option}
 use Rattle.std.specs.Prelude.{Some, None, option_and_then, option_map, codes, if◌then◌else◌}
+use Rattle.std.specs.Borrow.{Bor}
 use Rattle.std.specs.Str.{bytes_eq}
 use Rattle.clap.specs.Words.{Row, Text, all_of, fault_of, first_of, subcommand_of}
 use Rattle.command_line.specs.Found.{◌>>=◌, form_of, is_given, unless_faulty}
@@ -24,6 +25,7 @@ pub data AskedQuestion : Type 0 where
 
 pub record ExploreAsked : Type 0 where
   pub listing : Text
+  pub map : Option Text
   pub sweeps : List Sweep
   pub states : ℕ
   pub every_step : Bool
@@ -37,9 +39,13 @@ question_asked_by (questions.Find condition) = Find condition.now
 question_asked_by questions.Authority = Authority
 question_asked_by questions.Check = Check
 
+abbrev pub name_of : Bor Text → Text
+name_of name = name.now
+
 abbrev pub explore_asked_by : ExploreRequest → ExploreAsked
 explore_asked_by request = record {
   listing = request.listing.now;
+  map = option_map name_of request.map;
   sweeps = request.sweeps.items;
   states = request.states;
   every_step = request.every_step;
@@ -73,6 +79,7 @@ explore_asked_of name rows = do
   sweeps ← sweeps_in (all_of (codes "sweep") rows)
   Some (record {
     listing = listing;
+    map = first_of (codes "map") rows;
     sweeps = sweeps;
     states = states;
     every_step = is_given (first_of (codes "steps") rows);

@@ -58,7 +58,7 @@ fn outcomes_command<'a>(alloc: Global) -> Result<Command<'a>, AllocError>
     with_search_options(alloc, command)
 }
 
-/// `find LISTING CONDITION [--explain]`.
+/// `find LISTING CONDITION [--explain] [--map MAP]`.
 fn find_command<'a>(alloc: Global) -> Result<Command<'a>, AllocError>
     ensures app { IfOk result (λ command. app_of command ≡ find_command) }
     ensures local { IfOk result (λ command. has_globals command ≡ false) }
@@ -66,7 +66,8 @@ fn find_command<'a>(alloc: Global) -> Result<Command<'a>, AllocError>
     let command = Command::new(alloc, "find")
         .arg(required(alloc, "listing"))?
         .arg(required(alloc, "condition"))?
-        .arg(flag(alloc, "explain"))?;
+        .arg(flag(alloc, "explain"))?
+        .arg(single_option(alloc, "map"))?;
     with_search_options(alloc, command)
 }
 
@@ -79,14 +80,15 @@ fn authority_command<'a>(alloc: Global) -> Result<Command<'a>, AllocError>
     with_search_options(alloc, command)
 }
 
-/// `check LISTING [--explain]`.
+/// `check LISTING [--explain] [--map MAP]`.
 fn check_command<'a>(alloc: Global) -> Result<Command<'a>, AllocError>
     ensures app { IfOk result (λ command. app_of command ≡ check_command) }
     ensures local { IfOk result (λ command. has_globals command ≡ false) }
 {
     let command = Command::new(alloc, "check")
         .arg(required(alloc, "listing"))?
-        .arg(flag(alloc, "explain"))?;
+        .arg(flag(alloc, "explain"))?
+        .arg(single_option(alloc, "map"))?;
     with_options(alloc, command)
 }
 

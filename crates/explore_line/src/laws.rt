@@ -21,6 +21,7 @@ pub fn known_explore_lines()
         ∷ codes "first.lst" ∷ [])
         ≡ Some (record {
           listing = codes "first.lst";
+          map = None;
           sweeps = [];
           states = 1000000;
           every_step = false;
@@ -32,6 +33,7 @@ pub fn known_explore_lines()
         ∷ codes "--show" ∷ codes "0.c7,mem8[0x10]" ∷ [])
         ≡ Some (record {
           listing = codes "first.lst";
+          map = None;
           sweeps = [];
           states = 1000000;
           every_step = false;
@@ -43,6 +45,7 @@ pub fn known_explore_lines()
         ∷ codes "--show=" ∷ codes "first.lst" ∷ [])
         ≡ Some (record {
           listing = codes "first.lst";
+          map = None;
           sweeps = [];
           states = 1000000;
           every_step = false;
@@ -54,6 +57,7 @@ pub fn known_explore_lines()
         ∷ codes "0 is halted" ∷ codes "--json" ∷ [])
         ≡ Some (record {
           listing = codes "first.lst";
+          map = None;
           sweeps = [];
           states = 1000000;
           every_step = false;
@@ -65,6 +69,7 @@ pub fn known_explore_lines()
         ∷ codes "--states=010" ∷ codes "first.lst" ∷ [])
         ≡ Some (record {
           listing = codes "first.lst";
+          map = None;
           sweeps = [];
           states = 10;
           every_step = false;
@@ -76,6 +81,7 @@ pub fn known_explore_lines()
         ∷ codes "--steps" ∷ codes "0 is halted" ∷ [])
         ≡ Some (record {
           listing = codes "first.lst";
+          map = None;
           sweeps = [];
           states = 1000000;
           every_step = true;
@@ -87,6 +93,7 @@ pub fn known_explore_lines()
         ∷ codes "--sweep" ∷ codes "16,0x20" ∷ codes "--sweep=0,0x10000000000000000" ∷ [])
         ≡ Some (record {
           listing = codes "first.lst";
+          map = None;
           sweeps = record { lo = 16; hi = 32 }
               ∷ record { lo = 0; hi = 18446744073709551616 } ∷ [];
           states = 1000000;
@@ -99,6 +106,7 @@ pub fn known_explore_lines()
         ∷ codes "first.lst" ∷ codes "--sweep" ∷ codes "7,7" ∷ [])
         ≡ Some (record {
           listing = codes "first.lst";
+          map = None;
           sweeps = record { lo = 7; hi = 7 } ∷ [];
           states = 1000000;
           every_step = false;
@@ -110,6 +118,7 @@ pub fn known_explore_lines()
         ∷ codes "first.lst" ∷ codes "--states" ∷ codes "100000000" ∷ [])
         ≡ Some (record {
           listing = codes "first.lst";
+          map = None;
           sweeps = [];
           states = 100000000;
           every_step = false;
@@ -169,6 +178,7 @@ pub fn known_explore_lines()
         ∷ codes "--steps" ∷ codes "--json" ∷ codes "--states=7" ∷ [])
         ≡ Some (record {
           listing = codes "first.lst";
+          map = None;
           sweeps = [];
           states = 7;
           every_step = true;
@@ -180,6 +190,7 @@ pub fn known_explore_lines()
         ∷ codes "first.lst" ∷ codes "--explain" ∷ [])
         ≡ Some (record {
           listing = codes "first.lst";
+          map = None;
           sweeps = [];
           states = 1000000;
           every_step = false;
@@ -191,6 +202,7 @@ pub fn known_explore_lines()
         ∷ codes "--explain" ∷ codes "first.lst" ∷ codes "0 is halted" ∷ [])
         ≡ Some (record {
           listing = codes "first.lst";
+          map = None;
           sweeps = [];
           states = 1000000;
           every_step = false;
@@ -198,6 +210,42 @@ pub fn known_explore_lines()
           explained = true;
           question = Find (codes "0 is halted");
         }) }
+    ensures find_mapped { explore_asked (codes "cheri_explore" ∷ codes "find"
+        ∷ codes "first.lst" ∷ codes "--map" ∷ codes "first.map" ∷ codes "0 at main" ∷ [])
+        ≡ Some (record {
+          listing = codes "first.lst";
+          map = Some (codes "first.map");
+          sweeps = [];
+          states = 1000000;
+          every_step = false;
+          form = Format.Text;
+          explained = false;
+          question = Find (codes "0 at main");
+        }) }
+    ensures check_mapped { explore_asked (codes "cheri_explore" ∷ codes "check"
+        ∷ codes "--map=first.map" ∷ codes "first.lst" ∷ codes "--json" ∷ [])
+        ≡ Some (record {
+          listing = codes "first.lst";
+          map = Some (codes "first.map");
+          sweeps = [];
+          states = 1000000;
+          every_step = false;
+          form = Format.Json;
+          explained = false;
+          question = Check;
+        }) }
+    ensures mapped_twice { explore_asked (codes "cheri_explore" ∷ codes "check"
+        ∷ codes "first.lst" ∷ codes "--map=first.map" ∷ codes "--map=first.map" ∷ [])
+        ≡ None }
+    ensures map_without_a_name { explore_asked (codes "cheri_explore" ∷ codes "check"
+        ∷ codes "first.lst" ∷ codes "--map" ∷ [])
+        ≡ None }
+    ensures mapped_outcomes { explore_asked (codes "cheri_explore" ∷ codes "outcomes"
+        ∷ codes "first.lst" ∷ codes "--map" ∷ codes "first.map" ∷ [])
+        ≡ None }
+    ensures mapped_authority { explore_asked (codes "cheri_explore" ∷ codes "authority"
+        ∷ codes "first.lst" ∷ codes "--map" ∷ codes "first.map" ∷ [])
+        ≡ None }
     ensures explained_twice { explore_asked (codes "cheri_explore" ∷ codes "check"
         ∷ codes "first.lst" ∷ codes "--explain" ∷ codes "--explain" ∷ [])
         ≡ None }

@@ -45,10 +45,12 @@ pub enum Question<'a> {
 /// What a command line asks for: to search the states that the image of the listing in the file of
 /// this name reaches, with these sweeps, up to so many states, and to answer in this form. Where
 /// `every_step` is true, states are told apart after each step, also where the question doesn't
-/// see it. Where `explained` is true, the answer's orders are explained, and the form is text.
+/// see it. Where `explained` is true, the answer's orders are explained, and the form is text. Of
+/// `find` and `check` `map` may name the file of the map of the listing's program.
 #[derive(Debug, Drop)]
 pub struct ExploreRequest<'a> {
     pub listing: &'a str,
+    pub map: Option<&'a str>,
     pub sweeps: Vec<Sweep>,
     pub states: u32,
     pub every_step: bool,
@@ -125,11 +127,13 @@ fn explore_of<'a>(
 {
     let question = question_of(name, found).ok_or(CommandFault::Usage)?;
     let listing = value_found(found, "listing").ok_or(CommandFault::Usage)?;
+    let map = value_found(found, "map");
     let states = states_found(found).ok_or(CommandFault::Usage)?;
     let explained = explained_found(found).ok_or(CommandFault::Usage)?;
     let sweeps = sweeps_found(alloc, found)?;
     Ok(ExploreRequest {
         listing,
+        map,
         sweeps,
         states,
         every_step: flag_found(found, "steps"),

@@ -11,6 +11,7 @@ use Rattle.shown_states.specs.declared.form.Ending.{Ending}
 use Rattle.explore_program.specs.declared.faults.OwnFault.{OwnFault}
 use Rattle.explore_program.specs.declared.faults.OwnFault.TheVariants.{BadCondition, BadPlace}
 use Rattle.explore_program.specs.declared.faults.OwnFault.TheVariants.{BadProperty, Violated}
+use Rattle.explore_program.specs.declared.faults.OwnFault.TheVariants.{CannotReadMap, Map}
 use Rattle.explore_properties.specs.declared.fault.PropertyFault.{PropertyFault}
 use Rattle.explore_properties.specs.declared.fault.PropertyFault.TheVariants as properties
 use Rattle.explore_properties.specs.declared.fault.PropertyPlace.{PropertyPlace}
@@ -26,13 +27,17 @@ own_text (BadCondition byte) = codes "bad condition at byte " ++ decimal byte
 own_text (BadPlace byte) = codes "bad place at byte " ++ decimal byte
 own_text (BadProperty place) =
     codes "bad property at line " ++ (decimal place.line ++ (codes " byte " ++ decimal place.byte))
+own_text CannotReadMap = codes "cannot read map"
+own_text (Map line) = codes "map line " ++ decimal line
 own_text (Violated line) = codes "property line " ++ (decimal line ++ codes ": violated")
 
--- a condition, an item or a property was refused, or a property is violated
+-- a condition, an item, a property or a map was refused, or a property is violated
 abbrev pub is_refusal : OwnFault → Bool
 is_refusal (BadCondition byte) = true
 is_refusal (BadPlace byte) = true
 is_refusal (BadProperty place) = true
+is_refusal CannotReadMap = false
+is_refusal (Map line) = true
 is_refusal (Violated line) = true
 
 -- what it leaves of the answer
@@ -40,6 +45,8 @@ abbrev pub own_failure : OwnFault → Failure Ending
 own_failure (BadCondition byte) = Refused
 own_failure (BadPlace byte) = Refused
 own_failure (BadProperty place) = Refused
+own_failure CannotReadMap = Refused
+own_failure (Map line) = Refused
 own_failure (Violated line) = Stopped (endings.Violated line)
 
 -- a text that was not read

@@ -1,6 +1,6 @@
 -- What the program answers to its command line, and how it ends.
 use Rattle.std.specs.Prelude.{◌≡◌, ℕ, ◌⊎◌, Bool, true, false, List}
-use Rattle.std.specs.Prelude.{map, codes, Option, Some, None, Result, Ok, Err}
+use Rattle.std.specs.Prelude.{map, codes, Option, Some, None, option_map, Result, Ok, Err}
 use Rattle.std.specs.Prelude.{String}
 use Rattle.std.specs.Global.{Global}
 use Rattle.cheri_model.specs.runs.Image.{ImageParts}
@@ -10,7 +10,7 @@ use Rattle.command_line.specs.declared.found.Format.TheVariants as forms
 use Rattle.inputs.specs.Arguments.{command_args}
 use Rattle.inputs.specs.Files.{KnownFiles}
 use Rattle.grammar.specs.Labels.{LabelParts, labels_of}
-use Rattle.inputs.specs.Reading.{OfFile, OfMeant, image_meant}
+use Rattle.inputs.specs.Reading.{OfFile}
 use Rattle.inputs.specs.declared.fault.InputFault.TheVariants.{CannotReadListing}
 use Rattle.printing.specs.Endings.{Answer, EndsBy, FailsBy, HasWhole}
 use Rattle.shown_states.specs.Endings as endings
@@ -22,7 +22,8 @@ use Rattle.program_io.specs.Endings.{IsTold}
 use Rattle.program_io.specs.declared.fault.Fault.TheVariants.{Usage, Input, Own}
 use Rattle.states.specs.Searches.{SearchParts}
 use Rattle.explore_program.specs.Faults.{Fault, failure_of, fault_text, status_of}
-use Rattle.explore_program.specs.declared.faults.OwnFault.TheVariants.{Violated}
+use Rattle.explore_program.specs.declared.faults.OwnFault.TheVariants.{CannotReadMap, Violated}
+use Rattle.explore_program.specs.Listings.{ListedParts, MappedParts, mapped_image_of}
 use Rattle.explore_program.specs.Questions.{IsSaidTo, range_of}
 
 -- the command line of the arguments that are given after the program's name
@@ -42,20 +43,41 @@ search_asked image asked = record {
   limit = asked.states;
 }
 
--- the answers to a request about the listing that has this text, these labels and this image
-abbrev pub IsRequestAnswer : LabelParts → List ℕ → ImageParts → ExploreAsked → Answer Ending Fault
-    → Type 0
-IsRequestAnswer labels text image asked answer =
-    IsSaidTo asked.question labels text (search_asked image asked) (format_of asked.form)
+-- the answers to a request about the listing that has this text, this map, these labels and this
+-- image
+abbrev pub IsRequestAnswer : LabelParts → ListedParts → ImageParts → ExploreAsked
+    → Answer Ending Fault → Type 0
+IsRequestAnswer labels listed image asked answer =
+    IsSaidTo asked.question labels listed (search_asked image asked) (format_of asked.form)
     asked.explained answer
 
--- the answers to a request; `usage` where the arguments ask for nothing
+-- what is so of the meaning of texts, or their fault
+abbrev pub OfMapped : {A : Type 0} → Result MappedParts Fault → (Fault → A)
+    → (MappedParts → Type 0) → A → Type 0
+OfMapped (Ok mapped) refused IsSo answer = IsSo mapped
+OfMapped (Err fault) refused IsSo answer = answer ≡ refused fault
+
+-- the answers to a request about the texts of a listing and of its map, if there is one
+abbrev pub IsTextsAnswer : List ℕ → Option (List ℕ) → ExploreAsked → Answer Ending Fault → Type 0
+IsTextsAnswer text map asked answer =
+    OfMapped (mapped_image_of text map) (λ fault. Err fault)
+    (λ mapped. IsRequestAnswer (labels_of text)
+    (record { text = text; sources = mapped.sources }) mapped.image asked answer) answer
+
+-- by the map of a file, if one is named
+abbrev pub IsMapAnswer : Option (Option (List ℕ)) → List ℕ → ExploreAsked → Answer Ending Fault
+    → Type 0
+IsMapAnswer None text asked answer = IsTextsAnswer text None asked answer
+IsMapAnswer (Some file) text asked answer =
+    OfFile file (Err (Own CannotReadMap)) (λ map. IsTextsAnswer text (Some map) asked answer) answer
+
+-- The answers to a request; `usage` where the arguments ask for nothing. All files are read before
+-- one is judged.
 abbrev pub IsAnswer : KnownFiles → Option ExploreAsked → Answer Ending Fault → Type 0
 IsAnswer files None answer = answer ≡ Err Usage
 IsAnswer files (Some asked) answer =
     OfFile (files asked.listing) (Err (Input CannotReadListing))
-    (λ bytes. OfMeant (image_meant bytes) (λ refused. Err (Input refused))
-    (λ image. IsRequestAnswer (labels_of bytes) bytes image asked answer) answer) answer
+    (λ text. IsMapAnswer (option_map files asked.map) text asked answer) answer
 
 -- a property is violated
 abbrev pub is_violation : Ending → Bool

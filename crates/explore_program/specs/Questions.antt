@@ -14,6 +14,7 @@ use Rattle.condition_texts.specs.Conditions.{condition_of}
 use Rattle.condition_texts.specs.declared.fault.TextFault.TheVariants.{Condition, Place}
 use Rattle.condition_texts.specs.Items.{items_of}
 use Rattle.grammar.specs.Labels.{LabelParts}
+use Rattle.listing_maps.specs.Names.{named}
 use Rattle.found_texts.specs.Find.{IsFindAnswer}
 use Rattle.outcome_texts.specs.Answers.{IsListedAnswer, IsShownAnswer}
 use Rattle.printing.specs.Endings.{Answer}
@@ -22,6 +23,7 @@ use Rattle.shown_states.specs.declared.form.Ending.{Ending}
 use Rattle.shown_states.specs.declared.form.Format.{Format}
 use Rattle.states.specs.Searches.{SearchParts}
 use Rattle.explore_program.specs.Faults.{Fault, property_fault, text_fault}
+use Rattle.explore_program.specs.Listings.{ListedParts}
 
 -- the range of a sweep
 abbrev pub range_of : Sweep → SweepRange
@@ -39,26 +41,28 @@ IsSaidOf fault answers (Ok x) answer = IsSaid (answers x) answer
 IsSaidOf fault answers (Err e) answer = answer ≡ Err (fault e)
 
 -- an answer, and where this is asked for, after it the orders that it tells of, explained: those of
--- the listing that has this text and this image
-abbrev pub explained_text : Bool → List ℕ → ImageParts → List (List Op) → List ℕ → List ℕ
-explained_text false text image orders told = told
-explained_text true text image orders told = told ++ explained_orders text image orders
+-- the listing that has this text, this map and this image
+abbrev pub explained_text : Bool → ListedParts → ImageParts → List (List Op) → List ℕ → List ℕ
+explained_text false listed image orders told = told
+explained_text true listed image orders told =
+    told ++ explained_orders listed.text listed.sources image orders
 
-pub record IsExplained (explained : Bool) (text : List ℕ) (image : ImageParts)
+pub record IsExplained (explained : Bool) (listed : ListedParts) (image : ImageParts)
     (answers : List (List Op) → List ℕ → Ending → Type 0) (said : List ℕ) (ending : Ending)
     : Type 0 where
   pub orders : List (List Op)
   pub told : List ℕ
   pub answer : answers orders told ending
-  pub said_is : said ≡ explained_text explained text image orders told
+  pub said_is : said ≡ explained_text explained listed image orders told
 
--- `find`, with the condition that a text writes beside a listing with this text and these labels
-abbrev pub IsFindSaid : LabelParts → List ℕ → SearchParts → Format → Bool → List ℕ
+-- `find`, with the condition that a text writes beside a listing with this text, this map and these
+-- labels: the map's symbols are labels, too
+abbrev pub IsFindSaid : LabelParts → ListedParts → SearchParts → Format → Bool → List ℕ
     → Answer Ending Fault → Type 0
-IsFindSaid labels text search format explained condition answer =
+IsFindSaid labels listed search format explained condition answer =
     IsSaidOf (λ byte. text_fault (Condition byte))
-    (λ nodes. IsExplained explained text search.image (IsFindAnswer search nodes format))
-    (condition_of labels search.image condition) answer
+    (λ nodes. IsExplained explained listed search.image (IsFindAnswer search nodes format))
+    (condition_of (named labels listed.sources) search.image condition) answer
 
 -- `outcomes`, with the items that a text writes
 abbrev pub IsShownSaid : SearchParts → Format → List ℕ → Answer Ending Fault → Type 0
@@ -70,26 +74,26 @@ IsShownSaid search format items answer =
 abbrev pub swept_by : SearchParts → PropertiesParts → SearchParts
 swept_by search read = record search { sweeps = map range_of read.sweeps }
 
--- `check`, of the listing that has this text and these labels
-abbrev pub IsCheckSaid : LabelParts → List ℕ → SearchParts → Format → Bool
+-- `check`, of the listing that has this text, this map and these labels
+abbrev pub IsCheckSaid : LabelParts → ListedParts → SearchParts → Format → Bool
     → Answer Ending Fault → Type 0
-IsCheckSaid labels text search format explained answer =
+IsCheckSaid labels listed search format explained answer =
     IsSaidOf property_fault
-    (λ read. IsExplained explained text search.image
+    (λ read. IsExplained explained listed search.image
     (IsCheckAnswer (swept_by search read) read.properties format))
-    (properties_of labels search.image text) answer
+    (properties_of (named labels listed.sources) search.image listed.text) answer
 
--- the answers to a question of the command line, about the listing that has this text and these
--- labels, of which those to `find` and `check` may have their orders explained
-abbrev pub IsSaidTo : AskedQuestion → LabelParts → List ℕ → SearchParts → Format → Bool
+-- the answers to a question of the command line, about the listing that has this text, this map and
+-- these labels, of which those to `find` and `check` may have their orders explained
+abbrev pub IsSaidTo : AskedQuestion → LabelParts → ListedParts → SearchParts → Format → Bool
     → Answer Ending Fault → Type 0
-IsSaidTo (Find condition) labels text search format explained answer =
-    IsFindSaid labels text search format explained condition answer
-IsSaidTo (Outcomes None) labels text search format explained answer =
+IsSaidTo (Find condition) labels listed search format explained answer =
+    IsFindSaid labels listed search format explained condition answer
+IsSaidTo (Outcomes None) labels listed search format explained answer =
     IsSaid (IsListedAnswer search format) answer
-IsSaidTo (Outcomes (Some items)) labels text search format explained answer =
+IsSaidTo (Outcomes (Some items)) labels listed search format explained answer =
     IsShownSaid search format items answer
-IsSaidTo Authority labels text search format explained answer =
+IsSaidTo Authority labels listed search format explained answer =
     IsSaid (IsAuthorityAnswer search format) answer
-IsSaidTo Check labels text search format explained answer =
-    IsCheckSaid labels text search format explained answer
+IsSaidTo Check labels listed search format explained answer =
+    IsCheckSaid labels listed search format explained answer

@@ -8,10 +8,12 @@ ghost use Rattle.listings.specs.Meaning.{listing_meaning};
 ghost use Rattle.printing.specs.Endings.{HasWhole, FailsBy};
 ghost use Rattle.states.specs.Searches.{IsSearchable, search_of};
 ghost use Rattle.explore_program.specs.Faults.{failure_of};
+ghost use Rattle.explore_program.specs.Listings.{listed_of};
 ghost use Rattle.explore_program.specs.Questions.{IsCheckSaid, IsFindSaid};
 ghost use Rattle.explore_program.specs.Questions.{IsSaid, IsSaidTo, IsShownSaid};
 
 use crate::faults::{Fault, property_fault, text_fault};
+use crate::listing::Listed;
 use crate::questions::{
     Authority, Check, Explaining, Find, Outcomes, SearchQuestion, ShownOutcomes, ranges_of,
 };
@@ -20,17 +22,18 @@ use explore_line::Question;
 use explore_properties::read_properties;
 use grammar::labels::Labels;
 use graph_search::Progress;
+use listing_maps::Names;
 use shown_states::{Ending, Format};
 use sinks::Sink;
 use states::Search;
 use std::alloc::Global;
 
-/// What a question is asked of: a search, the labels and the text of its listing, how the answer is
-/// written, and whether its orders are explained.
+/// What a question is asked of: a search, its listing with its labels, how the answer is written, and
+/// whether its orders are explained.
 #[derive(Clone, Copy)]
 pub struct Asking<'l, 's> {
     pub labels: &'l Labels<'l>,
-    pub text: &'l [u8],
+    pub listed: Listed<'l>,
     pub search: Search<'s>,
     pub format: Format,
     pub explained: bool,
@@ -62,15 +65,15 @@ fn answer_find<P: Progress, S: Sink>(
     progress: &mut P,
     sink: &mut S,
 ) -> Result<Ending, Fault>
-    requires meaning { listing_meaning asking.text.now ≡ Ok asking.search.image.now }
+    requires meaning { listing_meaning asking.listed.text.now ≡ Ok asking.search.image.now }
     requires search { IsSearchable (search_of asking.search) }
     ensures printed { IfOk result (λ ending. HasWhole
-        (IsFindSaid (label_parts asking.entry.labels.now) asking.entry.text.now
+        (IsFindSaid (label_parts asking.entry.labels.now) (listed_of asking.entry.listed)
         (search_of asking.entry.search) asking.entry.format asking.entry.explained
         condition.now) ending
         (S.written sink.old) (S.written sink.new)) }
     ensures failed { IfErr result (λ fault. FailsBy (failure_of fault)
-        (IsFindSaid (label_parts asking.entry.labels.now) asking.entry.text.now
+        (IsFindSaid (label_parts asking.entry.labels.now) (listed_of asking.entry.listed)
         (search_of asking.entry.search) asking.entry.format asking.entry.explained
         condition.now) fault
         (S.written sink.old) (S.written sink.new)) }
@@ -78,19 +81,23 @@ fn answer_find<P: Progress, S: Sink>(
 {
     let Asking {
         labels,
-        text,
+        listed,
         search,
         format,
         explained,
     } = asking;
-    let condition = match read_condition(alloc, labels, search.image, condition) {
+    let names = Names {
+        labels,
+        sources: listed.sources,
+    };
+    let condition = match read_condition(alloc, &names, search.image, condition) {
         Ok(condition) => condition,
         Err(refused) => return Err(text_fault(refused)),
     };
     let question = Find {
         search,
         format,
-        explaining: Explaining { explained, text },
+        explaining: Explaining { explained, listed },
         condition: &condition,
     };
     ask(alloc, &question, progress, sink)
@@ -133,26 +140,30 @@ fn answer_check<P: Progress, S: Sink>(
     progress: &mut P,
     sink: &mut S,
 ) -> Result<Ending, Fault>
-    requires meaning { listing_meaning asking.text.now ≡ Ok asking.search.image.now }
+    requires meaning { listing_meaning asking.listed.text.now ≡ Ok asking.search.image.now }
     requires search { IsSearchable (search_of asking.search) }
     ensures printed { IfOk result (λ ending. HasWhole
-        (IsCheckSaid (label_parts asking.entry.labels.now) asking.entry.text.now
+        (IsCheckSaid (label_parts asking.entry.labels.now) (listed_of asking.entry.listed)
         (search_of asking.entry.search) asking.entry.format asking.entry.explained) ending
         (S.written sink.old) (S.written sink.new)) }
     ensures failed { IfErr result (λ fault. FailsBy (failure_of fault)
-        (IsCheckSaid (label_parts asking.entry.labels.now) asking.entry.text.now
+        (IsCheckSaid (label_parts asking.entry.labels.now) (listed_of asking.entry.listed)
         (search_of asking.entry.search) asking.entry.format asking.entry.explained) fault
         (S.written sink.old) (S.written sink.new)) }
     ensures identity { S.identity sink.new ≡ S.identity sink.old }
 {
     let Asking {
         labels,
-        text,
+        listed,
         search,
         format,
         explained,
     } = asking;
-    let read = match read_properties(alloc, labels, search.image, text) {
+    let names = Names {
+        labels,
+        sources: listed.sources,
+    };
+    let read = match read_properties(alloc, &names, search.image, listed.text) {
         Ok(read) => read,
         Err(refused) => return Err(property_fault(refused)),
     };
@@ -167,7 +178,7 @@ fn answer_check<P: Progress, S: Sink>(
     let question = Check {
         search,
         format,
-        explaining: Explaining { explained, text },
+        explaining: Explaining { explained, listed },
         properties,
     };
     ask(alloc, &question, progress, sink)
@@ -181,16 +192,16 @@ pub fn answer_question<P: Progress, S: Sink>(
     progress: &mut P,
     sink: &mut S,
 ) -> Result<Ending, Fault>
-    requires meaning { listing_meaning asking.text.now ≡ Ok asking.search.image.now }
+    requires meaning { listing_meaning asking.listed.text.now ≡ Ok asking.search.image.now }
     requires search { IsSearchable (search_of asking.search) }
     ensures printed { IfOk result (λ ending. HasWhole
         (IsSaidTo (question_asked_by question.entry) (label_parts asking.entry.labels.now)
-        asking.entry.text.now (search_of asking.entry.search) asking.entry.format
+        (listed_of asking.entry.listed) (search_of asking.entry.search) asking.entry.format
         asking.entry.explained) ending
         (S.written sink.old) (S.written sink.new)) }
     ensures failed { IfErr result (λ fault. FailsBy (failure_of fault)
         (IsSaidTo (question_asked_by question.entry) (label_parts asking.entry.labels.now)
-        asking.entry.text.now (search_of asking.entry.search) asking.entry.format
+        (listed_of asking.entry.listed) (search_of asking.entry.search) asking.entry.format
         asking.entry.explained) fault
         (S.written sink.old) (S.written sink.new)) }
     ensures identity { S.identity sink.new ≡ S.identity sink.old }

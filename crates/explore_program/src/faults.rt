@@ -22,6 +22,10 @@ pub enum OwnFault {
     BadPlace(usize),
     /// What begins at this place of the listing is no property, or one too many.
     BadProperty(PropertyPlace),
+    /// The map's file cannot be read.
+    CannotReadMap,
+    /// The map's line of this number is none of a map of this program.
+    Map(usize),
     /// The property on the line of this number is violated; the answer was printed whole.
     Violated(usize),
 }
@@ -38,6 +42,8 @@ impl fmt::Display for OwnFault {
             OwnFault::BadProperty(PropertyPlace { line, byte }) => {
                 write!(f, "bad property at line {line} byte {byte}")
             }
+            OwnFault::CannotReadMap => f.write_str("cannot read map"),
+            OwnFault::Map(line) => write!(f, "map line {line}"),
             OwnFault::Violated(line) => write!(f, "property line {line}: violated"),
         }
     }
@@ -49,7 +55,8 @@ impl ProgramFault for OwnFault {
     fn is_refusal(self) -> bool {
         match self {
             OwnFault::BadCondition(_) | OwnFault::BadPlace(_) => true,
-            OwnFault::BadProperty(_) | OwnFault::Violated(_) => true,
+            OwnFault::BadProperty(_) | OwnFault::Violated(_) | OwnFault::Map(_) => true,
+            OwnFault::CannotReadMap => false,
         }
     }
 }

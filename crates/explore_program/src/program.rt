@@ -1,25 +1,27 @@
 //! The program: answers one question, or reports why it cannot.
 
-ghost use Rattle.std.specs.Prelude.{◌≡◌, ◌≤◌, length, None, Ok, Some, IfOk, IfErr};
+ghost use Rattle.std.specs.Prelude.{◌≡◌, ◌≤◌, length, None, Ok, Some, IfOk, IfErr, option_map};
 ghost use Rattle.explore_line.specs.Requests.{explore_asked, explore_asked_by};
 ghost use Rattle.grammar.specs.LabelMap.{label_parts};
 ghost use Rattle.grammar.specs.Labels.{labels_of};
 ghost use Rattle.listings.specs.Meaning.{listing_meaning};
 ghost use Rattle.printing.specs.Endings.{HasWhole, FailsBy};
 ghost use Rattle.explore_program.specs.Faults.{failure_of};
-ghost use Rattle.explore_program.specs.Program.{Concludes, Ends, IsAnswer, IsRequestAnswer};
+ghost use Rattle.explore_program.specs.Listings.{bytes_in, listed_of};
+ghost use Rattle.explore_program.specs.Program.{Concludes, Ends, IsAnswer, IsMapAnswer};
+ghost use Rattle.explore_program.specs.Program.{IsRequestAnswer, IsTextsAnswer};
 ghost use Rattle.explore_program.specs.Program.{command_line, format_of};
 
 use crate::answers::{Asking, answer_question};
 use crate::faults::{Fault, OwnFault};
-use crate::listing::read_listed;
+use crate::listing::{Listed, Texts, read_map_text, read_mapped_image};
 use crate::progress::TerminalProgress;
 use crate::questions::ranges_of;
 use cheri_model::Image;
 use explore_line::{ExploreRequest, explore_request};
 use grammar::labels::Labels;
 use graph_search::{NoProgress, Progress};
-use inputs::{Files, command_args};
+use inputs::{Files, command_args, read_listing_text};
 use listing_labels::labels_of;
 use printing::give_back;
 use program_io::{finish, report_fault};
@@ -40,14 +42,14 @@ fn format_of(asked: command_line::Format) -> Format
     }
 }
 
-/// A good listing: its text and its image.
+/// A good listing, and its image.
 #[derive(Clone, Copy)]
 struct Listing<'t, 'i> {
-    text: &'t [u8],
+    listed: Listed<'t>,
     image: &'i Image,
 }
 
-/// Answers a request about a listing, with the listing's labels.
+/// Answers a request about a good listing, with the listing's labels.
 fn answer_labelled<S: Sink, P: Progress>(
     alloc: Global,
     request: &ExploreRequest<'_>,
@@ -56,21 +58,21 @@ fn answer_labelled<S: Sink, P: Progress>(
     progress: &mut P,
     sink: &mut S,
 ) -> Result<Ending, Fault>
-    requires meaning { listing_meaning listing.text.now ≡ Ok listing.image.now }
+    requires meaning { listing_meaning listing.listed.text.now ≡ Ok listing.image.now }
     requires some { 1 ≤ request.now.states }
     requires few { length request.now.sweeps.items ≤ MAX_SWEEPS }
     ensures printed { IfOk result (λ ending. HasWhole
-        (IsRequestAnswer (label_parts labels.now) listing.entry.text.now
+        (IsRequestAnswer (label_parts labels.now) (listed_of listing.entry.listed)
         listing.entry.image.now (explore_asked_by request.now)) ending
         (S.written sink.old) (S.written sink.new)) }
     ensures failed { IfErr result (λ fault. FailsBy (failure_of fault)
-        (IsRequestAnswer (label_parts labels.now) listing.entry.text.now
+        (IsRequestAnswer (label_parts labels.now) (listed_of listing.entry.listed)
         listing.entry.image.now (explore_asked_by request.now)) fault
         (S.written sink.old) (S.written sink.new)) }
     ensures identity { S.identity sink.new ≡ S.identity sink.old }
 {
     let sweeps = ranges_of(alloc, request.sweeps.as_slice())?;
-    let Listing { text, image } = listing;
+    let Listing { listed, image } = listing;
     let search = Search {
         image,
         sweeps: sweeps.as_slice(),
@@ -79,7 +81,7 @@ fn answer_labelled<S: Sink, P: Progress>(
     };
     let asking = Asking {
         labels,
-        text,
+        listed,
         search,
         format: format_of(request.form),
         explained: request.explained,
@@ -87,34 +89,99 @@ fn answer_labelled<S: Sink, P: Progress>(
     answer_question(alloc, request.question, asking, progress, sink)
 }
 
-/// Answers a request about a good listing, of which this is the text and the image.
+/// Answers a request about a good listing of this image.
 fn answer_listed<S: Sink, P: Progress>(
     alloc: Global,
     request: &ExploreRequest<'_>,
     image: &Image,
-    text: &[u8],
+    listed: Listed<'_>,
     progress: &mut P,
     sink: &mut S,
 ) -> Result<Ending, Fault>
-    requires meaning { listing_meaning text.now ≡ Ok image.now }
+    requires meaning { listing_meaning listed.text.now ≡ Ok image.now }
     requires some { 1 ≤ request.now.states }
     requires few { length request.now.sweeps.items ≤ MAX_SWEEPS }
     ensures printed { IfOk result (λ ending. HasWhole
-        (IsRequestAnswer (labels_of text.now) text.now image.now
+        (IsRequestAnswer (labels_of listed.entry.text.now) (listed_of listed.entry) image.now
         (explore_asked_by request.now)) ending
         (S.written sink.old) (S.written sink.new)) }
     ensures failed { IfErr result (λ fault. FailsBy (failure_of fault)
-        (IsRequestAnswer (labels_of text.now) text.now image.now
+        (IsRequestAnswer (labels_of listed.entry.text.now) (listed_of listed.entry) image.now
         (explore_asked_by request.now)) fault
         (S.written sink.old) (S.written sink.new)) }
     ensures identity { S.identity sink.new ≡ S.identity sink.old }
 {
-    let labels = labels_of(alloc, image, text)?;
-    let listing = Listing { text, image };
+    let labels = labels_of(alloc, image, listed.text)?;
+    let listing = Listing { listed, image };
     answer_labelled(alloc, request, listing, &labels, progress, sink)
 }
 
-/// Answers a request.
+/// Answers a request about the texts of a listing and its map, which are judged in this order.
+fn answer_texts<S: Sink, P: Progress>(
+    alloc: Global,
+    request: &ExploreRequest<'_>,
+    texts: Texts<'_>,
+    progress: &mut P,
+    sink: &mut S,
+) -> Result<Ending, Fault>
+    requires some { 1 ≤ request.now.states }
+    requires few { length request.now.sweeps.items ≤ MAX_SWEEPS }
+    ensures printed { IfOk result (λ ending. HasWhole
+        (IsTextsAnswer texts.entry.listing.now (option_map bytes_in texts.entry.map)
+        (explore_asked_by request.now)) ending
+        (S.written sink.old) (S.written sink.new)) }
+    ensures failed { IfErr result (λ fault. FailsBy (failure_of fault)
+        (IsTextsAnswer texts.entry.listing.now (option_map bytes_in texts.entry.map)
+        (explore_asked_by request.now)) fault
+        (S.written sink.old) (S.written sink.new)) }
+    ensures identity { S.identity sink.new ≡ S.identity sink.old }
+{
+    let mapped = read_mapped_image(alloc, texts)?;
+    let listed = Listed {
+        text: texts.listing,
+        sources: mapped.sources(),
+    };
+    answer_listed(alloc, request, &mapped.image, listed, progress, sink)
+}
+
+/// Answers a request about a listing with this text, whose map is read first, if one is named.
+fn answer_mapped<F: Files, S: Sink, P: Progress>(
+    alloc: Global,
+    request: &ExploreRequest<'_>,
+    listing: &[u8],
+    files: &mut F,
+    progress: &mut P,
+    sink: &mut S,
+) -> Result<Ending, Fault>
+    requires some { 1 ≤ request.now.states }
+    requires few { length request.now.sweeps.items ≤ MAX_SWEEPS }
+    ensures printed { IfOk result (λ ending. HasWhole
+        (IsMapAnswer (option_map (F.bytes_of files.old) (explore_asked_by request.now).map)
+        listing.now (explore_asked_by request.now)) ending
+        (S.written sink.old) (S.written sink.new)) }
+    ensures failed { IfErr result (λ fault. FailsBy (failure_of fault)
+        (IsMapAnswer (option_map (F.bytes_of files.old) (explore_asked_by request.now).map)
+        listing.now (explore_asked_by request.now)) fault
+        (S.written sink.old) (S.written sink.new)) }
+    ensures identity { S.identity sink.new ≡ S.identity sink.old }
+{
+    match request.map {
+        None => {
+            let texts = Texts { listing, map: None };
+            answer_texts(alloc, request, texts, progress, sink)
+        }
+        Some(name) => {
+            let map = read_map_text(files, name)?;
+            let texts = Texts {
+                listing,
+                map: Some(map.as_slice()),
+            };
+            answer_texts(alloc, request, texts, progress, sink)
+        }
+    }
+}
+
+/// Answers a request. All files are read before one is judged.
 fn answer_request<F: Files, S: Sink, P: Progress>(
     alloc: Global,
     request: &ExploreRequest<'_>,
@@ -132,9 +199,8 @@ fn answer_request<F: Files, S: Sink, P: Progress>(
         (S.written sink.old) (S.written sink.new)) }
     ensures identity { S.identity sink.new ≡ S.identity sink.old }
 {
-    let listed = read_listed(alloc, files, request.listing)?;
-    let text = listed.text.as_slice();
-    answer_listed(alloc, request, &listed.image, text, progress, sink)
+    let text = read_listing_text(files, request.listing)?;
+    answer_mapped(alloc, request, text.as_slice(), files, progress, sink)
 }
 
 /// Answers what the arguments ask for. The command line is judged first.

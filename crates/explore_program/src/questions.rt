@@ -11,9 +11,11 @@ ghost use Rattle.order_texts.specs.OrderTexts.{orders_of};
 ghost use Rattle.outcome_texts.specs.Answers.{IsListedAnswer, IsShownAnswer};
 ghost use Rattle.shown_states.specs.Endings.{failures_of, IsUnwritten, IsWritten};
 ghost use Rattle.shown_states.specs.declared.form.Ending.{Ending};
+ghost use Rattle.explore_program.specs.Listings.{listed_of};
 ghost use Rattle.explore_program.specs.Questions.{explained_text, IsExplained, range_of};
 ghost use Rattle.states.specs.Searches.{IsSearchable, search_of};
 
+use crate::listing::Listed;
 use authority_texts::authority;
 use cheri_model::{Image, NoMemory};
 use conditions::{Condition, Items};
@@ -70,22 +72,28 @@ pub trait SearchQuestion {
         ensures identity { S.identity sink.new ≡ S.identity sink.old };
 }
 
-/// Whether the orders that an answer tells of are explained after it, and the text of the listing
-/// whose orders they are.
+/// Whether the orders that an answer tells of are explained after it, and the listing whose orders
+/// they are.
 #[derive(Clone, Copy)]
 pub struct Explaining<'t> {
     pub explained: bool,
-    pub text: &'t [u8],
+    pub listed: Listed<'t>,
 }
 
 /// An answer, and after it the orders that it tells of, explained. Fails only when out of memory.
-fn explained(alloc: Global, text: &[u8], image: &Image, told: &Told) -> Result<MemSink, NoMemory>
-    requires { listing_meaning text.now ≡ Ok image.now }
-    ensures { IfOk result (λ said. said.bytes ≡ explained_text true text.now image.now
-        (orders_of told.now.orders.items) (string_bytes told.now.answer.text)) }
+fn explained(
+    alloc: Global,
+    listed: Listed<'_>,
+    image: &Image,
+    told: &Told,
+) -> Result<MemSink, NoMemory>
+    requires { listing_meaning listed.text.now ≡ Ok image.now }
+    ensures { IfOk result (λ said. said.bytes ≡ explained_text true (listed_of listed.entry)
+        image.now (orders_of told.now.orders.items) (string_bytes told.now.answer.text)) }
 {
+    let Listed { text, sources } = listed;
     let answer = told.answer.text.as_bytes();
-    explain_orders(alloc, text, image, answer, told.orders.as_slice())
+    explain_orders(alloc, text, sources, image, answer, told.orders.as_slice())
 }
 
 /// Puts bytes, after which the answer ends so. Where the sink fails, it took a prefix of them.
@@ -105,22 +113,24 @@ fn put_said<S: Sink>(sink: &mut S, said: &[u8], ending: Ending) -> Result<Ending
 /// nothing is put; where the sink fails, it took a prefix.
 fn put_explained<S: Sink>(
     alloc: Global,
-    text: &[u8],
+    listed: Listed<'_>,
     image: &Image,
     told: &Told,
     sink: &mut S,
 ) -> Result<Ending, WriteFault>
-    requires { listing_meaning text.now ≡ Ok image.now }
+    requires { listing_meaning listed.text.now ≡ Ok image.now }
     ensures written { IfOk result (λ ending. (ending ≡ told.now.answer.ending)
-        × Appends (S.written sink.old) (S.written sink.new) (explained_text true text.now image.now
+        × Appends (S.written sink.old) (S.written sink.new)
+        (explained_text true (listed_of listed.entry) image.now
         (orders_of told.now.orders.items) (string_bytes told.now.answer.text))) }
-    ensures begun { IfErr result (IsUnwritten (λ said. said ≡ explained_text true text.now image.now
+    ensures begun { IfErr result (IsUnwritten (λ said. said
+        ≡ explained_text true (listed_of listed.entry) image.now
         (orders_of told.now.orders.items) (string_bytes told.now.answer.text))
         (S.written sink.old) (S.written sink.new)) }
     ensures failures { S.failures sink.new ≡ S.failures sink.old + failures_of result }
     ensures identity { S.identity sink.new ≡ S.identity sink.old }
 {
-    let said = explained(alloc, text, image, told)?;
+    let said = explained(alloc, listed, image, told)?;
     put_said(sink, said.bytes(), told.answer.ending)
 }
 
@@ -132,20 +142,20 @@ fn put_told<S: Sink>(
     told: &Told,
     sink: &mut S,
 ) -> Result<Ending, WriteFault>
-    requires { listing_meaning explaining.text.now ≡ Ok image.now }
+    requires { listing_meaning explaining.listed.text.now ≡ Ok image.now }
     ensures written { IfOk result (λ ending. (ending ≡ told.now.answer.ending)
         × Appends (S.written sink.old) (S.written sink.new)
-        (explained_text explaining.entry.explained explaining.entry.text.now image.now
+        (explained_text explaining.entry.explained (listed_of explaining.entry.listed) image.now
         (orders_of told.now.orders.items) (string_bytes told.now.answer.text))) }
     ensures begun { IfErr result (IsUnwritten (λ said. said
-        ≡ explained_text explaining.entry.explained explaining.entry.text.now image.now
+        ≡ explained_text explaining.entry.explained (listed_of explaining.entry.listed) image.now
         (orders_of told.now.orders.items) (string_bytes told.now.answer.text))
         (S.written sink.old) (S.written sink.new)) }
     ensures failures { S.failures sink.new ≡ S.failures sink.old + failures_of result }
     ensures identity { S.identity sink.new ≡ S.identity sink.old }
 {
     if explaining.explained {
-        put_explained(alloc, explaining.text, image, told, sink)
+        put_explained(alloc, explaining.listed, image, told, sink)
     } else {
         put_answer(sink, &told.answer)
     }
@@ -162,9 +172,9 @@ pub struct Find<'a, 'b, 't> {
 
 impl<'a, 'b, 't> SearchQuestion for Find<'a, 'b, 't> {
     ghost is_askable = { λ q. IsSearchable (search_of q.search)
-        × (listing_meaning q.explaining.text.now ≡ Ok q.search.image.now) };
+        × (listing_meaning q.explaining.listed.text.now ≡ Ok q.search.image.now) };
 
-    ghost answers = { λ q. IsExplained q.explaining.explained q.explaining.text.now
+    ghost answers = { λ q. IsExplained q.explaining.explained (listed_of q.explaining.listed)
         q.search.image.now (IsFindAnswer (search_of q.search) q.condition.now q.format) };
 
     fn write<P: Progress, S: Sink>(
@@ -256,9 +266,9 @@ pub struct Check<'a, 'b, 'c, 't> {
 
 impl<'a, 'b, 'c, 't> SearchQuestion for Check<'a, 'b, 'c, 't> {
     ghost is_askable = { λ q. IsSearchable (search_of q.search)
-        × (listing_meaning q.explaining.text.now ≡ Ok q.search.image.now) };
+        × (listing_meaning q.explaining.listed.text.now ≡ Ok q.search.image.now) };
 
-    ghost answers = { λ q. IsExplained q.explaining.explained q.explaining.text.now
+    ghost answers = { λ q. IsExplained q.explaining.explained (listed_of q.explaining.listed)
         q.search.image.now (IsCheckAnswer (search_of q.search) q.properties.now q.format) };
 
     fn write<P: Progress, S: Sink>(

@@ -4,7 +4,6 @@
 ghost use Rattle.std.specs.Prelude.{◌≡◌, ◌≤◌, ◌<◌, ◌+◌, ◌^◌, length, take, drop, true, Ok, Some};
 ghost use Rattle.std.specs.List.{list_all};
 ghost use Rattle.std.specs.Str.{IsAscii};
-ghost use Rattle.grammar.specs.LabelMap.{label_parts};
 ghost use Rattle.grammar.specs.Lines.{is_plain, lines_of};
 ghost use Rattle.listings.specs.Meaning.{listing_meaning};
 ghost use Rattle.explore_properties.specs.Lines.{trimmed};
@@ -22,6 +21,7 @@ ghost use Rattle.explore_properties.specs.Reading.{
   with_statement,
   with_sweep,
 };
+ghost use Rattle.listing_maps.specs.Names.{names_of};
 
 use crate::claims::{Claim, MAX_PROPERTIES, Properties, Property};
 use crate::fault::{LineFault, PropertyFault, PropertyPlace};
@@ -29,7 +29,7 @@ use crate::lines::{blank_count, is_marked, is_parted, trimmed};
 use crate::statements::{Reader, Span, Statement};
 use cheri_model::Image;
 use explore_sweeps::{MAX_SWEEPS, Sweep};
-use grammar::labels::Labels;
+use listing_maps::Names;
 use std::alloc::Global;
 use std::str;
 
@@ -96,7 +96,7 @@ impl Reader<'_> {
     ) -> Result<(), LineFault>
         requires there { start + 2 ≤ length line.now }
         requires ascii { IsAscii line.now }
-        ensures { AddsByte result read.new (marked_read (label_parts self.entry.labels.now)
+        ensures { AddsByte result read.new (marked_read (names_of self.entry.names.now)
             self.entry.image.now number read.old line.now start) }
     {
         if !is_parted(&line[start..]) {
@@ -121,7 +121,7 @@ impl Reader<'_> {
         read: &mut Properties<'t>,
     ) -> Result<(), LineFault>
         requires ascii { IsAscii line.now }
-        ensures { AddsByte result read.new (trimmed_read (label_parts self.entry.labels.now)
+        ensures { AddsByte result read.new (trimmed_read (names_of self.entry.names.now)
             self.entry.image.now number read.old line.now) }
     {
         let start = blank_count(line);
@@ -140,7 +140,7 @@ impl Reader<'_> {
         read: &mut Properties<'t>,
     ) -> Result<(), LineFault>
         requires plain { list_all is_plain line.now ≡ true }
-        ensures { AddsByte result read.new (line_read (label_parts self.entry.labels.now)
+        ensures { AddsByte result read.new (line_read (names_of self.entry.names.now)
             self.entry.image.now number read.old line.now) }
     {
         self.read_trimmed(alloc, number, trimmed(line), read)
@@ -149,7 +149,7 @@ impl Reader<'_> {
     /// What the lines of a text say.
     fn read_lines<'t>(self, alloc: Global, text: &'t [u8]) -> Result<Properties<'t>, PropertyFault>
         requires plain { list_all (λ line. list_all is_plain line) (lines_of text.now) ≡ true }
-        ensures { GivesPlace result (lines_read (label_parts self.entry.labels.now)
+        ensures { GivesPlace result (lines_read (names_of self.entry.names.now)
             self.entry.image.now 1 none_yet (lines_of text.now)) }
     {
         let mut read = Properties {
@@ -167,19 +167,19 @@ impl Reader<'_> {
     }
 }
 
-/// The properties that a good listing carries, of which these are the labels and the image, from
-/// the first line on. The first fault is reported; a listing without a property has one in line 0.
+/// The properties that a good listing carries, of which this is the image, by what may be named
+/// beside it, from the first line on. The first fault is reported; a listing without a property has one in line 0.
 /// Running out of memory says nothing of the listing.
 pub fn read_properties<'t>(
     alloc: Global,
-    labels: &Labels<'_>,
+    names: &Names<'_>,
     image: &Image,
     text: &'t [u8],
 ) -> Result<Properties<'t>, PropertyFault>
     requires { listing_meaning text.now ≡ Ok image.now }
-    ensures { GivesPlace result (properties_of (label_parts labels.now) image.now text.now) }
+    ensures { GivesPlace result (properties_of (names_of names.now) image.now text.now) }
 {
-    let reader = Reader { labels, image };
+    let reader = Reader { names, image };
     let read = reader.read_lines(alloc, text)?;
     if read.properties.is_empty() {
         return Err(PropertyFault::Place(PropertyPlace { line: 0, byte: 0 }));

@@ -3,7 +3,6 @@
 
 ghost use Rattle.std.specs.Prelude.{◌≡◌, ◌≤◌, ◌<◌, ◌+◌, ◌^◌, length, min};
 ghost use Rattle.condition_texts.specs.Conditions.{condition_of};
-ghost use Rattle.grammar.specs.LabelMap.{label_parts};
 ghost use Rattle.explore_properties.specs.Reading.{
   after_word,
   claim_of,
@@ -14,6 +13,7 @@ ghost use Rattle.explore_properties.specs.Reading.{
   sweep_statement,
   when_of,
 };
+ghost use Rattle.listing_maps.specs.Names.{names_of};
 
 use crate::claims::{Claim, When};
 use crate::fault::LineFault;
@@ -21,7 +21,7 @@ use cheri_model::Image;
 use cheri_model::table::found_at;
 use condition_texts::{TextFault, read_condition};
 use explore_sweeps::{Sweep, sweep_of};
-use grammar::labels::Labels;
+use listing_maps::Names;
 use std::alloc::Global;
 
 const WHENS: &[(&str, When)] = &[
@@ -38,10 +38,10 @@ pub(crate) enum Statement {
     Sweep(Sweep, usize),
 }
 
-/// What properties are read for: an image, and the labels of its listing.
+/// What properties are read for: an image, and what they may name beside its listing.
 #[derive(Clone, Copy)]
 pub(crate) struct Reader<'a> {
-    pub labels: &'a Labels<'a>,
+    pub names: &'a Names<'a>,
     pub image: &'a Image,
 }
 
@@ -100,9 +100,9 @@ impl Reader<'_> {
         text: &str,
     ) -> Result<Statement, LineFault>
         ensures { GivesByte result (condition_statement span.begin span.end when
-            (condition_of (label_parts self.entry.labels.now) self.entry.image.now text.now)) }
+            (condition_of (names_of self.entry.names.now) self.entry.image.now text.now)) }
     {
-        match read_condition(alloc, self.labels, self.image, text) {
+        match read_condition(alloc, self.names, self.image, text) {
             Ok(condition) => Ok(Statement::Claim(Claim::Holds(when, condition))),
             Err(TextFault::Condition(byte)) => Err(LineFault::Byte(fault_byte(span, byte))),
             Err(TextFault::Place(_)) => Err(LineFault::NoMemory),
@@ -118,7 +118,7 @@ impl Reader<'_> {
         text: &str,
     ) -> Result<Statement, LineFault>
         requires room { span.begin + length text.now < 2 ^ 63 }
-        ensures { GivesByte result (statement_of (label_parts self.entry.labels.now)
+        ensures { GivesByte result (statement_of (names_of self.entry.names.now)
             self.entry.image.now span.begin span.end text.now) }
     {
         if text == "ends" {

@@ -2,6 +2,7 @@
 
 use explore_properties::{Claim, Properties, PropertyFault, When, read_properties};
 use listing_labels::labels_of;
+use listing_maps::Names;
 use listings::read_listing;
 use std::alloc::Global;
 use std::process::Abort;
@@ -86,7 +87,11 @@ fn with_listing(alloc: Global, lines: &str, end: &str) -> Result<Vec<u8>, Fail> 
 fn fault_of(alloc: Global, text: &[u8]) -> Result<Option<(usize, usize)>, Fail> {
     let image = read_listing(alloc, text)?;
     let labels = labels_of(alloc, &image, text)?;
-    match read_properties(alloc, &labels, &image, text) {
+    let names = Names {
+        labels: &labels,
+        sources: None,
+    };
+    match read_properties(alloc, &names, &image, text) {
         Ok(_) => Ok(None),
         Err(PropertyFault::Place(place)) => Ok(Some((place.line, place.byte))),
         Err(PropertyFault::NoMemory) => Ok(None),
@@ -172,7 +177,11 @@ fn properties_are_read(rt: HostRuntime) -> Result<(), Fail> {
     let text = with_listing(alloc, LINES, "")?;
     let image = read_listing(alloc, text.as_slice())?;
     let labels = labels_of(alloc, &image, text.as_slice())?;
-    let Ok(read) = read_properties(alloc, &labels, &image, text.as_slice()) else {
+    let names = Names {
+        labels: &labels,
+        sources: None,
+    };
+    let Ok(read) = read_properties(alloc, &names, &image, text.as_slice()) else {
         return Err(Fail::from("the lines are at fault"));
     };
     assert!(rt; are_known(&read), "the properties are others");

@@ -154,3 +154,27 @@ returns-clause-explained_in_json c = refl
 pub returns-clause-explained_outcomes : goal.returns-clause-explained_outcomes
 unfolding clap_on_literals explore_asked explore_asked_of question_of sweep_of sweeps_of decimal_within number_in number_of
 returns-clause-explained_outcomes c = refl
+
+pub returns-clause-find_mapped : goal.returns-clause-find_mapped
+unfolding clap_on_literals explore_asked explore_asked_of question_of sweep_of sweeps_of decimal_within number_in number_of
+returns-clause-find_mapped c = refl
+
+pub returns-clause-check_mapped : goal.returns-clause-check_mapped
+unfolding clap_on_literals explore_asked explore_asked_of question_of sweep_of sweeps_of decimal_within number_in number_of
+returns-clause-check_mapped c = refl
+
+pub returns-clause-mapped_twice : goal.returns-clause-mapped_twice
+unfolding clap_on_literals explore_asked explore_asked_of question_of sweep_of sweeps_of decimal_within number_in number_of
+returns-clause-mapped_twice c = refl
+
+pub returns-clause-map_without_a_name : goal.returns-clause-map_without_a_name
+unfolding clap_on_literals explore_asked explore_asked_of question_of sweep_of sweeps_of decimal_within number_in number_of
+returns-clause-map_without_a_name c = refl
+
+pub returns-clause-mapped_outcomes : goal.returns-clause-mapped_outcomes
+unfolding clap_on_literals explore_asked explore_asked_of question_of sweep_of sweeps_of decimal_within number_in number_of
+returns-clause-mapped_outcomes c = refl
+
+pub returns-clause-mapped_authority : goal.returns-clause-mapped_authority
+unfolding clap_on_literals explore_asked explore_asked_of question_of sweep_of sweeps_of decimal_within number_in number_of
+returns-clause-mapped_authority c = refl

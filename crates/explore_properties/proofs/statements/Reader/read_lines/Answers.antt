@@ -3,7 +3,7 @@ use Rattle.std.proofs.lemmas.List.{length_push}
 use Rattle.std.proofs.lemmas.Iterator.Consumers.{YieldsList-at}
 use Rattle.std.proofs.lemmas.Iterator.Splits.{YieldsList-from_slice_split}
 use Rattle.grammar.specs.Lines.{lines_of}
-use Rattle.grammar.specs.LabelMap.{label_parts}
+use Rattle.listing_maps.specs.Names.{names_of}
 use Rattle.grammar.proofs.ChainLemmas.{turn_of, end_of, from_here}
 use Rattle.grammar.proofs.PlainTexts.{plain_at}
 use Rattle.explore_properties.proofs.ReadingLemmas.{after_line, at_fault, after_last}
@@ -33,7 +33,7 @@ loop-bytes-preserved c =
     let more = length_push c.loop-bytes.yielded c.in-Some.bytes in
     let place : c.loop-bytes.line ≡ length c.loop-bytes.yielded + 1 = c.loop-bytes.invariant.0 in (
       omega (arith, more, place),
-      rw more (after_line (label_parts c.args.self.labels.now) c.args.self.image.now _ _ _ _ _ _ c.in-Ok.ensures (rw here at c.loop-bytes.invariant.1)),
+      rw more (after_line (names_of c.args.self.names.now) c.args.self.image.now _ _ _ _ _ _ c.in-Ok.ensures (rw here at c.loop-bytes.invariant.1)),
     )
 
 pub returns : goal.returns

@@ -1,0 +1,2 @@
+pub mod SymbolLemmas
+pub mod NameLemmas
