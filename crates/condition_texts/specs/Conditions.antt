@@ -140,7 +140,7 @@ abbrev pub nodes_or_byte : List ℕ → List (ℕ × List ℕ) → Result Formul
 nodes_or_byte text words (Ok formula) = Ok (nodes_of formula)
 nodes_or_byte text words (Err number) = Err (start_of text (slice_get words number))
 
--- the nodes of the condition that a text writes, for an image and the labels of its listing, or the
+-- the nodes of the condition that a text writes, for an image and the labels beside it, or the
 -- byte of its fault: where the first word begins that can't stand where it is, or the text's end
 unfoldable pub condition_of : LabelParts → ImageParts → List ℕ → Result (List Node) ℕ
 condition_of labels image text =

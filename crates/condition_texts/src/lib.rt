@@ -1,5 +1,5 @@
 //! Reading conditions, and the items by which outcomes are shown: what their texts mean for an
-//! image and the labels of its listing.
+//! image and what may be named beside its listing.
 #![tactic(auto)]
 
 mod atoms;

@@ -19,6 +19,7 @@ use Rattle.explore_properties.specs.Reading.{GivesPlace}
 use Rattle.explore_properties.specs.declared.fault.PropertyFault.{PropertyFault}
 use Rattle.explore_properties.specs.declared.fault.PropertyFault.TheVariants as properties
 use Rattle.explore_properties.specs.declared.fault.PropertyPlace.{PropertyPlace}
+use Rattle.explore_program.specs.Listings.{ListedParts}
 use Rattle.explore_program.specs.Questions.{explained_text, IsExplained, IsSaid, IsSaidOf, range_of, swept_by}
 use Rattle.schedules.specs.declared.ranges.SweepRange.{SweepRange}
 use Rattle.shown_states.specs.declared.form.Format.{Format}
@@ -75,22 +76,22 @@ properties_fail answers meaning (properties.Place place) old new is same = (refu
 properties_fail answers meaning properties.NoMemory old new is same = inl same
 
 -- what was read of a listing is checked
-pub check_asked : (search : SearchParts) (explained : Bool) (text : List ℕ) (sweeps : List SweepRange) (read : PropertiesParts)
+pub check_asked : (search : SearchParts) (explained : Bool) (listed : ListedParts) (sweeps : List SweepRange) (read : PropertiesParts)
     (list : List PropertyParts) (format : Format) (meaning : Result PropertiesParts PropertyPlace) → meaning ≡ Ok read
     → sweeps ≡ map range_of read.sweeps → list ≡ read.properties → (answer : Answer Ending Fault)
-    → IsSaid (IsExplained explained text search.image (IsCheckAnswer (record search { sweeps = sweeps }) list format)) answer
-    → IsSaidOf property_fault (λ r. IsExplained explained text search.image (IsCheckAnswer (swept_by search r) r.properties format)) meaning answer
-check_asked search explained text sweeps read list format meaning is sweeps_are list_is answer said =
-    said_of property_fault (λ r. IsExplained explained text search.image (IsCheckAnswer (swept_by search r) r.properties format)) meaning read is answer
+    → IsSaid (IsExplained explained listed search.image (IsCheckAnswer (record search { sweeps = sweeps }) list format)) answer
+    → IsSaidOf property_fault (λ r. IsExplained explained listed search.image (IsCheckAnswer (swept_by search r) r.properties format)) meaning answer
+check_asked search explained listed sweeps read list format meaning is sweeps_are list_is answer said =
+    said_of property_fault (λ r. IsExplained explained listed search.image (IsCheckAnswer (swept_by search r) r.properties format)) meaning read is answer
     (subst (λ (ss : List SweepRange).
-    IsSaid (IsExplained explained text search.image (IsCheckAnswer (record search { sweeps = ss }) read.properties format)) answer) sweeps_are
+    IsSaid (IsExplained explained listed search.image (IsCheckAnswer (record search { sweeps = ss }) read.properties format)) answer) sweeps_are
     (subst (λ (ps : List PropertyParts).
-    IsSaid (IsExplained explained text search.image (IsCheckAnswer (record search { sweeps = sweeps }) ps format)) answer) list_is said))
+    IsSaid (IsExplained explained listed search.image (IsCheckAnswer (record search { sweeps = sweeps }) ps format)) answer) list_is said))
 
 -- ---- an answer with its orders
 
 -- what was answered and explained, is said
-pub explained_is : (explained : Bool) (text : List ℕ) (image : ImageParts) (answers : List (List Op) → List ℕ → Ending → Type 0)
+pub explained_is : (explained : Bool) (listed : ListedParts) (image : ImageParts) (answers : List (List Op) → List ℕ → Ending → Type 0)
     (orders : List (List Op)) (told : List ℕ) (ending : Ending) → answers orders told ending
-    → IsExplained explained text image answers (explained_text explained text image orders told) ending
-explained_is explained text image answers orders told ending is = record { orders = orders; told = told; answer = is; said_is = refl }
+    → IsExplained explained listed image answers (explained_text explained listed image orders told) ending
+explained_is explained listed image answers orders told ending is = record { orders = orders; told = told; answer = is; said_is = refl }

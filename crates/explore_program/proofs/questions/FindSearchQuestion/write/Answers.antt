@@ -4,6 +4,7 @@ use Rattle.shown_states.proofs.AnswerLemmas.{memory_begun, memory_fails, so_writ
 use Rattle.std.specs.Prelude.{string_bytes}
 use Rattle.states.specs.Searches.{search_of}
 use Rattle.found_texts.specs.Find.{IsFindAnswer}
+use Rattle.explore_program.specs.Listings.{listed_of}
 use Rattle.explore_program.specs.Questions.{explained_text, IsExplained}
 use Rattle.explore_program.proofs.QuestionLemmas.{explained_is}
 use Rattle.explore_program.proofs.questions.FindSearchQuestion.write.Goals as goal
@@ -23,8 +24,8 @@ returns-clause-written g c =
     let q = c.args.self.now in
     let explaining = q.explaining in
     let answers = IsFindAnswer (search_of q.search) q.condition.now q.format in
-    so_written (IsExplained explaining.explained explaining.text.now q.search.image.now answers) _ _ c.put_told.result _ _
-    (explained_is explaining.explained explaining.text.now q.search.image.now answers (orders_of c.in_ok-told.told.orders.items)
+    so_written (IsExplained explaining.explained (listed_of explaining.listed) q.search.image.now answers) _ _ c.put_told.result _ _
+    (explained_is explaining.explained (listed_of explaining.listed) q.search.image.now answers (orders_of c.in_ok-told.told.orders.items)
     (string_bytes c.in_ok-told.told.answer.text) c.in_ok-told.told.answer.ending c.in_ok-told.ensures.says) c.put_told.ensures.written
 
 pub returns-clause-begun : goal.returns-clause-begun
@@ -32,6 +33,6 @@ returns-clause-begun g c =
     let q = c.args.self.now in
     let explaining = q.explaining in
     let answers = IsFindAnswer (search_of q.search) q.condition.now q.format in
-    so_begun (IsExplained explaining.explained explaining.text.now q.search.image.now answers) _ _ c.put_told.result _ _
-    (explained_is explaining.explained explaining.text.now q.search.image.now answers (orders_of c.in_ok-told.told.orders.items)
+    so_begun (IsExplained explaining.explained (listed_of explaining.listed) q.search.image.now answers) _ _ c.put_told.result _ _
+    (explained_is explaining.explained (listed_of explaining.listed) q.search.image.now answers (orders_of c.in_ok-told.told.orders.items)
     (string_bytes c.in_ok-told.told.answer.text) c.in_ok-told.told.answer.ending c.in_ok-told.ensures.says) c.put_told.ensures.begun
