@@ -1,5 +1,5 @@
 -- What words name beside a listing, by what they name in it.
-use Rattle.std.proofs.Common.{◌≡◌, ℕ, Bool, true, false, cond, List, drop, Option, Some, None, Result, Ok, Err, refl}
+use Rattle.std.proofs.Common.{◌≡◌, ℕ, Bool, true, false, cond, List, drop, Option, Some, None, Result, Ok, Err, refl, sym, ap, ◌∙◌}
 use Rattle.std.specs.Prelude.{option_map}
 use Rattle.asm_map_reader.specs.Sources.{SourceParts}
 use Rattle.grammar.specs.Faults.{◌>>=◌}
@@ -56,3 +56,22 @@ target_named labels None operand = refl
 target_named labels (Some sources) (Number number) = refl
 target_named labels (Some sources) (Named (Some number)) = refl
 target_named labels (Some sources) (Named None) = refl
+
+-- what is read of a word, by what the listing's labels say of it
+module _ (labels : LabelParts) (sources : Option (List SourceParts)) (word : List ℕ) where
+  pub no_operand : (fault : ListingFaultKind) → target_operand_of labels word ≡ Err fault → Err fault ≡ target_operand_of (named labels sources) word
+  no_operand fault is = sym (operand_named labels sources word ∙ ap (or_symbol (symbol_in word sources)) is)
+
+  pub symbol_operand : target_operand_of labels word ≡ Ok (Named None)
+      → Ok (Named (symbol_in word sources)) ≡ target_operand_of (named labels sources) word
+  symbol_operand is = sym (operand_named labels sources word ∙ ap (or_symbol (symbol_in word sources)) is)
+
+  pub label_operand : (number : ℕ) → target_operand_of labels word ≡ Ok (Named (Some number))
+      → Ok (Named (Some number)) ≡ target_operand_of (named labels sources) word
+  label_operand number is = sym (operand_named labels sources word ∙ ap (or_symbol (symbol_in word sources)) is)
+
+  pub number_operand : (number : Option ℕ) → target_operand_of labels word ≡ Ok (Number number)
+      → Ok (Number number) ≡ target_operand_of (named labels sources) word
+  number_operand number is = sym (operand_named labels sources word ∙ ap (or_symbol (symbol_in word sources)) is)
+
+pub ruleset names = (no_operand, symbol_operand, label_operand, number_operand, target_named)

@@ -1,4 +1,5 @@
 //! What conditions beside a listing may name.
+#![tactic(auto, using(crate::proofs::NameLemmas::names))]
 
 ghost use Rattle.std.specs.Prelude.{◌≡◌, map, option_and_then, option_map};
 ghost use Rattle.asm_map_reader.specs.Sources.{source_parts};
@@ -25,7 +26,7 @@ impl Names<'_> {
         ensures { result ≡ symbol_in name.now (option_map sources_parts self.now.sources) }
     {
         let sources = self.sources?;
-        symbol_at(sources, name)
+        symbol_at(name, sources)
     }
 
     /// The target that a word writes: `@` and decimal digits, or a name. A label goes before a

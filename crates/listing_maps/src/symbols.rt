@@ -1,7 +1,8 @@
 //! The symbols of a map.
-#![tactic(auto, using(crate::proofs::SymbolLemmas::symbols), unfolding(crate::specs::Symbols::symbol_place))]
+#![tactic(auto, using(crate::proofs::SymbolLemmas::symbols))]
 
-ghost use Rattle.std.specs.Prelude.{◌≡◌, map, option_map};
+ghost use Rattle.std.specs.Prelude.{◌≡◌, ◌<◌, IfSome, length, map, option_map, position};
+ghost use Rattle.std.specs.List.{list_any};
 ghost use Rattle.asm_map_reader.specs.Lines.{label_parts};
 ghost use Rattle.asm_map_reader.specs.Sources.{source_parts};
 ghost use Rattle.listing_maps.specs.Symbols.{is_at, is_label_at, symbol_at, symbol_place};
@@ -11,7 +12,7 @@ use asm_maps::Label;
 
 /// Whether an instruction with this label before it is at the beginning of a symbol.
 fn is_label_at(name: &[u8], label: Option<Label<'_>>) -> bool
-    ensures { result ≡ is_label_at name.now (option_map label_parts label) }
+    ensures { result ≡ is_label_at name.now (option_map label_parts label.entry) }
 {
     match label {
         Some(label) => label.offset == 0 && label.name.as_bytes() == name,
@@ -21,7 +22,7 @@ fn is_label_at(name: &[u8], label: Option<Label<'_>>) -> bool
 
 /// Whether the instruction that comes from there is.
 fn is_at(name: &[u8], source: Source<'_>) -> bool
-    ensures { result ≡ is_at name.now (source_parts source) }
+    ensures { result ≡ is_at name.now (source_parts source.entry) }
 {
     match source {
         Source::Statement { label, .. } => is_label_at(name, label),
@@ -29,12 +30,29 @@ fn is_at(name: &[u8], source: Source<'_>) -> bool
     }
 }
 
+/// The number of the first instruction that is.
+fn first_at(name: &[u8], sources: &[Source<'_>]) -> Option<usize>
+    ensures is { result
+        ≡ position (λ source. is_at name.now (source_parts source)) sources.now }
+    ensures room { IfSome result (λ first. first < length sources.now) }
+{
+    sources.iter().position(|source| is_at(name, *source))
+}
+
+/// Whether one of them is.
+fn is_any_at(name: &[u8], sources: &[Source<'_>]) -> bool
+    ensures { result ≡ list_any (λ source. is_at name.now (source_parts source)) sources.now }
+{
+    sources.iter().any(|source| is_at(name, *source))
+}
+
 /// The number of the instruction at the beginning of a symbol, if there is just one.
-fn symbol_place(sources: &[Source<'_>], name: &[u8]) -> Option<usize>
+fn symbol_place(name: &[u8], sources: &[Source<'_>]) -> Option<usize>
     ensures { result ≡ symbol_place name.now (map source_parts sources.now) }
 {
-    let first = sources.iter().position(|source| is_at(name, *source))?;
-    if sources[first + 1..].iter().any(|source| is_at(name, *source)) {
+    let first = first_at(name, sources)?;
+    let later = &sources[first + 1..];
+    if is_any_at(name, later) {
         None
     } else {
         Some(first)
@@ -42,10 +60,10 @@ fn symbol_place(sources: &[Source<'_>], name: &[u8]) -> Option<usize>
 }
 
 /// The same as a target's number.
-pub(crate) fn symbol_at(sources: &[Source<'_>], name: &[u8]) -> Option<u32>
+pub(crate) fn symbol_at(name: &[u8], sources: &[Source<'_>]) -> Option<u32>
     ensures { result ≡ symbol_at name.now (map source_parts sources.now) }
 {
-    let place = symbol_place(sources, name)?;
+    let place = symbol_place(name, sources)?;
     if place <= u32::MAX as usize {
         Some(place as u32)
     } else {
