@@ -1,23 +1,22 @@
 -- What a graph keeps while it learns.
-use Rattle.std.proofs.Common.{◌≡◌, ℕ, ◌-◌, ◌*◌, ◌<◌, ◌≤◌, List, [], ◌∷◌, ◌++◌, length, arith, ap, sym, ◌∙◌, subst}
+use Rattle.std.proofs.Common.{◌≡◌, ℕ, ◌-◌, ◌*◌, ◌<◌, ◌≤◌, List, [], ◌∷◌, ◌++◌, length, arith, ap, sym, ◌∙◌, subst, ◌⊎◌}
 use Rattle.std.specs.Prelude.{Some, Result, IfOk, OnErr, Bool, nat_lt, if◌then◌else◌, take}
 use Rattle.cap_model.specs.values.CapValue.{CapValue}
 use Rattle.cheri_model.specs.steps.Hart.{HartState}
 use Rattle.cheri_model.specs.runs.Image.{ImageParts}
 use Rattle.explore_sights.specs.declared.sights.Sight.{Sight}
 use Rattle.explore_turns.specs.Turns.{resting}
-use Rattle.interner.specs.Rows.{Rows, IsInterned}
 use Rattle.schedules.specs.declared.ranges.SweepRange.{SweepRange}
 use Rattle.state_store.specs.Numbered.{IsThereOrLast}
 use Rattle.state_store.specs.Stores.{Stored, hart_at, Keeps}
-use Rattle.states.specs.declared.locals.LocalStep.{LocalStep}
+use Rattle.states.specs.declared.steps.KnownStep.{KnownStep}
 use Rattle.states.specs.Locals.{site_of, IsLocalStep, IsTabled}
 use Rattle.states.specs.Graphs.{IsGraph}
 use Rattle.states.proofs.SizeLemmas.{sizes_of}
-use Rattle.states.proofs.TableLemmas.{tabled_same, tabled_numbered, tabled_kept}
+use Rattle.states.proofs.TableLemmas.{tabled_same, tabled_numbered, tabled_step}
 
-module _ (image : ImageParts) (sweeps : List SweepRange) (sight : Sight) (a : Stored) (sites : List ℕ) (keys : Rows)
-    (steps : List LocalStep) (ram : List CapValue) (row : List ℕ) (was : IsGraph image sweeps sight a sites keys steps ram row) where
+module _ (image : ImageParts) (sweeps : List SweepRange) (sight : Sight) (a : Stored) (sites : List ℕ)
+    (steps : List KnownStep) (ram : List CapValue) (row : List ℕ) (was : IsGraph image sweeps sight a sites steps ram row) where
   abbrev rests : HartState → HartState
   rests = resting image sweeps sight
 
@@ -35,15 +34,14 @@ module _ (image : ImageParts) (sweeps : List SweepRange) (sight : Sight) (a : St
 
   -- the store and the row in which memories are made changed, and no hart is new
   pub graph_stored : (b : Stored) (row' : List ℕ) → Keeps a b → length b.harts ≡ length a.harts →
-      length row' ≡ length row → IsGraph image sweeps sight b sites keys steps ram row'
+      length row' ≡ length row → IsGraph image sweeps sight b sites steps ram row'
   graph_stored b row' keeps same size = record {
     formed = was.formed;
     few = was.few;
     granules = ap (λ (n : ℕ). 16 * n) keeps.granules ∙ was.granules;
-    width = was.width;
     ram_size = was.ram_size ∙ sym keeps.granules;
     row_size = size ∙ (was.row_size ∙ sym keeps.granules);
-    tabled = tabled_same image.program rests a b sites keys.rows steps keeps same was.tabled;
+    tabled = tabled_same image.program rests a b sites steps keeps same was.tabled;
   }
 
   -- a hart got a number
@@ -52,33 +50,27 @@ module _ (image : ImageParts) (sweeps : List SweepRange) (sight : Sight) (a : St
       grown ≡ nat_lt (length a.harts) (length b.harts) → IfOk result (λ id. hart_at b id ≡ Some hart) →
       IfOk result (λ id. IsThereOrLast a.harts b.harts id) → OnErr result (b.harts ≡ a.harts) →
       sites' ≡ (if grown then sites ++ site ∷ [] else take (length (sites ++ site ∷ []) - 1) (sites ++ site ∷ [])) →
-      IsGraph image sweeps sight b sites' keys steps ram row
+      IsGraph image sweeps sight b sites' steps ram row
   graph_numbered {E} b sites' hart result site grown keeps same rested is there added refused left = record {
     formed = was.formed;
     few = was.few;
     granules = ap (λ (n : ℕ). 16 * n) keeps.granules ∙ was.granules;
-    width = was.width;
     ram_size = was.ram_size ∙ sym keeps.granules;
     row_size = was.row_size ∙ sym keeps.granules;
-    tabled = subst (λ (ss : List ℕ). IsTabled image.program rests b ss keys.rows steps) (sym left)
-        (tabled_numbered image.program rests a b sites keys.rows steps hart result site grown keeps same rested is there added refused
+    tabled = subst (λ (ss : List ℕ). IsTabled image.program rests b ss steps) (sym left)
+        (tabled_numbered image.program rests a b sites steps hart result site grown keeps same rested is there added refused
         was.tabled);
   }
 
-  -- a step got a number
-  pub graph_kept : {E : Type 0} (keys' : Rows) (steps' : List LocalStep) (h v : ℕ) (after : LocalStep)
-      (result : Result ℕ E) (grown : Bool) → IsLocalStep image.program rests a h v after → keys'.width ≡ keys.width →
-      grown ≡ nat_lt (length keys.rows) (length keys'.rows) →
-      IfOk result (λ n. IsInterned keys keys' (h ∷ v ∷ []) n) → OnErr result (keys' ≡ keys) →
-      steps' ≡ (if grown then steps ++ after ∷ [] else take (length (steps ++ after ∷ []) - 1) (steps ++ after ∷ [])) →
-      IsGraph image sweeps sight a sites keys' steps' ram row
-  graph_kept {E} keys' steps' h v after result grown step width is added refused left = record {
+  -- a step was kept
+  pub graph_kept : (steps' : List KnownStep) (step : KnownStep) →
+      IsLocalStep image.program rests a step.hart step.value step.after →
+      (steps' ≡ steps) ⊎ (steps' ≡ steps ++ step ∷ []) → IsGraph image sweeps sight a sites steps' ram row
+  graph_kept steps' step is kept = record {
     formed = was.formed;
     few = was.few;
     granules = was.granules;
-    width = width ∙ was.width;
     ram_size = was.ram_size;
     row_size = was.row_size;
-    tabled = subst (λ (ss : List LocalStep). IsTabled image.program rests a sites keys'.rows ss) (sym left)
-        (tabled_kept image.program rests a sites keys keys' steps h v after result grown was.tabled step is added refused);
+    tabled = tabled_step image.program rests a sites steps steps' step was.tabled is kept;
   }

@@ -1,5 +1,5 @@
 -- What is so of the states that a search kept.
-use Rattle.std.proofs.Common.{◌≡◌, ℕ, zero, suc, ◌+◌, ◌-◌, ◌<◌, inl, inr, nat_lt, List, [], ◌∷◌, ◌++◌, length, arith, ap, sym, ◌∙◌, refl, subst, reverse}
+use Rattle.std.proofs.Common.{◌≡◌, ℕ, zero, suc, ◌+◌, ◌-◌, ◌<◌, ◌≤◌, inl, inr, nat_lt, List, [], ◌∷◌, ◌++◌, length, arith, ap, sym, ◌∙◌, refl, subst, reverse}
 use Rattle.std.specs.Prelude.{Option, option_map, Some, None, IsSome, slice_get, slice_index_or, Bool, true, ◌*◌}
 use Rattle.std.proofs.lemmas.Bool.{cases_Bool, both_ways}
 use Rattle.std.proofs.lemmas.Bool.Decides.{nat_tests}
@@ -30,10 +30,12 @@ use Rattle.state_store.proofs.NumberedLemmas.{then_some, each_length}
 use Rattle.state_store.proofs.ViewLemmas.{row_of_memory}
 use Rattle.state_store.proofs.SeenLemmas.{memory_there}
 use Rattle.states.specs.Graphs.{GraphParts, state_in, turn_in}
-use Rattle.states.specs.Kept.{KeptParts, graph_of, at, edge, count, IsKept, IsSearch, IsWitnessOrder, AreWitnessTurns, AreAllKept, IsFirstPassing, NonePasses}
+use Rattle.states.specs.Kept.{KeptParts, kept_of, graph_of, at, edge, count, IsKept, IsSearch, IsWitnessOrder, AreWitnessTurns, AreAllKept, IsFirstPassing}
+use Rattle.states.specs.Kept.{KeepsNumbers, NonePasses}
 use Rattle.states.proofs.NodeLemmas.{node_of, is_some}
 use Rattle.states.proofs.OpeningLemmas.{opening_granules}
-use Rattle.states.proofs.MeaningLemmas.{same_meaning}
+use Rattle.states.proofs.MeaningLemmas.{same_meaning, states_in}
+use Rattle.states.proofs.NumberLemmas.{same_numbers}
 
 -- a graph that was searched
 pub searched : (g : GraphParts) (image : ImageParts) (sweeps : List SweepRange) (sight : Sight) (found : Found) (limit : ℕ) →
@@ -61,6 +63,20 @@ pub first_state : (image : ImageParts) (sweeps : List SweepRange) (sight : Sight
 first_state image sweeps sight g found limit kept =
     ap (λ (m : List ℕ → Option MachineState). state_at m found.nodes 0) (same_meaning g image sweeps sight kept.harts)
     ∙ kept.search.first
+
+-- a search that went on keeps the numbers of its states
+pub numbers_kept : (image : ImageParts) (sweeps : List SweepRange) (sight : Sight) (g h : GraphParts) (before after : Found) (limit more : ℕ) →
+    turn_in h ≡ turn_in g → IsKept image sweeps sight g before limit → IsKept image sweeps sight h after more →
+    length before.nodes ≤ more →
+    KeepsNumbers (kept_of image sweeps sight g.store before limit) (kept_of image sweeps sight h.store after more)
+numbers_kept image sweeps sight g h before after limit more same old new enough i below =
+    let stands = subst (λ (f : MachineState → ℕ → Option MachineState). Reaches f (state_in g) limit
+    (length before.nodes) before.nodes before.edges before.cut) (sym same) old.stands in
+    let first = first_state image sweeps sight g before limit old ∙ sym (first_state image sweeps sight h after more new) in
+    ap (λ (f : ℕ → Option MachineState). f i) (states_in image sweeps sight h after more new)
+    ∙ (same_numbers (turn_in h) (state_in g) (state_in h) limit more before.nodes after.nodes before.edges after.edges before.cut
+    after.cut stands new.stands enough first i below
+    ∙ sym (ap (λ (f : ℕ → Option MachineState). f i) (states_in image sweeps sight g before limit old)))
 
 -- where its turns begin
 abbrev start_of : KeptParts → MachineState

@@ -1,4 +1,5 @@
 pub mod TouchLemmas
+pub mod KnownLemmas
 pub mod TableLemmas
 pub mod SizeLemmas
 pub mod OpeningLemmas
@@ -11,5 +12,6 @@ pub mod EdgeLemmas
 pub mod KeepLemmas
 pub mod LabelLemmas
 pub mod MeaningLemmas
+pub mod NumberLemmas
 pub mod KeptLemmas
 pub mod SearchLemmas

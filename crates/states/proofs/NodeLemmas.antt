@@ -18,7 +18,7 @@ use Rattle.state_store.proofs.NumberedLemmas.{some_of, then_some, each_parts}
 use Rattle.states.proofs.RowLemmas.{each_none}
 use Rattle.state_store.proofs.StoreLemmas.{state_of_kept, keeps_self, keeps_on, state_parts}
 use Rattle.state_store.proofs.SeenLemmas.{seen_memory, seen_hart, seen_count}
-use Rattle.states.specs.declared.locals.LocalStep.{LocalStep}
+use Rattle.states.specs.declared.steps.KnownStep.{KnownStep}
 use Rattle.states.specs.Locals.{touched, site_of, stopped, IsTabled}
 use Rattle.states.specs.Graphs.{GraphParts, state_in, Continues, rests_in, rest_in, turn_in}
 use Rattle.states.proofs.TouchLemmas.{touched_within}
@@ -76,11 +76,11 @@ pub is_some : {A : Type 0} (o : Option A) (x : A) → o ≡ Some x → IsSome o
 is_some {A} o x is = subst (λ (p : Option A). IsSome p) (sym is) refl
 
 -- the site of a hart
-pub site_there : (program : List Instr) (rests : HartState → HartState) (store : Stored) (sites : List ℕ) (keys : List (List ℕ)) (steps : List LocalStep)
-    (id : ℕ) (h : HartState) → IsTabled program rests store sites keys steps → hart_at store id ≡ Some h →
+pub site_there : (program : List Instr) (rests : HartState → HartState) (store : Stored) (sites : List ℕ) (steps : List KnownStep)
+    (id : ℕ) (h : HartState) → IsTabled program rests store sites steps → hart_at store id ≡ Some h →
     (id < length sites) × ((d : ℕ) → slice_index_or sites id d ≡ site_of program store.granules h)
 unfolding hart_at
-site_there program rests store sites keys steps id h tabled is =
+site_there program rests store sites steps id h tabled is =
     let row = then_some (hart_of store.values) (slice_get store.harts id) h is in
     let below : id < length store.harts = slice_get_within store.harts id row.0 row.1 in
     let even = tabled.even in
@@ -139,11 +139,10 @@ states_same g image sweeps sight s first second third =
     ∙ (ap (λ (ss : List SweepRange). rest_by image ss g.sight s) second ∙ ap (λ (x : Sight). rest_by image sweeps x s) third)
 
 -- a hart with a number is at its rest
-pub hart_rests : (program : List Instr) (rests : HartState → HartState) (store : Stored) (sites : List ℕ) (keys : List (List ℕ))
-    (steps : List LocalStep) (id : ℕ) (h : HartState) → IsTabled program rests store sites keys steps →
+pub hart_rests : (program : List Instr) (rests : HartState → HartState) (store : Stored) (sites : List ℕ) (steps : List KnownStep) (id : ℕ) (h : HartState) → IsTabled program rests store sites steps →
     hart_at store id ≡ Some h → rests h ≡ h
 unfolding hart_at
-hart_rests program rests store sites keys steps id h tabled is =
+hart_rests program rests store sites steps id h tabled is =
     let row = then_some (hart_of store.values) (slice_get store.harts id) h is in
     let below : id < length store.harts = slice_get_within store.harts id row.0 row.1 in
     let even = tabled.even in
@@ -162,13 +161,13 @@ each_rests f rests known (id ∷ ids) hs is =
     ∙ ap (λ (l : List HartState). p.0 ∷ l) (each_rests f rests known ids p.1 p.3))
 
 -- so each hart of a node is
-pub node_rests : (g : GraphParts) (sites : List ℕ) (keys : List (List ℕ)) (steps : List LocalStep) (node : List ℕ) (s : MachineState) →
-    IsTabled g.image.program (rests_in g) g.store sites keys steps → state_in g node ≡ Some s → map (rests_in g) s.harts ≡ s.harts
+pub node_rests : (g : GraphParts) (sites : List ℕ) (steps : List KnownStep) (node : List ℕ) (s : MachineState) →
+    IsTabled g.image.program (rests_in g) g.store sites steps → state_in g node ≡ Some s → map (rests_in g) s.harts ≡ s.harts
 unfolding state_of
-node_rests g sites keys steps [] s tabled is = absurd (none-some s (opened g [] s is).1)
-node_rests g sites keys steps (m ∷ ids) s tabled is =
+node_rests g sites steps [] s tabled is = absurd (none-some s (opened g [] s is).1)
+node_rests g sites steps (m ∷ ids) s tabled is =
     each_rests (hart_at g.store) (rests_in g)
-    (λ id h at. hart_rests g.image.program (rests_in g) g.store sites keys steps id h tabled at) ids s.harts
+    (λ id h at. hart_rests g.image.program (rests_in g) g.store sites steps id h tabled at) ids s.harts
     (state_parts g.store m ids s (opened g (m ∷ ids) s is).1).1
 
 pub continues_self : (g : GraphParts) → Continues g g
@@ -196,13 +195,13 @@ pub record IsReady (g : GraphParts) (node : List ℕ) (s : MachineState) (j site
   pub touches : site ≡ touched g.image.program g.store.granules (machine.hart_at s j)
   pub within : site < g.store.granules
 
-pub ready : (g : GraphParts) (sites : List ℕ) (keys : List (List ℕ)) (steps : List LocalStep) (node : List ℕ) (s : MachineState)
-    (j site : ℕ) → IsTabled g.image.program (rests_in g) g.store sites keys steps → 0 < g.store.granules → state_in g node ≡ Some s →
+pub ready : (g : GraphParts) (sites : List ℕ) (steps : List KnownStep) (node : List ℕ) (s : MachineState)
+    (j site : ℕ) → IsTabled g.image.program (rests_in g) g.store sites steps → 0 < g.store.granules → state_in g node ≡ Some s →
     j < length g.image.harts → site ≡ slice_index_or sites (slice_index_or node (j + 1) 0) site → site ≢ stopped →
     IsReady g node s j site
-ready g sites keys steps node s j site tabled some is there looked runs =
+ready g sites steps node s j site tabled some is there looked runs =
     let n = node_of g node s is in
-    let at = looked ∙ (site_there g.image.program (rests_in g) g.store sites keys steps (slice_index_or node (j + 1) 0) (machine.hart_at s j)
+    let at = looked ∙ (site_there g.image.program (rests_in g) g.store sites steps (slice_index_or node (j + 1) 0) (machine.hart_at s j)
     tabled (n.hart j there)).1 site in
     let r = site_of_running g.image.program g.store.granules (machine.hart_at s j) site at runs in
     record {

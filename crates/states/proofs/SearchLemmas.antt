@@ -1,13 +1,13 @@
 -- What is so of the turns of a search, and of all its states.
-use Rattle.std.proofs.Common.{◌≡◌, ◌∙◌, List, sym, subst}
-use Rattle.std.specs.Prelude.{Bool, IfOk, None, Result, Ok, Err}
+use Rattle.std.proofs.Common.{◌≡◌, ◌∙◌, ℕ, ◌<◌, List, sym, subst}
+use Rattle.std.specs.Prelude.{Bool, false, IfOk, Option, Some, None, is_some, Result, Ok, Err}
 use Rattle.cheri_model.specs.runs.Image.{ImageParts}
 use Rattle.cheri_model.specs.runs.Machine.{MachineState}
 use Rattle.explore_sights.specs.Sights.{hides, sight_of}
 use Rattle.explore_sights.specs.declared.sights.Sight.{Sight}
 use Rattle.explore_turns.specs.Turns.{KeepsPassing}
 use Rattle.schedules.specs.declared.ranges.SweepRange.{SweepRange}
-use Rattle.states.specs.Kept.{KeptParts, AreAllKept, IsFirstPassing, IsKeptOf, NonePasses}
+use Rattle.states.specs.Kept.{KeptParts, count, AreAllKept, IsFirstPassing, IsKeptOf, KeepsNumbers, NonePasses, NonePassesBefore}
 use Rattle.states.specs.Searches.{AreTurnsOf, SearchParts}
 use Rattle.states.proofs.KeptLemmas.{none_passes}
 
@@ -31,3 +31,10 @@ none_of_search search sees kept passing kept_of keeps all first =
     let seen = subst (λ (x : Sight). KeepsPassing (hides x) passing) (sym kept_of.sight_is) keeps in
     subst (λ (i : ImageParts). NonePasses i search.sweeps passing) kept_of.image_is
     (subst (λ (ss : List SweepRange). NonePasses kept.image ss passing) kept_of.sweeps_are (none_passes kept passing seen all first))
+
+-- of states that keep their numbers none passes that didn't before
+pub none_so_far : (before after : KeptParts) (passing : MachineState → Bool) (state : Option ℕ) (number : ℕ) → KeepsNumbers before after →
+    IsFirstPassing before passing state → is_some state ≡ false → number ≡ count before → NonePassesBefore after passing number
+none_so_far before after passing None number keeps first none is i s below at =
+    first i s (sym (keeps i (subst (λ (n : ℕ). i < n) is below)) ∙ at)
+none_so_far before after passing (Some k) number keeps first none is i s below at = absurd (cc)

@@ -1,5 +1,5 @@
 -- The sizes of an image, and of a graph of which nothing is known yet.
-use Rattle.std.proofs.Common.{◌≡◌, ◌<◌, ◌≤◌, List, [], length, arith, ap, sym, refl}
+use Rattle.std.proofs.Common.{◌≡◌, ◌<◌, ◌≤◌, List, [], length, arith, ap, sym}
 use Rattle.std.specs.Prelude.{true, nat_le, ◌&&◌, ◌==◌, ◌%◌}
 use Rattle.std.proofs.lemmas.Bool.{and_parts}
 use Rattle.std.proofs.lemmas.Bool.Decides.{nat_tests}
@@ -33,10 +33,9 @@ sizes_of image is =
       ram_few = grind (arith, nat_tests, r.1);
     }
 
-pub tabled_none : (program : List Instr) (rests : HartState → HartState) (store : Stored) → store.harts ≡ [] → IsTabled program rests store [] [] []
+pub tabled_none : (program : List Instr) (rests : HartState → HartState) (store : Stored) → store.harts ≡ [] → IsTabled program rests store [] []
 tabled_none program rests store none = record {
   even = sym (ap length none);
   sites_are = λ id site at. absurd (none-some site at);
-  as_many = refl;
-  steps_are = λ k hart value after key at. absurd (none-some after at);
+  steps_are = λ step known. absurd (none-some step known.1);
 }

@@ -13,7 +13,7 @@ use Rattle.cheri_model.specs.runs.Machine.{is_running}
 use Rattle.state_store.specs.Stores.{Stored, hart_at, Keeps}
 use Rattle.state_store.proofs.StoreLemmas.{hart_at_kept, keeps_on}
 use Rattle.states.specs.Graphs.{GraphParts, Continues, Runs, rests_in}
-use Rattle.states.specs.declared.locals.LocalStep.{LocalStep}
+use Rattle.states.specs.declared.steps.KnownStep.{KnownStep}
 use Rattle.states.specs.Locals.{touched, local_step, local_value, stopped, IsLocalStep, IsTabled}
 use Rattle.states.proofs.TouchLemmas.{IsLocal, step_is_local, touched_within}
 use Rattle.states.proofs.NodeLemmas.{site_there}
@@ -85,24 +85,24 @@ step_taken program granules ram h v site addr some size at place after is =
     (at ∙ ap (λ (n : ℕ). touched program n h) (sym size)) place after is)
 
 -- the site of a hart that runs, as it was looked up
-pub site_known : (program : List Instr) (rests : HartState → HartState) (store : Stored) (sites : List ℕ) (keys : List (List ℕ)) (steps : List LocalStep)
-    (id : ℕ) (h : HartState) (site : ℕ) → IsTabled program rests store sites keys steps → 0 < store.granules →
+pub site_known : (program : List Instr) (rests : HartState → HartState) (store : Stored) (sites : List ℕ) (steps : List KnownStep)
+    (id : ℕ) (h : HartState) (site : ℕ) → IsTabled program rests store sites steps → 0 < store.granules →
     hart_at store id ≡ Some h → is_running h.status ≡ true → site ≡ slice_index_or sites id site →
     (site ≡ touched program store.granules h) × (site < store.granules)
-site_known program rests store sites keys steps id h site tabled some there runs is =
-    let at = is ∙ ((site_there program rests store sites keys steps id h tabled there).1 site
+site_known program rests store sites steps id h site tabled some there runs is =
+    let at = is ∙ ((site_there program rests store sites steps id h tabled there).1 site
     ∙ ap (λ (b : Bool). if b then touched program store.granules h else stopped) runs) in
     (at, subst (λ (n : ℕ). n < store.granules) (sym at) (touched_within program store.granules h some))
 
 -- a step that was taken with what was looked up
-pub taken_by : (program code : List Instr) (rests : HartState → HartState) (store : Stored) (sites : List ℕ) (keys : List (List ℕ)) (steps : List LocalStep)
+pub taken_by : (program code : List Instr) (rests : HartState → HartState) (store : Stored) (sites : List ℕ) (steps : List KnownStep)
     (ram filled : List CapValue) (id : ℕ) (h : HartState) (v : CapValue) (site addr : ℕ) (after : Stepped) →
-    IsTabled program rests store sites keys steps → 0 < store.granules → length ram ≡ store.granules →
+    IsTabled program rests store sites steps → 0 < store.granules → length ram ≡ store.granules →
     hart_at store id ≡ Some h → is_running h.status ≡ true → site ≡ slice_index_or sites id site →
     addr ≡ 2147483648 + 16 * site → code ≡ program → filled ≡ store_capability ram addr v →
     hart_step code h filled ≡ after → IsTaken program store.granules h v site after.hart after.memory
-taken_by program code rests store sites keys steps ram filled id h v site addr after tabled some size known runs is place same put result =
-    let site_is = site_known program rests store sites keys steps id h site tabled some known runs is in
+taken_by program code rests store sites steps ram filled id h v site addr after tabled some size known runs is place same put result =
+    let site_is = site_known program rests store sites steps id h site tabled some known runs is in
     step_taken program store.granules ram h v site addr some size site_is.0 place after
     (ap (λ (p : List Instr). hart_step p h (store_capability ram addr v)) (sym same)
     ∙ (ap (hart_step code h) (sym put) ∙ result))

@@ -8,10 +8,9 @@ use Rattle.cheri_model.specs.runs.ImageRules.{is_image}
 use Rattle.cheri_model.specs.runs.Machine.{MachineState, is_running}
 use Rattle.explore_sights.specs.declared.sights.Sight.{Sight}
 use Rattle.explore_turns.specs.Turns.{resting, rest_by, turn_by}
-use Rattle.interner.specs.Rows.{Rows}
 use Rattle.schedules.specs.declared.ranges.SweepRange.{SweepRange}
 use Rattle.state_store.specs.Stores.{Stored, state_of, hart_at, Keeps}
-use Rattle.states.specs.declared.locals.LocalStep.{LocalStep}
+use Rattle.states.specs.declared.steps.KnownStep.{KnownStep}
 use Rattle.states.specs.Locals.{IsTabled}
 
 -- what is seen of a graph
@@ -51,12 +50,10 @@ Runs store id =
 
 -- What a graph keeps: memories are as large as the image's RAM, and tables are right.
 pub record IsGraph (image : ImageParts) (sweeps : List SweepRange) (sight : Sight) (store : Stored)
-    (sites : List ℕ) (keys : Rows) (steps : List LocalStep) (ram : List CapValue) (row : List ℕ)
-    : Type 0 where
+    (sites : List ℕ) (steps : List KnownStep) (ram : List CapValue) (row : List ℕ) : Type 0 where
   pub formed : is_image image ≡ true
   pub few : length sweeps ≤ 8
   pub granules : 16 * store.granules ≡ image.ram
-  pub width : keys.width ≡ 2
   pub ram_size : length ram ≡ store.granules
   pub row_size : length row ≡ store.granules
-  pub tabled : IsTabled image.program (resting image sweeps sight) store sites keys.rows steps
+  pub tabled : IsTabled image.program (resting image sweeps sight) store sites steps

@@ -112,13 +112,22 @@ abbrev pub NonePasses : ImageParts → List SweepRange → (MachineState → Boo
 NonePasses image sweeps passing = (order : List Op) → AreAllowed sweeps order →
     is_legal image (opening_state image) order ≡ true → passing (replayed_state image order) ≡ false
 
+-- each state that was kept before still has its number
+abbrev pub KeepsNumbers : KeptParts → KeptParts → Type 0
+KeepsNumbers before after = (i : ℕ) → i < count before → at after i ≡ at before i
+
+-- no kept state before the one with this number passes
+abbrev pub NonePassesBefore : KeptParts → (MachineState → Bool) → ℕ → Type 0
+NonePassesBefore kept passing number =
+    (i : ℕ) (s : MachineState) → i < number → at kept i ≡ Some s → passing s ≡ false
+
 -- the first kept state that passes, if any does
 abbrev pub IsFirstPassing : KeptParts → (MachineState → Bool) → Option ℕ → Type 0
 IsFirstPassing kept passing None =
     (i : ℕ) (s : MachineState) → at kept i ≡ Some s → passing s ≡ false
 IsFirstPassing kept passing (Some k) =
     (k < count kept) × ((s : MachineState) → at kept k ≡ Some s → passing s ≡ true)
-    × ((i : ℕ) (s : MachineState) → i < k → at kept i ≡ Some s → passing s ≡ false)
+    × NonePassesBefore kept passing k
 
 -- the search found all states, or as many as it may
 abbrev pub IsWhole : KeptParts → ℕ → Type 0

@@ -1,4 +1,5 @@
 pub mod Accesses
+pub mod Steps
 pub mod Locals
 pub mod Graphs
 pub mod Searches

@@ -1,6 +1,6 @@
 -- What a step does to its hart and to the one granule that it may touch. Where a step makes no
 -- access, or none in RAM, that granule is granule 0, which stays as it is.
-use Rattle.std.specs.Prelude.{◌≡◌, ℕ, List, [], ◌∷◌, length, slice_get, replicate, Some}
+use Rattle.std.specs.Prelude.{◌≡◌, ℕ, List, length, slice_get, replicate, Some}
 use Rattle.std.specs.Prelude.{nat_lt, if◌then◌else◌}
 use Rattle.cheri_model.specs.declared.instr.Instr.{Instr}
 use Rattle.cap_model.specs.values.CapValue.{CapValue}
@@ -11,6 +11,8 @@ use Rattle.cheri_model.specs.runs.Machine.{is_running}
 use Rattle.states.specs.Accesses.{accessed_address}
 use Rattle.state_store.specs.Stores.{Stored, hart_at}
 use Rattle.states.specs.declared.locals.LocalStep.{LocalStep}
+use Rattle.states.specs.declared.steps.KnownStep.{KnownStep}
+use Rattle.states.specs.Steps.{IsKnown}
 
 -- the granule that the next step of a hart may touch, in a memory of so many
 unfoldable pub touched : List Instr → ℕ → HartState → ℕ
@@ -50,14 +52,12 @@ pub record IsLocalStep (program : List Instr) (rests : HartState → HartState) 
   pub value_after :
       slice_get store.values after.value ≡ Some (local_value program store.granules before granule)
 
--- the sites of all harts, each at its rest, and steps with their keys
+-- the sites of all harts, each at its rest, and steps
 pub record IsTabled (program : List Instr) (rests : HartState → HartState) (store : Stored)
-    (sites : List ℕ) (keys : List (List ℕ)) (steps : List LocalStep) : Type 0 where
+    (sites : List ℕ) (steps : List KnownStep) : Type 0 where
   pub even : length sites ≡ length store.harts
   pub sites_are : (id site : ℕ) → slice_get sites id ≡ Some site →
       (hart : HartState) × (hart_at store id ≡ Some hart)
       × (site ≡ site_of program store.granules hart) × (rests hart ≡ hart)
-  pub as_many : length steps ≡ length keys
-  pub steps_are : (k hart value : ℕ) (after : LocalStep) →
-      slice_get keys k ≡ Some (hart ∷ value ∷ []) → slice_get steps k ≡ Some after →
-      IsLocalStep program rests store hart value after
+  pub steps_are : (step : KnownStep) → IsKnown steps step →
+      IsLocalStep program rests store step.hart step.value step.after

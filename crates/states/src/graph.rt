@@ -32,6 +32,7 @@ ghost use Rattle.states.specs.Graphs.{state_in, rests_in, rest_in, turn_in, Cont
 ghost use Rattle.states.specs.Locals.{local_step, local_value, IsLocalStep};
 
 use crate::locals::{LocalStep, STOPPED, granule_address, site_of};
+use crate::steps::{KnownStep, Steps};
 use crate::sweeping::sweep_row;
 use cap_ops::Cap;
 use cheri_model::{ADDRESS_SPACE, Image, Value};
@@ -40,7 +41,6 @@ use explore_turns::rest;
 use graph_search::Graph;
 use hart::Hart;
 use hart_step::step;
-use interner::Interner;
 use schedules::SweepRange;
 use state_store::Store;
 use std::alloc::{AllocError, Global};
@@ -60,9 +60,8 @@ pub struct MachineGraph {
     store: Store,
     /// For each hart its site.
     sites: Vec<u32>,
-    /// The steps that were computed, by the numbers of a hart and a value.
-    keys: Interner,
-    steps: Vec<LocalStep>,
+    /// The steps that were computed.
+    steps: Steps,
     /// Any hart, and a memory and a row of one, to work in.
     blank: Hart,
     ram: Ram,
@@ -81,8 +80,8 @@ impl Model for MachineGraph {
       store = a.store;
     } };
 
-    ghost invariant = { λ a. IsGraph a.image a.sweeps.items a.sight a.store a.sites.items a.keys
-        a.steps.items a.ram a.row.items };
+    ghost invariant = { λ a. IsGraph a.image a.sweeps.items a.sight a.store a.sites.items a.steps
+        a.ram a.row.items };
 }
 
 /// Drops the last item unless it is to be kept.
@@ -123,8 +122,7 @@ impl MachineGraph {
             sight,
             store: Store::new(alloc, granules),
             sites: Vec::new(alloc),
-            keys: Interner::new(alloc, 2),
-            steps: Vec::new(alloc),
+            steps: Steps::new(alloc),
             blank,
             ram,
             row,
@@ -219,8 +217,8 @@ impl MachineGraph {
         ensures step { IfOk result (IsLocalStep self.old.image.program (rests_in self.old)
             self.new.store hart value) }
     {
-        match self.keys.find(&[hart, value]) {
-            Some(number) => Ok(self.steps[number as usize]),
+        match self.steps.find(hart, value) {
+            Some(after) => Ok(after),
             None => self.compute(hart, value),
         }
     }
@@ -281,13 +279,7 @@ impl MachineGraph {
             after }
         ensures { self.new ≡ self.old }
     {
-        self.steps.push(after)?;
-        let before = self.keys.len();
-        let number = self.keys.insert(&[hart, value]);
-        let grown = self.keys.len() > before;
-        keep_last_if(&mut self.steps, grown);
-        number?;
-        Ok(())
+        self.steps.keep(KnownStep { hart, value, after })
     }
 
     /// Follows the edge of a label.

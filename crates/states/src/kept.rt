@@ -31,6 +31,7 @@ ghost use Rattle.states.specs.Kept.{
   IsWitnessOrder,
   AreAllKept,
   AreWitnessTurns,
+  KeepsNumbers,
 };
 
 use crate::graph::MachineGraph;
@@ -127,7 +128,7 @@ impl Kept {
     }
 
     /// Goes on with the search, with a limit that is no less. What it keeps then is what a search
-    /// with that limit keeps.
+    /// with that limit keeps: first the states that it kept before, each under its number.
     pub fn search_on<P: Progress>(
         self,
         alloc: Global,
@@ -139,6 +140,7 @@ impl Kept {
         ensures sweeps { IfOk result (λ kept. kept.sweeps ≡ self.sweeps) }
         ensures sight { IfOk result (λ kept. kept.sight ≡ self.sight) }
         ensures limit { IfOk result (λ kept. kept.limit ≡ limit) }
+        ensures numbers { IfOk result (KeepsNumbers self) }
     {
         let mut graph = self.graph;
         let reached = explore_more(alloc, &mut graph, self.reached, limit, progress)?;

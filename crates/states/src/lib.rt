@@ -10,6 +10,7 @@ mod locals;
 mod passing;
 mod room;
 mod search;
+mod steps;
 mod sweeping;
 
 pub use graph::{MAX_SWEEPS, MachineGraph};

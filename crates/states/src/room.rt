@@ -1,6 +1,6 @@
 //! Room for a state's row.
 
-ghost use Rattle.std.specs.Prelude.{◌≡◌, ◌<◌, ◌≤◌, length, slice_get, Some};
+ghost use Rattle.std.specs.Prelude.{◌≡◌, ◌<◌, ◌≤◌, length, slice_get, replicate, Some};
 
 use graph_search::Reached;
 
@@ -14,8 +14,10 @@ pub struct Room {
 }
 
 impl Room {
-    /// Room in which nothing was read yet.
-    pub fn new() -> Room {
+    /// Room in which nothing was read yet: all of its numbers are 0.
+    pub fn new() -> Room
+        ensures { result.row ≡ replicate 9 0 }
+    {
         Room {
             row: [0; MOST_NUMBERS],
         }

@@ -4,7 +4,13 @@ ghost use Rattle.std.specs.Prelude.{◌≡◌, ℕ, ◌*◌, ◌≤◌, length, 
 ghost use Rattle.cheri_model.specs.runs.Machine.{opening_state};
 ghost use Rattle.explore_sights.specs.Sights.{hides, sight_of};
 ghost use Rattle.explore_turns.specs.Turns.{KeepsPassing};
-ghost use Rattle.states.specs.Kept.{IsFirstPassing, IsKeptOf, IsWhole, NonePasses};
+ghost use Rattle.states.specs.Kept.{
+  IsFirstPassing,
+  IsKeptOf,
+  IsWhole,
+  NonePasses,
+  NonePassesBefore,
+};
 ghost use Rattle.states.specs.Searches.{AreTurnsOf, IsSearchable, search_of};
 
 use crate::graph::{MAX_SWEEPS, MachineGraph};
@@ -128,7 +134,8 @@ pub fn search_from<P: Progress>(
 
 /// The first of these states that passes a test, the opening state included, and none after it
 /// looked at. Where none passes, the kept states are those of `search_from`. It searches in stages,
-/// so that it keeps not many more states than up to the first that passes.
+/// so that it keeps not many more states than up to the first that passes. Each state is looked at
+/// once.
 pub fn find_from<T: StateTest, P: Progress>(
     alloc: Global,
     search: &Search<'_>,
@@ -159,22 +166,24 @@ pub fn find_from<T: StateTest, P: Progress>(
         limit: limit.min(FIRST_STAGE),
     };
     let mut kept = search_from(alloc, &first, sees, core, progress)?;
-    let mut state = first_passing(&kept, test);
+    let mut state = first_passing(&kept, 0, test);
     while state.is_none() && !kept.is_complete() && kept.limit() < limit {
         let stage = limit.min(kept.limit().saturating_mul(STAGE_GROWTH));
+        let looked_at = kept.len();
         kept = kept.search_on(alloc, stage, progress)?;
-        state = first_passing(&kept, test);
+        state = first_passing(&kept, looked_at, test);
     }
     // Its clause says that these are the states of a search.
     let _count = kept.len();
     Ok(Found { kept, state })
 }
 
-/// The first kept state that passes a test.
-fn first_passing<T: StateTest>(kept: &Kept, test: &T) -> Option<u32>
+/// The first kept state that passes a test, where none before the state of this number does.
+fn first_passing<T: StateTest>(kept: &Kept, from: u32, test: &T) -> Option<u32>
+    requires { NonePassesBefore kept.now (T.passing test.now) from }
     ensures { IsFirstPassing kept.now (T.passing test.now) result }
 {
-    for number in 0..kept.len() {
+    for number in from..kept.len() {
         if test.passes(kept.state(number, &mut Room::new())) {
             return Some(number);
         }

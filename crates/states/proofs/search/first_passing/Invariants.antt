@@ -1,10 +1,6 @@
 -- none so far passes
-use Rattle.std.proofs.Common.{◌≡◌, ◌<◌, ℕ}
-use Rattle.std.specs.Prelude.{Some, false}
-use Rattle.cheri_model.specs.runs.Machine.{MachineState}
-use Rattle.states.specs.Kept.{at}
+use Rattle.states.specs.Kept.{NonePassesBefore}
 use Rattle.states.proofs.search.first_passing.Given as goal
 
 abbrev pub invariant-loop-number : goal.invariant-loop-number
-invariant-loop-number g l =
-    (i : ℕ) (s : MachineState) → i < l.number → at l.kept i ≡ Some s → g.T.StateTest.passing l.test s ≡ false
+invariant-loop-number g l = NonePassesBefore l.kept (g.T.StateTest.passing l.test) l.number

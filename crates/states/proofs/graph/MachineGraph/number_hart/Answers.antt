@@ -17,21 +17,21 @@ pub site_of-site-requires-clause-some : goal.site_of-site-requires-clause-some
 site_of-site-requires-clause-some c =
     subst (λ (n : ℕ). 0 < n) (sym c.granules.ensures.count)
     (granules_some c.self.inside.image c.self.inside.sweeps.items c.self.inside.sight c.self.inside.store c.self.inside.sites.items
-    c.self.inside.keys c.self.inside.steps.items c.self.inside.ram c.self.inside.row.items c.self.invariant)
+    c.self.inside.steps c.self.inside.ram c.self.inside.row.items c.self.invariant)
 
 pub site_of-site-requires-clause-few : goal.site_of-site-requires-clause-few
 site_of-site-requires-clause-few c =
     subst (λ (n : ℕ). n ≤ 65536) (sym c.granules.ensures.count)
     (granules_few c.self.inside.image c.self.inside.sweeps.items c.self.inside.sight c.self.inside.store c.self.inside.sites.items
-    c.self.inside.keys c.self.inside.steps.items c.self.inside.ram c.self.inside.row.items c.self.invariant)
+    c.self.inside.steps c.self.inside.ram c.self.inside.row.items c.self.invariant)
 
 pub invariant_of-self-2 : goal.invariant_of-self-2
 invariant_of-self-2 c =
     subst (λ (ram : List CapValue). IsGraph c.self.inside.image c.self.inside.sweeps.items c.self.inside.sight
-    c.number_hart-number.new.self c.keep_last_if.new.items.items c.self.inside.keys c.self.inside.steps.items ram
+    c.number_hart-number.new.self c.keep_last_if.new.items.items c.self.inside.steps ram
     c.self.inside.row.items) (sym c.rest-hart.ensures.ram)
     (graph_numbered c.self.inside.image c.self.inside.sweeps.items c.self.inside.sight c.self.inside.store c.self.inside.sites.items
-    c.self.inside.keys c.self.inside.steps.items c.self.inside.ram c.self.inside.row.items c.self.invariant
+    c.self.inside.steps c.self.inside.ram c.self.inside.row.items c.self.invariant
     c.number_hart-number.new.self c.keep_last_if.new.items.items c.rest-hart.result c.number_hart-number.result c.site_of-site.result
     (nat_lt c.hart_count-before.result c.hart_count.result) c.number_hart-number.ensures.kept
     (c.site_of-site.ensures ∙ (ap (λ (p : List Instr). site_of p c.granules.result c.rest-hart.result) c.program-2.ensures

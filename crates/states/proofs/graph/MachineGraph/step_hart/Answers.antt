@@ -24,13 +24,12 @@ bounds-node-place c =
 pub index-site-requires : goal.index-site-requires
 index-site-requires c =
     let g : GraphParts = c.args.self.now in
-    let inv = subst (λ (p : GraphParts). IsGraph p.image p.sweeps p.sight p.store c.self.inside.sites.items c.self.inside.keys
-    c.self.inside.steps.items c.self.inside.ram c.self.inside.row.items) c.self.view_is c.self.invariant in
-    let some = granules_some g.image g.sweeps g.sight g.store c.self.inside.sites.items c.self.inside.keys c.self.inside.steps.items
+    let inv = subst (λ (p : GraphParts). IsGraph p.image p.sweeps p.sight p.store c.self.inside.sites.items c.self.inside.steps c.self.inside.ram c.self.inside.row.items) c.self.view_is c.self.invariant in
+    let some = granules_some g.image g.sweeps g.sight g.store c.self.inside.sites.items c.self.inside.steps
     c.self.inside.ram c.self.inside.row.items inv in
     let s = some_state g c.args.node.now c.requires.meant in
     let node = node_of g c.args.node.now s.0 s.1 in
-    let within = (site_there g.image.program (rests_in g) g.store c.self.inside.sites.items c.self.inside.keys.rows c.self.inside.steps.items
+    let within = (site_there g.image.program (rests_in g) g.store c.self.inside.sites.items c.self.inside.steps
     (slice_index_or c.args.node.now (c.args.hart + 1) 0) (machine.hart_at s.0 c.args.hart) inv.tabled
     (node.hart c.args.hart c.requires.there)).0 in
     omega (arith, within, c.self.inside.sites.ok.0)
@@ -38,15 +37,13 @@ index-site-requires c =
 pub returns-then-site-clause-value : goal.returns-then-site-clause-value
 returns-then-site-clause-value c s is =
     let g : GraphParts = c.args.self.now in
-    let inv = subst (λ (p : GraphParts). IsGraph p.image p.sweeps p.sight p.store c.self.inside.sites.items c.self.inside.keys
-    c.self.inside.steps.items c.self.inside.ram c.self.inside.row.items) c.self.view_is c.self.invariant in
-    let some = granules_some g.image g.sweeps g.sight g.store c.self.inside.sites.items c.self.inside.keys c.self.inside.steps.items
+    let inv = subst (λ (p : GraphParts). IsGraph p.image p.sweeps p.sight p.store c.self.inside.sites.items c.self.inside.steps c.self.inside.ram c.self.inside.row.items) c.self.view_is c.self.invariant in
+    let some = granules_some g.image g.sweeps g.sight g.store c.self.inside.sites.items c.self.inside.steps
     c.self.inside.ram c.self.inside.row.items inv in
-    let few = granules_few g.image g.sweeps g.sight g.store c.self.inside.sites.items c.self.inside.keys c.self.inside.steps.items
+    let few = granules_few g.image g.sweeps g.sight g.store c.self.inside.sites.items c.self.inside.steps
     c.self.inside.ram c.self.inside.row.items inv in
     let node = node_of g c.args.node.now s is in
-    let at = c.index-site.ensures ∙ (site_there g.image.program (rests_in g) g.store c.self.inside.sites.items c.self.inside.keys.rows
-    c.self.inside.steps.items (slice_index_or c.args.node.now (c.args.hart + 1) 0) (machine.hart_at s c.args.hart) inv.tabled
+    let at = c.index-site.ensures ∙ (site_there g.image.program (rests_in g) g.store c.self.inside.sites.items c.self.inside.steps (slice_index_or c.args.node.now (c.args.hart + 1) 0) (machine.hart_at s c.args.hart) inv.tabled
     (node.hart c.args.hart c.requires.there)).1 c.index-site.result.now in
     ap (option_map (rest_in g)) (next_of_stopped g.image g.sweeps s c.args.hart c.requires.there
     (site_of_stopped g.image.program g.store.granules (machine.hart_at s c.args.hart) c.index-site.result.now at some few
@@ -70,12 +67,11 @@ memory-row-requires c =
 pub bounds-row-site : goal.bounds-row-site
 bounds-row-site c =
     let g : GraphParts = c.args.self.now in
-    let inv = subst (λ (p : GraphParts). IsGraph p.image p.sweeps p.sight p.store c.self.inside.sites.items c.self.inside.keys
-    c.self.inside.steps.items c.self.inside.ram c.self.inside.row.items) c.self.view_is c.self.invariant in
-    let some = granules_some g.image g.sweeps g.sight g.store c.self.inside.sites.items c.self.inside.keys c.self.inside.steps.items
+    let inv = subst (λ (p : GraphParts). IsGraph p.image p.sweeps p.sight p.store c.self.inside.sites.items c.self.inside.steps c.self.inside.ram c.self.inside.row.items) c.self.view_is c.self.invariant in
+    let some = granules_some g.image g.sweeps g.sight g.store c.self.inside.sites.items c.self.inside.steps
     c.self.inside.ram c.self.inside.row.items inv in
     let s = some_state g c.args.node.now c.requires.meant in
-    let r = ready g c.self.inside.sites.items c.self.inside.keys.rows c.self.inside.steps.items c.args.node.now s.0 c.args.hart
+    let r = ready g c.self.inside.sites.items c.self.inside.steps c.args.node.now s.0 c.args.hart
     c.index-site.result.now inv.tabled some s.1 c.requires.there c.index-site.ensures c.if-site.false in
     let low = r.within in
     let wide = c.memory-row.ensures.wide in
@@ -93,24 +89,22 @@ bounds-node-place-2 c =
 pub local_step-requires-clause-hart : goal.local_step-requires-clause-hart
 local_step-requires-clause-hart c =
     let g : GraphParts = c.args.self.now in
-    let inv = subst (λ (p : GraphParts). IsGraph p.image p.sweeps p.sight p.store c.self.inside.sites.items c.self.inside.keys
-    c.self.inside.steps.items c.self.inside.ram c.self.inside.row.items) c.self.view_is c.self.invariant in
-    let some = granules_some g.image g.sweeps g.sight g.store c.self.inside.sites.items c.self.inside.keys c.self.inside.steps.items
+    let inv = subst (λ (p : GraphParts). IsGraph p.image p.sweeps p.sight p.store c.self.inside.sites.items c.self.inside.steps c.self.inside.ram c.self.inside.row.items) c.self.view_is c.self.invariant in
+    let some = granules_some g.image g.sweeps g.sight g.store c.self.inside.sites.items c.self.inside.steps
     c.self.inside.ram c.self.inside.row.items inv in
     let s = some_state g c.args.node.now c.requires.meant in
-    let r = ready g c.self.inside.sites.items c.self.inside.keys.rows c.self.inside.steps.items c.args.node.now s.0 c.args.hart
+    let r = ready g c.self.inside.sites.items c.self.inside.steps c.args.node.now s.0 c.args.hart
     c.index-site.result.now inv.tabled some s.1 c.requires.there c.index-site.ensures c.if-site.false in
     (machine.hart_at s.0 c.args.hart, r.hart, r.runs)
 
 pub local_step-requires-clause-value : goal.local_step-requires-clause-value
 local_step-requires-clause-value c =
     let g : GraphParts = c.args.self.now in
-    let inv = subst (λ (p : GraphParts). IsGraph p.image p.sweeps p.sight p.store c.self.inside.sites.items c.self.inside.keys
-    c.self.inside.steps.items c.self.inside.ram c.self.inside.row.items) c.self.view_is c.self.invariant in
-    let some = granules_some g.image g.sweeps g.sight g.store c.self.inside.sites.items c.self.inside.keys c.self.inside.steps.items
+    let inv = subst (λ (p : GraphParts). IsGraph p.image p.sweeps p.sight p.store c.self.inside.sites.items c.self.inside.steps c.self.inside.ram c.self.inside.row.items) c.self.view_is c.self.invariant in
+    let some = granules_some g.image g.sweeps g.sight g.store c.self.inside.sites.items c.self.inside.steps
     c.self.inside.ram c.self.inside.row.items inv in
     let s = some_state g c.args.node.now c.requires.meant in
-    let r = ready g c.self.inside.sites.items c.self.inside.keys.rows c.self.inside.steps.items c.args.node.now s.0 c.args.hart
+    let r = ready g c.self.inside.sites.items c.self.inside.steps c.args.node.now s.0 c.args.hart
     c.index-site.result.now inv.tabled some s.1 c.requires.there c.index-site.ensures c.if-site.false in
     let low = r.within in
     let wide = c.memory-row.ensures.wide in
@@ -130,11 +124,10 @@ copy_from_slice-requires c =
 pub returns-then-after-value-clause-value : goal.returns-then-after-value-clause-value
 returns-then-after-value-clause-value c s is =
     let g : GraphParts = c.args.self.now in
-    let inv = subst (λ (p : GraphParts). IsGraph p.image p.sweeps p.sight p.store c.self.inside.sites.items c.self.inside.keys
-    c.self.inside.steps.items c.self.inside.ram c.self.inside.row.items) c.self.view_is c.self.invariant in
-    let some = granules_some g.image g.sweeps g.sight g.store c.self.inside.sites.items c.self.inside.keys c.self.inside.steps.items
+    let inv = subst (λ (p : GraphParts). IsGraph p.image p.sweeps p.sight p.store c.self.inside.sites.items c.self.inside.steps c.self.inside.ram c.self.inside.row.items) c.self.view_is c.self.invariant in
+    let some = granules_some g.image g.sweeps g.sight g.store c.self.inside.sites.items c.self.inside.steps
     c.self.inside.ram c.self.inside.row.items inv in
-    let r = ready g c.self.inside.sites.items c.self.inside.keys.rows c.self.inside.steps.items c.args.node.now s c.args.hart
+    let r = ready g c.self.inside.sites.items c.self.inside.steps c.args.node.now s c.args.hart
     c.index-site.result.now inv.tabled some is c.requires.there c.index-site.ensures c.if-site.false in
     let low = r.within in
     let wide = c.memory-row.ensures.wide in
@@ -149,7 +142,7 @@ returns-then-after-value-clause-value c s is =
     c.index-site.result.now (slice_index_or c.memory-row.result.now c.index-site.result.now 0) c.requires.there r.runs row_there
     r.touches (slice_get-get_or c.memory-row.result.now c.index-site.result.now 0 below) c.in_ok-after.after
     c.in_ok-after.ensures.step
-    (node_rests g c.self.inside.sites.items c.self.inside.keys.rows c.self.inside.steps.items c.args.node.now s inv.tabled is)
+    (node_rests g c.self.inside.sites.items c.self.inside.steps c.args.node.now s inv.tabled is)
     c.if-after-value.true)
 
 pub memory_with-requires-clause-memory : goal.memory_with-requires-clause-memory
@@ -163,12 +156,11 @@ memory_with-requires-clause-memory c =
 pub memory_with-requires-clause-granule : goal.memory_with-requires-clause-granule
 memory_with-requires-clause-granule c =
     let g : GraphParts = c.args.self.now in
-    let inv = subst (λ (p : GraphParts). IsGraph p.image p.sweeps p.sight p.store c.self.inside.sites.items c.self.inside.keys
-    c.self.inside.steps.items c.self.inside.ram c.self.inside.row.items) c.self.view_is c.self.invariant in
-    let some = granules_some g.image g.sweeps g.sight g.store c.self.inside.sites.items c.self.inside.keys c.self.inside.steps.items
+    let inv = subst (λ (p : GraphParts). IsGraph p.image p.sweeps p.sight p.store c.self.inside.sites.items c.self.inside.steps c.self.inside.ram c.self.inside.row.items) c.self.view_is c.self.invariant in
+    let some = granules_some g.image g.sweeps g.sight g.store c.self.inside.sites.items c.self.inside.steps
     c.self.inside.ram c.self.inside.row.items inv in
     let s = some_state g c.args.node.now c.requires.meant in
-    let r = ready g c.self.inside.sites.items c.self.inside.keys.rows c.self.inside.steps.items c.args.node.now s.0 c.args.hart
+    let r = ready g c.self.inside.sites.items c.self.inside.steps c.args.node.now s.0 c.args.hart
     c.index-site.result.now inv.tabled some s.1 c.requires.there c.index-site.ensures c.if-site.false in
     subst (λ (n : ℕ). c.index-site.result.now < n) (sym c.local_step.ensures.continues.keeps.granules) r.within
 
@@ -181,15 +173,14 @@ memory_with-requires-clause-value c =
 pub returns : goal.returns
 returns c =
     let g : GraphParts = c.args.self.now in
-    let inv = subst (λ (p : GraphParts). IsGraph p.image p.sweeps p.sight p.store c.self.inside.sites.items c.self.inside.keys
-    c.self.inside.steps.items c.self.inside.ram c.self.inside.row.items) c.self.view_is c.self.invariant in
-    let some = granules_some g.image g.sweeps g.sight g.store c.self.inside.sites.items c.self.inside.keys c.self.inside.steps.items
+    let inv = subst (λ (p : GraphParts). IsGraph p.image p.sweeps p.sight p.store c.self.inside.sites.items c.self.inside.steps c.self.inside.ram c.self.inside.row.items) c.self.view_is c.self.invariant in
+    let some = granules_some g.image g.sweeps g.sight g.store c.self.inside.sites.items c.self.inside.steps
     c.self.inside.ram c.self.inside.row.items inv in
     record {
       continues = continues_on g c.local_step.new.self c.memory_with.new.self c.local_step.ensures.continues
           c.memory_with.ensures.continues;
       value = λ s is.
-          let r = ready g c.self.inside.sites.items c.self.inside.keys.rows c.self.inside.steps.items c.args.node.now s c.args.hart
+          let r = ready g c.self.inside.sites.items c.self.inside.steps c.args.node.now s c.args.hart
           c.index-site.result.now inv.tabled some is c.requires.there c.index-site.ensures c.if-site.false in
           let low = r.within in
           let wide = c.memory-row.ensures.wide in
@@ -205,7 +196,7 @@ returns c =
           c.index-site.result.now (slice_index_or c.memory-row.result.now c.index-site.result.now 0) c.requires.there r.runs row_there
           r.touches (slice_get-get_or c.memory-row.result.now c.index-site.result.now 0 below) c.in_ok-after.after
           c.in_ok-after.ensures.step
-          (node_rests g c.self.inside.sites.items c.self.inside.keys.rows c.self.inside.steps.items c.args.node.now s inv.tabled is)
+          (node_rests g c.self.inside.sites.items c.self.inside.steps c.args.node.now s inv.tabled is)
           c.memory_with.new.self
           c.memory_with.ensures.continues c.in_ok-memory.memory (λ m v known there. c.in_ok-memory.ensures.numbered m v known there));
     }

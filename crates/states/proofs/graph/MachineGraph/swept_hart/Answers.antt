@@ -12,8 +12,7 @@ use Rattle.states.proofs.graph.MachineGraph.swept_hart.Goals as goal
 pub returns-then-sweep-eq0-clause-numbered : goal.returns-then-sweep-eq0-clause-numbered
 returns-then-sweep-eq0-clause-numbered c h is =
     let g : GraphParts = c.args.self.now in
-    let inv = subst (λ (p : GraphParts). IsGraph p.image p.sweeps p.sight p.store c.self.inside.sites.items c.self.inside.keys
-    c.self.inside.steps.items c.self.inside.ram c.self.inside.row.items) c.self.view_is c.self.invariant in
+    let inv = subst (λ (p : GraphParts). IsGraph p.image p.sweeps p.sight p.store c.self.inside.sites.items c.self.inside.steps c.self.inside.ram c.self.inside.row.items) c.self.view_is c.self.invariant in
     let loaded : c.load_hart.new.hart ≡ h =
     same_Some c.load_hart.new.hart h (sym c.load_hart.ensures
     ∙ (ap (λ (p : GraphParts). hart_at p.store c.args.hart) c.self.view_is ∙ is)) in
@@ -21,7 +20,7 @@ returns-then-sweep-eq0-clause-numbered c h is =
     ap (cleared_in_hart c.args.range.lo c.args.range.hi) (sym loaded) ∙ (sym c.sweep.ensures.cleared ∙ c.if-sweep-eq0.true) in
     is ∙ ap (λ (k : HartState). Some k)
     (sym (ap (rests_in g) (swept_whole c.args.range.lo c.args.range.hi h none)
-    ∙ hart_rests g.image.program (rests_in g) g.store c.self.inside.sites.items c.self.inside.keys.rows c.self.inside.steps.items
+    ∙ hart_rests g.image.program (rests_in g) g.store c.self.inside.sites.items c.self.inside.steps
     c.args.hart h inv.tabled is))
 
 pub returns-clause-numbered : goal.returns-clause-numbered

@@ -37,9 +37,9 @@ invariant_of-self c =
     let rows = c.self.invariant.row_size in
     let same : length c.sweep_row.new.row ≡ length c.self.inside.row.items = omega arith in
     subst (λ (l : List ℕ). IsGraph c.self.inside.image c.self.inside.sweeps.items c.self.inside.sight c.sweep_row.new.store c.self.inside.sites.items
-    c.self.inside.keys c.self.inside.steps.items c.self.inside.ram l) (sym back)
+    c.self.inside.steps c.self.inside.ram l) (sym back)
     (graph_stored c.self.inside.image c.self.inside.sweeps.items c.self.inside.sight c.self.inside.store c.self.inside.sites.items
-    c.self.inside.keys c.self.inside.steps.items c.self.inside.ram c.self.inside.row.items c.self.invariant c.sweep_row.new.store c.sweep_row.new.row c.sweep_row.ensures.kept
+    c.self.inside.steps c.self.inside.ram c.self.inside.row.items c.self.invariant c.sweep_row.new.store c.sweep_row.new.row c.sweep_row.ensures.kept
     (ap (λ (l : List (List ℕ)). length l) c.sweep_row.ensures.same_harts) same)
 
 pub invariant_of-self-2 : goal.invariant_of-self-2
@@ -56,9 +56,9 @@ invariant_of-self-2 c =
     let rows = c.self.invariant.row_size in
     let same : length c.sweep_row.new.row ≡ length c.self.inside.row.items = omega arith in
     subst (λ (l : List ℕ). IsGraph c.self.inside.image c.self.inside.sweeps.items c.self.inside.sight c.number_row.new.self c.self.inside.sites.items
-    c.self.inside.keys c.self.inside.steps.items c.self.inside.ram l) (sym back)
+    c.self.inside.steps c.self.inside.ram l) (sym back)
     (graph_stored c.self.inside.image c.self.inside.sweeps.items c.self.inside.sight c.self.inside.store c.self.inside.sites.items
-    c.self.inside.keys c.self.inside.steps.items c.self.inside.ram c.self.inside.row.items c.self.invariant c.number_row.new.self c.sweep_row.new.row
+    c.self.inside.steps c.self.inside.ram c.self.inside.row.items c.self.invariant c.number_row.new.self c.sweep_row.new.row
     (keeps_on c.self.inside.store c.sweep_row.new.store c.number_row.new.self c.sweep_row.ensures.kept c.number_row.ensures.kept)
     (ap (λ (l : List (List ℕ)). length l) (c.number_row.ensures.same_harts ∙ c.sweep_row.ensures.same_harts)) same)
 

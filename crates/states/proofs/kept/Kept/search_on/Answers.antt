@@ -1,8 +1,8 @@
-use Rattle.std.proofs.Common.{◌≡◌, ◌≤◌, ◌+◌, ℕ, length, ◌∙◌, ap, sym, arith}
+use Rattle.std.proofs.Common.{◌≡◌, ◌≤◌, ◌+◌, ℕ, length, ◌∙◌, ap, sym, arith, subst}
 use Rattle.explore_turns.specs.Turns.{start_by}
 use Rattle.states.specs.Graphs.{turn_in}
-use Rattle.states.specs.Kept.{KeptParts}
-use Rattle.states.proofs.KeptLemmas.{searched, first_state}
+use Rattle.states.specs.Kept.{KeptParts, kept_of, KeepsNumbers}
+use Rattle.states.proofs.KeptLemmas.{searched, first_state, numbers_kept}
 use Rattle.states.proofs.kept.Kept.search_on.Goals as goal
 
 pub explore_more-requires-clause-more : goal.explore_more-requires-clause-more
@@ -33,3 +33,15 @@ invariant_of-result g c =
     (c.in_ok-reached.ensures.explored (start_by c.self.inside.image c.self.inside.sweeps.items c.self.inside.sight)
     (first_state c.self.inside.image c.self.inside.sweeps.items c.self.inside.sight old c.self.inside.reached c.self.inside.limit kept))
     c.in_ok-reached.ensures.wide c.in_ok-reached.ensures.stands
+
+pub returns-clause-numbers : goal.returns-clause-numbers
+returns-clause-numbers g c =
+    let kept = c.self.inside in
+    let within = c.self.invariant.search.within in
+    let same : kept.limit ≡ c.args.self.limit = ap (λ (k : KeptParts). k.limit) c.self.view_is in
+    let more : c.args.self.limit ≤ c.args.limit = c.requires in
+    let enough : length kept.reached.nodes ≤ c.args.limit = omega (arith, within, same, more) in
+    subst (λ (k : KeptParts). KeepsNumbers k (kept_of kept.image kept.sweeps.items kept.sight c.explore_more.new.graph.store
+    c.in_ok-reached.reached c.args.limit)) c.self.view_is
+    (numbers_kept kept.image kept.sweeps.items kept.sight kept.graph c.explore_more.new.graph kept.reached c.in_ok-reached.reached
+    kept.limit c.args.limit c.explore_more.ensures.same_graph c.self.invariant (invariant_of-result g c) enough)
