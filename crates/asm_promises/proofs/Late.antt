@@ -5,7 +5,6 @@ use Rattle.std.specs.List.{range_with_len}
 use Rattle.std.proofs.lemmas.Bool.{cases_lt}
 use Rattle.std.proofs.lemmas.List.{get_or_past}
 use Rattle.std.proofs.lemmas.List.Elements.{All-nil, All-cons, All-head, All-tail, All-get_or, All-take, All-drop, All-map, All-weaker}
-use Rattle.asm_tokens.specs.declared.fault.AsmFault.{AsmFault}
 use Rattle.asm_tokens.specs.declared.fault.AsmFaultKind.TheVariants as faults
 use Rattle.asm_tokens.specs.Faults.{◌>>=◌}
 use Rattle.asm_tokens.specs.Tokens.{TokenParts}
@@ -31,21 +30,15 @@ use Rattle.asm_symbols.specs.declared.definitions.Meaning.{Meaning}
 use Rattle.asm_symbols.specs.declared.definitions.Meaning.TheVariants.{Place, Assigned}
 use Rattle.asm_symbols.specs.Definitions.{DefinitionParts}
 use Rattle.asm_drafts.specs.Operands.{operand_start, operand_end, nodes_of}
-use Rattle.asm_drafts.specs.Drafts.{DraftParts}
-use Rattle.asm_drafts.specs.Kept.{kept_number}
-use Rattle.asm_drafts.specs.Labels.{labels_put}
-use Rattle.asm_drafts.specs.Statements.{body_put}
-use Rattle.asm_drafts.specs.declared.sections.Entry.{Entry}
 use Rattle.asm_statements.specs.Statements.{StatementParts}
 use Rattle.asm_links.specs.Locals.{local_label}
 use Rattle.asm_places.specs.Places.{PlacesParts}
-use Rattle.asm_files.specs.declared.stand.Stand.{Stand}
 use Rattle.asm_files.specs.Faults.{of_file}
 use Rattle.asm_files.specs.Steps.{each_from}
-use Rattle.asm_files.specs.Stands.{opening_of, closing_of, statement_stood}
+use Rattle.asm_files.specs.Stands.{statement_stood}
 use Rattle.asm_files.specs.Sections.{SectionsParts, numbered, entry_of}
 use Rattle.asm_files.specs.Programs.{FileParts, MadeParts, ProgramParts, statements_or_none, tokens_in, statement_at}
-use Rattle.asm_files.specs.Files.{lengths_judged, files_of, all_requests, all_names, ReadingParts, with_stand, statement_step, statements_put, begun_draft, file_begun, file_ended, file_put, no_made, made_of, program_from, program_of}
+use Rattle.asm_files.specs.Files.{all_names, ReadingParts, with_stand, statement_step, statements_put, begun_draft, file_begun, file_ended, file_put, no_made, made_of, program_of}
 use Rattle.asm_tables.specs.Names.{named, nodes_by, nodes_in}
 use Rattle.asm_late.specs.Linked.{LinkedParts, places_by, linked_with, linked_of}
 use Rattle.asm_late.specs.Late.{LateParts, places_of, scene_in, operand_value, name_fault, symbol_value as late_symbol_value}
@@ -56,7 +49,9 @@ use Rattle.asm_links.specs.Sections.{sections_judged}
 use Rattle.asm_listable.proofs.Starts.{then_ok}
 use Rattle.asm_promises.proofs.Memory.{each_kept}
 use Rattle.asm_promises.proofs.Nodes.{IsLowNode}
-use Rattle.asm_promises.proofs.Sound.{IsSoundStatement, IsSoundFile, files_sound}
+use Rattle.asm_promises.proofs.Sound.{IsSoundStatement, IsSoundFile, of_file_ok, files_sound}
+use Rattle.asm_promises.proofs.Reading.{phases_of}
+use Rattle.asm_promises.proofs.Walk.{stood_keeps}
 use Rattle.asm_promises.proofs.Values.{IsLowValue, IsLowIf, none_low, some_low, value_low}
 use Rattle.asm_promises.proofs.Drafts.{OfMeaning, IsPlaced, IsGood, labels_good, body_good}
 
@@ -67,28 +62,14 @@ pub record IsRead (program : ProgramParts) : Type 0 where
   pub files : All IsSoundFile program.files
   pub symbols : All IsPlaced program.made.symbols
 
-stood_good : (tokens : List TokenParts) (parts : DraftParts) (number : ℕ) (s : StatementParts) (entry : Entry) (next : DraftParts × Stand) → IsGood parts
-    → statement_stood tokens parts number s entry ≡ Ok next → IsGood next.0
-unfolding statement_stood
-stood_good tokens parts number s entry next h e =
-    let x = then_ok (labels_put tokens s.first s.labels parts)
-    (λ labelled. body_put tokens labelled number s entry >>= λ made. Ok (made, closing_of made (opening_of labelled (kept_number tokens labelled s)))) next e in
-    let y = then_ok (body_put tokens x.0 number s entry) (λ made. Ok (made, closing_of made (opening_of x.0 (kept_number tokens x.0 s)))) next x.2 in
-    let is : (y.0, closing_of y.0 (opening_of x.0 (kept_number tokens x.0 s))) ≡ next = (let k = y.2 in cc) in
-    let labelled : IsGood x.0 = labels_good tokens s.labels s.first parts x.0 h x.1 in
-    subst (λ (n : DraftParts × Stand). IsGood n.0) is (body_good tokens x.0 y.0 labelled s number entry y.1)
-
 step_good : (sections : SectionsParts) (tokens : List TokenParts) (number : ℕ) (s : StatementParts) (reading after : ReadingParts) → IsGood reading.draft
     → statement_step sections tokens number s reading ≡ Ok after → IsGood after.draft
 unfolding statement_step
 step_good sections tokens number s reading after h e =
     let x = then_ok (statement_stood tokens reading.draft number s (entry_of sections tokens s)) (λ next. Ok (with_stand reading next)) after e in
     let is : with_stand reading x.0 ≡ after = (let k = x.2 in cc) in
-    subst (λ (r : ReadingParts). IsGood r.draft) is (stood_good tokens reading.draft number s (entry_of sections tokens s) x.0 h x.1)
-
-of_file_ok : {X : Type 0} (number : ℕ) (r : Result X AsmFault) (x : X) → of_file number r ≡ Ok x → r ≡ Ok x
-of_file_ok number (Ok y) x e = let is : y ≡ x = cc in ap (λ z. Ok z) is
-of_file_ok number (Err fault) x e = absurd (cc)
+    subst (λ (r : ReadingParts). IsGood r.draft) is
+    (stood_keeps tokens s (entry_of sections tokens s) (λ at. Unit {0}) IsGood IsGood (labels_good tokens) (body_good tokens s.body (entry_of sections tokens s)) (λ k less. tt) reading.draft number x.0 h x.1)
 
 file_good : (sections : SectionsParts) (number : ℕ) (file : FileParts) (made after : MadeParts) → All IsPlaced made.symbols
     → file_put sections number file made ≡ Ok after → All IsPlaced after.symbols
@@ -108,20 +89,13 @@ made_good sections files made e =
     each_kept (λ (m : MadeParts). All IsPlaced m.symbols) (file_put sections) (λ n f p q k g. file_good sections n f p q k g) 0 files no_made made (All-nil IsPlaced) e
 
 pub program_read : (texts : List (List ℕ)) (program : ProgramParts) → program_of texts ≡ Ok program → IsRead program
-unfolding program_of
 program_read texts program e =
-    let x = then_ok (lengths_judged texts)
-    (λ judged. files_of texts >>= λ files. all_requests files >>= λ requests. made_of (numbered (all_names files)) files >>= λ made. Ok (program_from files requests (numbered (all_names files)).count made)) program e in
-    let y = then_ok (files_of texts)
-    (λ files. all_requests files >>= λ requests. made_of (numbered (all_names files)) files >>= λ made. Ok (program_from files requests (numbered (all_names files)).count made)) program x.2 in
-    let z = then_ok (all_requests y.0) (λ requests. made_of (numbered (all_names y.0)) y.0 >>= λ made. Ok (program_from y.0 requests (numbered (all_names y.0)).count made)) program y.2 in
-    let w = then_ok (made_of (numbered (all_names y.0)) y.0) (λ made. Ok (program_from y.0 z.0 (numbered (all_names y.0)).count made)) program z.2 in
-    let is : program_from y.0 z.0 (numbered (all_names y.0)).count w.0 ≡ program = (let k = w.2 in cc) in
-    subst IsRead is (record { files = files_sound texts y.0 y.1; symbols = made_good (numbered (all_names y.0)) y.0 w.0 w.1 })
+    let p = phases_of texts program e in
+    record { files = files_sound texts program.files p.files_read; symbols = made_good (numbered (all_names program.files)) program.files program.made p.made }
 
 -- ---- nodes of operands
 
-got : {X : Type 0} (P : X → Type 0) (xs : List X) (n : ℕ) (x : X) → All P xs → slice_get xs n ≡ Some x → P x
+pub got : {X : Type 0} (P : X → Type 0) (xs : List X) (n : ℕ) (x : X) → All P xs → slice_get xs n ≡ Some x → P x
 got P [] n x h e = absurd (cc)
 got P (y ∷ xs) zero x h e = let is : y ≡ x = cc in subst P is (All-head P y xs h)
 got P (y ∷ xs) (suc n) x h e = got P xs n x (All-tail P y xs h) e

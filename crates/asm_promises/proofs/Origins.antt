@@ -55,7 +55,7 @@ module _ (late : LateParts) where
   unfolding file_marked
   file_length n f marks = steps_length (statement_marked late n) (λ k s ms. statement_length n k s ms) 0 f.statements marks
 
-  begun_length : length (code_begun late).origins ≡ room_of late
+  pub begun_length : length (code_begun late).origins ≡ room_of late
   unfolding code_begun all_marked
   begun_length =
       filled_length (steps_from (file_marked late) 0 late.program.files (replicate (room_of late) None))

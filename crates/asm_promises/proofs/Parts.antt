@@ -113,13 +113,16 @@ put_low rs r low h = put_by (rs.count == 0) (rs.count == 1) rs r low h
 
 -- ---- parts
 
-abbrev pub HasNone : Body → Type 0
-HasNone (bodies.Instruction at (Some operation)) = ⊥
-HasNone _ = Unit {0}
+-- no operation yet; and the symbol that is set is a name
+abbrev pub HasNone : List TokenParts → Body → Type 0
+HasNone tokens (bodies.Instruction at (Some operation)) = ⊥
+HasNone tokens (bodies.Set at) = is_name tokens at ≡ true
+HasNone tokens (bodies.Comm at) = is_name tokens at ≡ true
+HasNone tokens _ = Unit {0}
 
-pub record IsPart (p : Parts) : Type 0 where
+pub record IsPart (tokens : List TokenParts) (p : Parts) : Type 0 where
   pub registers : AreLow p.registers
-  pub none : HasNone p.body
+  pub none : HasNone tokens p.body
   pub nodes : All IsLowNode p.nodes
 
 -- a step keeps what is so of parts
@@ -150,18 +153,19 @@ pub cond_kept : (P : Parts → Type 0) {A : Type 0} (test : Bool) (a b : Step A)
 cond_kept P true a b p q = p
 cond_kept P false a b p q = q
 
-pub body_part : (body : Body) → HasNone body → (p : Parts) → IsPart p → IsPart (with_body body p)
+pub body_part : (tokens : List TokenParts) (body : Body) → HasNone tokens body → (p : Parts) → IsPart tokens p → IsPart tokens (with_body body p)
 unfolding with_body
-body_part body none p h = record { registers = h.registers; none = none; nodes = h.nodes }
+body_part tokens body none p h = record { registers = h.registers; none = none; nodes = h.nodes }
 
-pub register_part : (r : ℕ) → r < 32 → (p : Parts) → IsPart p → IsPart (with_register r p)
+pub register_part : (tokens : List TokenParts) (r : ℕ) → r < 32 → (p : Parts) → IsPart tokens p → IsPart tokens (with_register r p)
 unfolding with_register
-register_part r low p h = record { registers = put_low p.registers r low h.registers; none = h.none; nodes = h.nodes }
+register_part tokens r low p h = record { registers = put_low p.registers r low h.registers; none = h.none; nodes = h.nodes }
 
-pub operand_part : (role : Role) (relocation : Option Relocation) (first : ℕ) (p : Parts) → IsPart p → IsPart (with_operand role relocation first p)
+pub operand_part : (tokens : List TokenParts) (role : Role) (relocation : Option Relocation) (first : ℕ) (p : Parts) → IsPart tokens p
+    → IsPart tokens (with_operand role relocation first p)
 unfolding with_operand
-operand_part role relocation first p h = record { registers = h.registers; none = h.none; nodes = h.nodes }
+operand_part tokens role relocation first p h = record { registers = h.registers; none = h.none; nodes = h.nodes }
 
-pub nodes_part : (nodes : List Node) → All IsLowNode nodes → (p : Parts) → IsPart p → IsPart (with_nodes nodes p)
+pub nodes_part : (tokens : List TokenParts) (nodes : List Node) → All IsLowNode nodes → (p : Parts) → IsPart tokens p → IsPart tokens (with_nodes nodes p)
 unfolding with_nodes
-nodes_part nodes low p h = record { registers = h.registers; none = h.none; nodes = All-append IsLowNode p.nodes nodes h.nodes low }
+nodes_part tokens nodes low p h = record { registers = h.registers; none = h.none; nodes = All-append IsLowNode p.nodes nodes h.nodes low }

@@ -1,7 +1,7 @@
 -- The stacks of all harts are behind what was taken before.
-use Rattle.std.proofs.Common.{◌≡◌, ℕ, ◌+◌, ◌-◌, ◌*◌, ◌%◌, ◌^◌, ◌<◌, ◌≤◌, ◌==◌, nat_lt, Bool, true, false, cond, List, [], ◌∷◌, ◌++◌, length, Option, Some, None, Result, Ok, Err, refl, sym, ap, ◌∙◌, subst, append_assoc, length-append, lit<, arith}
+use Rattle.std.proofs.Common.{◌≡◌, ℕ, ◌+◌, ◌*◌, ◌^◌, ◌<◌, ◌≤◌, ◌==◌, nat_lt, Bool, true, false, cond, List, [], ◌∷◌, ◌++◌, length, Option, Some, None, Result, Ok, Err, refl, sym, ap, ◌∙◌, subst, append_assoc, length-append, lit<, arith}
 use Rattle.std.specs.Prelude.{◌||◌, is_some}
-use Rattle.std.proofs.Math.Nat.{mod-le, pow-le-pow_right}
+use Rattle.std.proofs.Math.Nat.{pow-le-pow_right}
 use Rattle.cap_model.specs.bounds.Alignment.{length_at_zero, alignment_mask}
 use Rattle.cap_model.specs.bounds.Lengths.{alignment}
 use Rattle.cap_model.proofs.Rounding.Alignments.{length_at_zero_alignment}
@@ -13,7 +13,7 @@ use Rattle.asm_listable.proofs.Settings.{IsReadSetting, setting_read}
 use Rattle.asm_tokens.specs.declared.fault.AsmFault.{AsmFault}
 use Rattle.asm_tokens.specs.declared.fault.AsmFaultKind.TheVariants as faults
 use Rattle.asm_tokens.specs.Faults.{◌>>=◌}
-use Rattle.asm_layout.specs.Placement.{next_multiple, padding}
+use Rattle.asm_layout.specs.Placement.{next_multiple}
 use Rattle.asm_capabilities.specs.Capabilities.{stack_alignment}
 use Rattle.asm_harts.specs.declared.registers.Registers.{Registers}
 use Rattle.asm_harts.specs.declared.hart.HartPlaces.{HartPlaces}
@@ -52,6 +52,7 @@ use Rattle.asm_image.specs.Whole.{AssembledParts, scene_of, assembly_meaning}
 use Rattle.asm_promises.specs.Given.{requests_in}
 use Rattle.asm_promises.specs.Stacks.{end_behind, IsBehind, AreBehind}
 use Rattle.asm_promises.proofs.Steps.{late_in, steps_of as phases_of}
+use Rattle.asm_promises.proofs.Placed.{next_small}
 use Rattle.asm_promises.proofs.Given.{made_of}
 use Rattle.asm_promises.proofs.Runs.{or_false, below, listable}
 
@@ -96,7 +97,7 @@ said_small : (scene : SceneParts) (setup after : SetupParts) (o : Option Setting
 said_small scene setup after (Some setting) read h e = setting_small scene setup after setting (read setting refl) h e
 said_small scene setup after None read h e = absurd (cc)
 
-words_small : (scene : SceneParts) (line : ℕ) (words : List WordParts) (setup after : SetupParts) → setup.stack ≤ MAX_RAM_BYTES
+pub words_small : (scene : SceneParts) (line : ℕ) (words : List WordParts) (setup after : SetupParts) → setup.stack ≤ MAX_RAM_BYTES
     → each_put (word_at scene line) words setup ≡ Ok after → after.stack ≤ MAX_RAM_BYTES
 unfolding each_put word_at word_put
 words_small scene line [] setup after h e = let is : setup ≡ after = cc in subst (λ (s : SetupParts). s.stack ≤ MAX_RAM_BYTES) is h
@@ -115,16 +116,6 @@ unit_small size h =
     let power : alignment (length_at_zero size) ≡ 2 ^ rounding_bits 0 size = length_at_zero_alignment size fits in
     let most : 2 ^ rounding_bits 0 size ≤ 2 ^ 55 = pow-le-pow_right {n = 2} (lit< tt) (rounding_bits_at_most 0 size fits) in
     let least : alignment (length_at_zero size) ≤ 2 ^ 55 = subst (λ (n : ℕ). n ≤ 2 ^ 55) (sym power) most in
-    omega arith
-
-pad_small : (none : Bool) (addr unit : ℕ) → (addr % unit == 0) ≡ none → cond none 0 (unit - addr % unit) ≤ unit
-pad_small true addr unit e = omega arith
-pad_small false addr unit e = omega arith
-
-next_small : (addr unit : ℕ) → next_multiple addr unit ≤ addr + unit
-next_small addr unit =
-    let pad = pad_small (addr % unit == 0) addr unit refl in
-    let less = mod-le (addr + padding addr unit) (2 ^ 64) in
     omega arith
 
 base_by : (none : Bool) (registers : Registers) (places : HartPlaces) (one : Stack) → ((places.stack == 0) || is_set registers STACK) ≡ none
@@ -186,7 +177,7 @@ append_none [] = refl
 append_none (x ∷ xs) = ap (λ ys. x ∷ ys) (append_none xs)
 
 module _ (scene : SceneParts) where
-  asked_ok : (file : ℕ) (r : Result OpenedParts AsmFault) (after : OpenedParts) → asked_in file r ≡ Ok after → r ≡ Ok after
+  pub asked_ok : (file : ℕ) (r : Result OpenedParts AsmFault) (after : OpenedParts) → asked_in file r ≡ Ok after → r ≡ Ok after
   asked_ok file (Ok opened) after e = let is : opened ≡ after = cc in ap (λ x. Ok x) is
   asked_ok file (Err fault) after e = absurd (cc)
 
@@ -297,16 +288,22 @@ end_small memory_end h k = omega arith
 room_of_eight : (memory_end count : ℕ) → memory_end < 2 ^ 33 → count ≤ 8 → memory_end + count * 2 ^ 56 < 2 ^ 63
 room_of_eight memory_end count h k = omega arith
 
-pub stacks_apart : (texts : List (List ℕ)) (harts : HartsParts) (a : AssembledParts) → assembly_meaning texts harts ≡ Ok a → AreBehind a.linked.layout.memory_end a.harts
-stacks_apart texts harts a e =
+-- no more than eight harts
+pub requests_few : (texts : List (List ℕ)) (harts : HartsParts) (a : AssembledParts) → assembly_meaning texts harts ≡ Ok a → length (requests_in harts a) ≤ 8
+requests_few texts harts a e =
     let s = phases_of texts harts a e in
     let scene : SceneParts = scene_of (late_in a) (exit_address a.linked.instructions a.exit) in
     let made = made_of (program_with s.contents.code.instructions a.exit) s.ram (listed_below s.ram s.contents.memory) s.opened.images a.image s.image in
     let images_is : length s.opened.images ≡ length a.image.harts = ap (λ (i : ImageParts). length i.harts) made.parts in
     let requests_is : length s.opened.images ≡ length (requests_in harts a) = harts_counted scene a.linked.layout.memory_end (requests_in harts a) s.opened s.opened_is in
     let most = (listable texts harts a e).most_harts in
-    let eight : length (requests_in harts a) ≤ 8 = omega arith in
+    omega arith
+
+pub stacks_apart : (texts : List (List ℕ)) (harts : HartsParts) (a : AssembledParts) → assembly_meaning texts harts ≡ Ok a → AreBehind a.linked.layout.memory_end a.harts
+stacks_apart texts harts a e =
+    let s = phases_of texts harts a e in
+    let scene : SceneParts = scene_of (late_in a) (exit_address a.linked.instructions a.exit) in
     let low = linked_end a.program a.exit a.linked s.linked in
     let small = taken_small a.linked.instructions a.exit a.linked.layout.memory_end s.judged in
-    let room = room_of_eight a.linked.layout.memory_end (length (requests_in harts a)) (end_small a.linked.layout.memory_end low small) eight in
+    let room = room_of_eight a.linked.layout.memory_end (length (requests_in harts a)) (end_small a.linked.layout.memory_end low small) (requests_few texts harts a e) in
     subst (AreBehind a.linked.layout.memory_end) s.notes (stacks_behind scene a.linked.layout.memory_end (requests_in harts a) s.opened room s.opened_is)

@@ -1,10 +1,11 @@
 -- Numbers of tokens have 64 bits.
-use Rattle.std.proofs.Common.{◌≡◌, ℕ, zero, suc, ◌+◌, ◌-◌, ◌^◌, ◌<◌, ◌==◌, ◌&&◌, nat_lt, nat_le, Bool, true, false, cond, List, [], ◌∷◌, ◌++◌, length, take, drop, Option, Some, None, Result, Ok, All, refl, subst, lit<, arith}
+use Rattle.std.proofs.Common.{◌≡◌, ℕ, zero, suc, ◌+◌, ◌-◌, ◌^◌, ◌<◌, ◌==◌, ◌&&◌, nat_lt, nat_le, Bool, true, false, cond, List, [], ◌∷◌, ◌++◌, length, take, drop, Option, Some, None, Result, Ok, All, refl, sym, ap, ◌∙◌, subst, lit<, arith}
 use Rattle.std.specs.Prelude.{◌||◌, slice_index, option_map, take_while, List}
 use Rattle.std.specs.Char.{is_ascii_digit}
 use Rattle.std.specs.Str.Parse.{digits_value}
 use Rattle.std.proofs.lemmas.Bool.Decides.{nat_tests}
-use Rattle.std.proofs.lemmas.List.Elements.{All-nil, All-cons}
+use Rattle.std.proofs.lemmas.List.Sums.{take_while-cons}
+use Rattle.std.proofs.lemmas.List.Elements.{All-nil, All-cons, All-weaker}
 use Rattle.asm_tokens.specs.declared.escapes.Escape.{Escape}
 use Rattle.asm_tokens.specs.declared.fault.AsmFault.{AsmFault}
 use Rattle.asm_tokens.specs.declared.place.Place.{Place}
@@ -17,6 +18,8 @@ use Rattle.asm_tokens.specs.declared.token.TokenKind.TheVariants as kinds
 use Rattle.asm_tokens.specs.declared.lexemes.Lexeme.{Lexeme}
 use Rattle.asm_tokens.specs.declared.lexemes.Lexeme.TheVariants.{Blank, Token, Bad}
 use Rattle.asm_tokens.specs.Bytes.{is_blank, is_name_start, is_name_byte, rest_of_line}
+use Rattle.asm_map_reader.specs.Words.{is_symbol}
+use Rattle.std.specs.List.{list_all}
 use Rattle.asm_tokens.specs.Escapes.{named_escape, digits_in, escaped, octal_escape, last_two, hexadecimal_escape, escape_of}
 use Rattle.asm_tokens.specs.Numbers.{written_number, within_64_bits, is_local, kind_by, number_kind}
 use Rattle.asm_tokens.specs.Places.{start, after_byte}
@@ -33,8 +36,22 @@ IsLowKind _ = Unit {0}
 abbrev pub IsLowToken : TokenParts → Type 0
 IsLowToken token = IsLowKind token.kind
 
+-- a name's token is a name as maps have it
+abbrev pub IsNamedKind : TokenKind → List ℕ → Type 0
+IsNamedKind kinds.Name text = is_symbol text ≡ true
+IsNamedKind _ text = Unit {0}
+
+abbrev pub IsNamedToken : TokenParts → Type 0
+IsNamedToken token = IsNamedKind token.kind token.text
+
+-- what is so of tokens that are no names
+abbrev IsOther : TokenKind → Type 0
+IsOther kinds.Name = ⊥
+IsOther (kinds.Number (Some n)) = n < 2 ^ 64
+IsOther _ = Unit {0}
+
 abbrev IsLowLexeme : Lexeme → Type 0
-IsLowLexeme (Token kind more) = IsLowKind kind
+IsLowLexeme (Token kind more) = IsOther kind
 IsLowLexeme (Blank more) = Unit {0}
 IsLowLexeme (Bad more) = Unit {0}
 
@@ -47,7 +64,7 @@ blank more = record { low = tt }
 bad : (more : ℕ) → IsLow (Bad more)
 bad more = record { low = tt }
 
-of_kind : (kind : TokenKind) (more : ℕ) → IsLowKind kind → IsLow (Token kind more)
+of_kind : (kind : TokenKind) (more : ℕ) → IsOther kind → IsLow (Token kind more)
 of_kind kind more h = record { low = h }
 
 either : (test : Bool) (a b : Lexeme) → IsLow a → IsLow b → IsLow (cond test a b)
@@ -85,17 +102,17 @@ hash_low opens after =
 
 -- ---- numbers
 
-within_by : (test : Bool) (n : ℕ) → nat_lt n (2 ^ 64) ≡ test → IsLowKind (kinds.Number (cond test (Some n) None))
+within_by : (test : Bool) (n : ℕ) → nat_lt n (2 ^ 64) ≡ test → IsOther (kinds.Number (cond test (Some n) None))
 within_by true n t = grind (arith, nat_tests)
 within_by false n t = tt
 
-kind_low : (o : Option ℕ) (local : Bool) (kind : TokenKind) → kind_by o local ≡ Some kind → IsLowKind kind
+kind_low : (o : Option ℕ) (local : Bool) (kind : TokenKind) → kind_by o local ≡ Some kind → IsOther kind
 kind_low (Some n) local kind e =
-    let is : kinds.Number (within_64_bits n) ≡ kind = cc in subst IsLowKind is (within_by (nat_lt n (2 ^ 64)) n refl)
-kind_low None true kind e = let is : kinds.Local ≡ kind = cc in subst IsLowKind is tt
+    let is : kinds.Number (within_64_bits n) ≡ kind = cc in subst IsOther is (within_by (nat_lt n (2 ^ 64)) n refl)
+kind_low None true kind e = let is : kinds.Local ≡ kind = cc in subst IsOther is tt
 kind_low None false kind e = absurd (cc)
 
-token_low : (o : Option TokenKind) (more : ℕ) → ((kind : TokenKind) → o ≡ Some kind → IsLowKind kind) → IsLow (number_token o more)
+token_low : (o : Option TokenKind) (more : ℕ) → ((kind : TokenKind) → o ≡ Some kind → IsOther kind) → IsLow (number_token o more)
 token_low (Some kind) more low = of_kind kind more (low kind refl)
 token_low None more low = bad 0
 
@@ -209,55 +226,127 @@ string_low : (after : List ℕ) → IsLow (string_lexeme after)
 unfolding string_lexeme
 string_low after = string_by_low (string_end 0 after)
 
-other_by : (blanks name : Bool) (b : ℕ) (after : List ℕ)
-    → IsLow (cond blanks (Blank (length (take_while is_blank after))) (cond name (Token kinds.Name (length (take_while is_name_byte after))) (mark_lexeme b after)))
-other_by true name b after = blank (length (take_while is_blank after))
-other_by false true b after = of_kind kinds.Name (length (take_while is_name_byte after)) tt
-other_by false false b after = mark_low b after
+-- a name is as long as its bytes are that a name can have
+abbrev IsReadLexeme : ℕ → List ℕ → Lexeme → Type 0
+IsReadLexeme b after (Token kinds.Name more) = (is_name_start b ≡ true) × (more ≡ length (take_while is_name_byte after))
+IsReadLexeme b after (Token kind more) = IsLowKind kind
+IsReadLexeme b after (Blank more) = Unit {0}
+IsReadLexeme b after (Bad more) = Unit {0}
 
-other_low : (b : ℕ) (after : List ℕ) → IsLow (other_lexeme b after)
+record IsRead (b : ℕ) (after : List ℕ) (lexeme : Lexeme) : Type 0 where
+  read : IsReadLexeme b after lexeme
+
+kind_read : (b : ℕ) (after : List ℕ) (kind : TokenKind) (more : ℕ) → IsOther kind → IsRead b after (Token kind more)
+kind_read b after kinds.Name more h = absurd h
+kind_read b after (kinds.Number (Some n)) more h = record { read = h }
+kind_read b after (kinds.Number None) more h = record { read = tt }
+kind_read b after kind more h = record { read = tt }
+
+other_read : (b : ℕ) (after : List ℕ) (lexeme : Lexeme) → IsLow lexeme → IsRead b after lexeme
+other_read b after (Token kind more) h = kind_read b after kind more h.low
+other_read b after (Blank more) h = record { read = tt }
+other_read b after (Bad more) h = record { read = tt }
+
+other_by : (blanks name : Bool) (b : ℕ) (after : List ℕ) → is_name_start b ≡ name
+    → IsRead b after (cond blanks (Blank (length (take_while is_blank after))) (cond name (Token kinds.Name (length (take_while is_name_byte after))) (mark_lexeme b after)))
+other_by true name b after n = record { read = tt }
+other_by false true b after n = record { read = (n, refl) }
+other_by false false b after n = other_read b after (mark_lexeme b after) (mark_low b after)
+
+last_read : (b : ℕ) (after : List ℕ) → IsRead b after (other_lexeme b after)
 unfolding other_lexeme
-other_low b after = other_by (is_blank b) (is_name_start b) b after
+last_read b after = other_by (is_blank b) (is_name_start b) b after refl
 
 lexeme_cases : (end hash slash quote double digit opens : Bool) (b : ℕ) (text after : List ℕ)
-    → IsLow (cond end (Token kinds.End 0) (cond hash (hash_lexeme opens after) (cond slash (slash_lexeme after) (cond quote (character_lexeme after)
+    → IsRead b after (cond end (Token kinds.End 0) (cond hash (hash_lexeme opens after) (cond slash (slash_lexeme after) (cond quote (character_lexeme after)
     (cond double (string_lexeme after) (cond digit (number_lexeme text) (other_lexeme b after)))))))
-lexeme_cases true hash slash quote double digit opens b text after = of_kind kinds.End 0 tt
-lexeme_cases false true slash quote double digit opens b text after = hash_low opens after
-lexeme_cases false false true quote double digit opens b text after = slash_low after
-lexeme_cases false false false true double digit opens b text after = character_low after
-lexeme_cases false false false false true digit opens b text after = string_low after
-lexeme_cases false false false false false true opens b text after = number_low text
-lexeme_cases false false false false false false opens b text after = other_low b after
+lexeme_cases true hash slash quote double digit opens b text after = record { read = tt }
+lexeme_cases false true slash quote double digit opens b text after = other_read b after (hash_lexeme opens after) (hash_low opens after)
+lexeme_cases false false true quote double digit opens b text after = other_read b after (slash_lexeme after) (slash_low after)
+lexeme_cases false false false true double digit opens b text after = other_read b after (character_lexeme after) (character_low after)
+lexeme_cases false false false false true digit opens b text after = other_read b after (string_lexeme after) (string_low after)
+lexeme_cases false false false false false true opens b text after = other_read b after (number_lexeme text) (number_low text)
+lexeme_cases false false false false false false opens b text after = last_read b after
 
-lexeme_low : (opens : Bool) (text : List ℕ) → IsLow (lexeme_of opens text)
+lexeme_read : (opens : Bool) (b : ℕ) (after : List ℕ) → IsRead b after (lexeme_of opens (b ∷ after))
 unfolding lexeme_by
-lexeme_low opens text =
-    let b = slice_index text 0 in
-    lexeme_cases ((b == 0x0A) || (b == 0x3B)) (b == 0x23) (b == 0x2F) (b == 0x27) (b == 0x22) (is_ascii_digit b) opens b text (drop 1 text)
+lexeme_read opens b after =
+    lexeme_cases ((b == 0x0A) || (b == 0x3B)) (b == 0x23) (b == 0x2F) (b == 0x27) (b == 0x22) (is_ascii_digit b) opens b (b ∷ after) after
+
+-- ---- names
+
+pass_by : (test : ℕ → Bool) (x : ℕ) (rest : List ℕ) (passes : Bool) → list_all test rest ≡ true → test x ≡ passes → list_all test (cond passes (x ∷ rest) []) ≡ true
+pass_by test x rest true h t = rw t h
+pass_by test x rest false h t = refl
+
+all_pass : (test : ℕ → Bool) (xs : List ℕ) → list_all test (take_while test xs) ≡ true
+all_pass test [] = refl
+all_pass test (x ∷ xs) = ap (λ (ys : List ℕ). list_all test ys) (take_while-cons test x xs) ∙ pass_by test x (take_while test xs) (test x) (all_pass test xs) refl
+
+take_by : (passes : Bool) (x : ℕ) (xs ys : List ℕ) → take (length ys) xs ≡ ys → take (length (cond passes (x ∷ ys) [])) (x ∷ xs) ≡ cond passes (x ∷ ys) []
+take_by true x xs ys h = ap (λ (zs : List ℕ). x ∷ zs) h
+take_by false x xs ys h = refl
+
+take_passing : (test : ℕ → Bool) (xs : List ℕ) → take (length (take_while test xs)) xs ≡ take_while test xs
+take_passing test [] = refl
+take_passing test (x ∷ xs) =
+    subst (λ (ys : List ℕ). take (length ys) (x ∷ xs) ≡ ys) (sym (take_while-cons test x xs)) (take_by (test x) x xs (take_while test xs) (take_passing test xs))
+
+name_byte : (b : ℕ) → is_name_start b ≡ true → is_name_byte b ≡ true
+unfolding is_name_byte
+name_byte b h = rw h refl
+
+name_text : (b : ℕ) (after : List ℕ) → is_name_start b ≡ true → is_symbol (b ∷ take_while is_name_byte after) ≡ true
+name_text b after h =
+    let some : nat_le 1 (suc (length (take_while is_name_byte after))) ≡ true = grind (arith, nat_tests) in
+    rw (h, name_byte b h, all_pass is_name_byte after, some) refl
+
+next_is : (n : ℕ) → n + 1 ≡ suc n
+next_is n = omega arith
+
+token_text : (b more : ℕ) (after : List ℕ) → is_name_start b ≡ true → more ≡ length (take_while is_name_byte after) → is_symbol (take (more + 1) (b ∷ after)) ≡ true
+token_text b more after h count =
+    let is : take (more + 1) (b ∷ after) ≡ b ∷ take_while is_name_byte after =
+    ap (λ (n : ℕ). take n (b ∷ after)) (next_is more) ∙ ap (λ (ys : List ℕ). b ∷ ys) (ap (λ (n : ℕ). take n after) count ∙ take_passing is_name_byte after) in
+    ap is_symbol is ∙ name_text b after h
 
 -- ---- all tokens
 
-rest_low : (place : Place) (text : List ℕ) (lexeme : Lexeme) (rest : ℕ → Result (List TokenParts) AsmFault) (tokens : List TokenParts) → IsLow lexeme
-    → ((more : ℕ) (later : List TokenParts) → rest more ≡ Ok later → All IsLowToken later) → then_rest place text lexeme rest ≡ Ok tokens → All IsLowToken tokens
-rest_low place text (Blank more) rest tokens low later e = later more tokens e
-rest_low place text (Token kind more) rest tokens low later e =
-    let token : TokenParts = record { kind = kind; text = take (more + 1) text; place = place } in
+record IsReadToken (token : TokenParts) : Type 0 where
+  low : IsLowToken token
+  named : IsNamedToken token
+
+kind_token : (b : ℕ) (after : List ℕ) (place : Place) (kind : TokenKind) (more : ℕ) → IsReadLexeme b after (Token kind more)
+    → IsReadToken (record { kind = kind; text = take (more + 1) (b ∷ after); place = place })
+kind_token b after place kinds.Name more h = record { low = tt; named = token_text b more after h.0 h.1 }
+kind_token b after place kind more h = record { low = h; named = tt }
+
+rest_read : (b : ℕ) (after : List ℕ) (place : Place) (lexeme : Lexeme) (rest : ℕ → Result (List TokenParts) AsmFault) (tokens : List TokenParts) → IsRead b after lexeme
+    → ((more : ℕ) (later : List TokenParts) → rest more ≡ Ok later → All IsReadToken later) → then_rest place (b ∷ after) lexeme rest ≡ Ok tokens → All IsReadToken tokens
+rest_read b after place (Blank more) rest tokens read later e = later more tokens e
+rest_read b after place (Token kind more) rest tokens read later e =
+    let token : TokenParts = record { kind = kind; text = take (more + 1) (b ∷ after); place = place } in
     let x = then_ok (rest more) (λ others. Ok (token ∷ [] ++ others)) tokens e in
     let is : token ∷ x.0 ≡ tokens = (let h = x.2 in cc) in
-    subst (All IsLowToken) is (All-cons IsLowToken token x.0 low.low (later more x.0 x.1))
-rest_low place text (Bad more) rest tokens low later e = absurd (cc)
+    subst (All IsReadToken) is (All-cons IsReadToken token x.0 (kind_token b after place kind more read.read) (later more x.0 x.1))
+rest_read b after place (Bad more) rest tokens read later e = absurd (cc)
 
-from_low : (skip : ℕ) (place : Place) (opens : Bool) (text : List ℕ) (tokens : List TokenParts) → tokens_from skip place opens text ≡ Ok tokens → All IsLowToken tokens
+from_read : (skip : ℕ) (place : Place) (opens : Bool) (text : List ℕ) (tokens : List TokenParts) → tokens_from skip place opens text ≡ Ok tokens → All IsReadToken tokens
 unfolding tokens_from
-from_low skip place opens [] tokens e =
+from_read skip place opens [] tokens e =
     let end : TokenParts = record { kind = kinds.End; text = []; place = place } in
-    let is : end ∷ [] ≡ tokens = cc in subst (All IsLowToken) is (All-cons IsLowToken end [] tt (All-nil IsLowToken))
-from_low (suc skip) place opens (b ∷ text) tokens e = from_low skip (after_byte place b) opens text tokens e
-from_low zero place opens (b ∷ text) tokens e =
-    rest_low place (b ∷ text) (lexeme_of opens (b ∷ text)) (λ more. tokens_from more (after_byte place b) (opens_after opens b) text) tokens (lexeme_low opens (b ∷ text))
-    (λ more later h. from_low more (after_byte place b) (opens_after opens b) text later h) e
+    let is : end ∷ [] ≡ tokens = cc in subst (All IsReadToken) is (All-cons IsReadToken end [] (record { low = tt; named = tt }) (All-nil IsReadToken))
+from_read (suc skip) place opens (b ∷ text) tokens e = from_read skip (after_byte place b) opens text tokens e
+from_read zero place opens (b ∷ text) tokens e =
+    rest_read b text place (lexeme_of opens (b ∷ text)) (λ more. tokens_from more (after_byte place b) (opens_after opens b) text) tokens (lexeme_read opens b text)
+    (λ more later h. from_read more (after_byte place b) (opens_after opens b) text later h) e
+
+tokens_read : (text : List ℕ) (tokens : List TokenParts) → tokens_of text ≡ Ok tokens → All IsReadToken tokens
+unfolding tokens_of
+tokens_read text tokens e = from_read 0 start true text tokens e
 
 pub tokens_low : (text : List ℕ) (tokens : List TokenParts) → tokens_of text ≡ Ok tokens → All IsLowToken tokens
-unfolding tokens_of
-tokens_low text tokens e = from_low 0 start true text tokens e
+tokens_low text tokens e = All-weaker IsReadToken IsLowToken (λ token h. h.low) tokens (tokens_read text tokens e)
+
+pub tokens_named : (text : List ℕ) (tokens : List TokenParts) → tokens_of text ≡ Ok tokens → All IsNamedToken tokens
+tokens_named text tokens e = All-weaker IsReadToken IsNamedToken (λ token h. h.named) tokens (tokens_read text tokens e)

@@ -2,3 +2,4 @@
 pub mod Given
 pub mod Stacks
 pub mod Labels
+pub mod Maps

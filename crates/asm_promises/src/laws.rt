@@ -1,7 +1,8 @@
 //! Laws over what files of assembly mean: the functions do nothing, and their contracts are the
 //! laws.
 
-ghost use Rattle.std.specs.Prelude.{◌≡◌, ◌≤◌, ◌+◌, ◌*◌, ◌%◌, ◌^◌, ℕ, List, length, Ok};
+ghost use Rattle.std.specs.Prelude.{◌≡◌, ◌≤◌, ◌<◌, ◌+◌, ◌*◌, ◌%◌, ◌^◌, ◌++◌, ℕ, List, length};
+ghost use Rattle.std.specs.Prelude.{Ok, Some, codes, map, slice_get, true};
 ghost use Rattle.std.specs.List.{All};
 ghost use Rattle.cheri_model.specs.declared.code.TheConstants.{CODE_BASE, INSTRUCTION_BYTES};
 ghost use Rattle.asm_values.specs.declared.values.Location.{Location};
@@ -14,7 +15,13 @@ ghost use Rattle.asm_drafts.specs.Drafts.{DraftParts};
 ghost use Rattle.asm_drafts.specs.Labels.{labels_put};
 ghost use Rattle.asm_files.specs.declared.stand.Stand.{Stand};
 ghost use Rattle.asm_files.specs.Stands.{statement_stood};
-ghost use Rattle.asm_promises.specs.Labels.{AreThere};
+ghost use Rattle.asm_files.specs.Files.{program_of};
+ghost use Rattle.asm_files.specs.Programs.{FileParts, ProgramParts, stand_in};
+ghost use Rattle.asm_expressions.specs.Tokens.{text_at};
+ghost use Rattle.asm_statements.specs.Marks.{is_name};
+ghost use Rattle.asm_symbols.specs.declared.locals.Local.{Local};
+ghost use Rattle.asm_links.specs.Locals.{has_digits, local_label};
+ghost use Rattle.asm_promises.specs.Labels.{AreThere, IsFirst, IsLast, IsNamed, labels_after, labels_up_to};
 ghost use Rattle.asm_late.specs.Late.{LateParts};
 ghost use Rattle.asm_code.specs.Standing.{index_of};
 ghost use Rattle.asm_code.specs.Standing as standing;
@@ -23,8 +30,24 @@ ghost use Rattle.canonical.specs.Canon.{canon};
 ghost use Rattle.canonical.specs.Listable.{IsListable};
 ghost use Rattle.asm_pictures.specs.Asked.{HartsParts};
 ghost use Rattle.asm_pictures.specs.Image.{total};
-ghost use Rattle.asm_image.specs.Whole.{AssembledParts, assembly_meaning};
-ghost use Rattle.asm_promises.specs.Stacks.{AreBehind};
+ghost use Rattle.asm_image.specs.Whole.{AssembledParts, assembly_meaning, map_of};
+ghost use Rattle.asm_map_laws.specs.Written.{IsWritable, said_of};
+ghost use Rattle.asm_map_reader.specs.declared.draft.Counts.{Counts};
+ghost use Rattle.asm_map_reader.specs.Lines as reader;
+ghost use Rattle.asm_map_reader.specs.Reading.{map_meaning};
+ghost use Rattle.asm_mapping.specs.Lines.{line_parts};
+ghost use Rattle.asm_maps.specs.Maps.{map_text};
+ghost use Rattle.asm_maps.specs.declared.line.MapLine.{MapLine};
+ghost use Rattle.asm_promises.specs.Maps.{IsFileText};
+ghost use Rattle.asm_starts.specs.Starts.{NoteParts};
+ghost use Rattle.asm_promises.specs.Stacks.{
+  AreApart,
+  AreBehind,
+  DataBeginsAfter,
+  EndsBefore,
+  OverlapsNone,
+  table_end,
+};
 ghost use Rattle.asm_promises.specs.Given.{
   IsGivenHart,
   IsHeld,
@@ -63,6 +86,48 @@ pub fn labels_stand_at_their_statement()
         × AreThere next.1 parts labelled }
 {}
 
+/// The map of an image reads back: each of its lines is one that a map can have, so that reading it
+/// gives what they say, of a program with so many instructions and harts. There are at most 16
+/// files, with names that have no newline.
+pub fn every_map_reads_back()
+    ensures lines { (texts : List (List ℕ)) (harts : HartsParts) (a : AssembledParts)
+        (names : List (List ℕ)) (lines : List MapLine) → length texts ≤ 16
+        → assembly_meaning texts harts ≡ Ok a → length names ≡ length texts
+        → All IsFileText names → map line_parts lines ≡ map_of a names → All IsWritable lines }
+    ensures reads { (texts : List (List ℕ)) (harts : HartsParts) (a : AssembledParts)
+        (names : List (List ℕ)) (lines : List MapLine) (counts : Counts) → length texts ≤ 16
+        → assembly_meaning texts harts ≡ Ok a → length names ≡ length texts
+        → All IsFileText names → map line_parts lines ≡ map_of a names
+        → map_meaning counts (map_text lines) ≡ said_of counts (map reader.line_parts lines) }
+{}
+
+/// Each label of a file that is a name is the symbol that the file has of that name: a place, where
+/// the statement stands that it is of.
+pub fn names_are_labels_of_statements()
+    ensures { (texts : List (List ℕ)) (program : ProgramParts) → program_of texts ≡ Ok program
+        → (file number label : ℕ) (f : FileParts) (s : StatementParts)
+        → slice_get program.files file ≡ Some f → slice_get f.statements number ≡ Some s
+        → label < s.labels → is_name f.tokens (s.first + 2 * label) ≡ true
+        → IsNamed program file (s.first + 2 * label) (text_at f.tokens (s.first + 2 * label))
+        (stand_in program file number) }
+{}
+
+/// Of local labels, `1b` is the last one with these digits of the statements up to the one that
+/// says it, its own included, and `1f` the first one of those after it; and each stands where the
+/// statement stands that it is of.
+pub fn local_labels_are_the_nearest()
+    ensures back { (texts : List (List ℕ)) (program : ProgramParts) → program_of texts ≡ Ok program
+        → (file number : ℕ) (f : FileParts) (digits : List ℕ) (label : Local)
+        → slice_get program.files file ≡ Some f → number < length f.statements
+        → local_label program file number (digits ++ codes "b") ≡ Some label
+        → IsLast (has_digits f.tokens digits) (labels_up_to program file f number) label }
+    ensures ahead { (texts : List (List ℕ)) (program : ProgramParts) → program_of texts ≡ Ok program
+        → (file number : ℕ) (f : FileParts) (digits : List ℕ) (label : Local)
+        → slice_get program.files file ≡ Some f → number < length f.statements
+        → local_label program file number (digits ++ codes "f") ≡ Some label
+        → IsFirst (has_digits f.tokens digits) (labels_after program file f number) label }
+{}
+
 /// What a branch goes to is the instruction at the place that its target is: no further than the
 /// program's end, at its number's address; and the first one of the statement that stands there.
 pub fn targets_are_instructions()
@@ -82,6 +147,31 @@ pub fn stacks_are_apart()
     ensures { (texts : List (List ℕ)) (harts : HartsParts) (a : AssembledParts)
         → assembly_meaning texts harts ≡ Ok a
         → AreBehind a.linked.layout.memory_end a.harts }
+{}
+
+/// Symbols lie in the memory that the layout takes: those of data begin behind the capability
+/// table, and the bytes of each symbol, and the table, end before that memory does; those of
+/// different chunks are apart. Nothing wraps. There are at most 16 files.
+pub fn symbols_lie_in_memory()
+    ensures begin { (texts : List (List ℕ)) (harts : HartsParts) (a : AssembledParts)
+        → length texts ≤ 16 → assembly_meaning texts harts ≡ Ok a
+        → DataBeginsAfter (objects_in a) (table_end a) }
+    ensures end { (texts : List (List ℕ)) (harts : HartsParts) (a : AssembledParts)
+        → length texts ≤ 16 → assembly_meaning texts harts ≡ Ok a
+        → EndsBefore (objects_in a) a.linked.layout.memory_end }
+    ensures table { (texts : List (List ℕ)) (harts : HartsParts) (a : AssembledParts)
+        → length texts ≤ 16 → assembly_meaning texts harts ≡ Ok a
+        → table_end a ≤ a.linked.layout.memory_end }
+    ensures apart { (texts : List (List ℕ)) (harts : HartsParts) (a : AssembledParts)
+        → length texts ≤ 16 → assembly_meaning texts harts ≡ Ok a → AreApart (objects_in a) }
+{}
+
+/// A stack overlaps no symbol: it begins behind all the bytes of each, and behind the capability
+/// table. There are at most 16 files.
+pub fn stacks_overlap_no_symbol()
+    ensures { (texts : List (List ℕ)) (harts : HartsParts) (a : AssembledParts)
+        → length texts ≤ 16 → assembly_meaning texts harts ≡ Ok a
+        → All (λ (note : NoteParts). OverlapsNone a note.stack) a.harts }
 {}
 
 /// Nothing is given but what is written: a granule of an image holds an integer, a sentry with
