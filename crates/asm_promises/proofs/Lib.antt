@@ -30,7 +30,9 @@ pub mod Origins
 pub mod Targets
 pub mod LabelPlaces
 pub mod Locals
+pub mod Nearest
 pub mod Names
+pub mod NamesOfFiles
 pub mod SymbolNames
 pub mod MapLines
 pub mod Notes

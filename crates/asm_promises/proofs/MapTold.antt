@@ -51,7 +51,7 @@ use Rattle.asm_promises.proofs.Runs.{few, total_least}
 use Rattle.asm_promises.proofs.Instructions.{code_origins}
 use Rattle.asm_promises.proofs.Origins.{begun_length}
 use Rattle.asm_promises.proofs.Reading.{IsInLine, IsFile, Phases, phases_of}
-use Rattle.asm_promises.proofs.Sizes.{IsSmallChunk, IsInChunk, EndsIn, chunk_small}
+use Rattle.asm_promises.proofs.Sizes.{found, IsSmallChunk, IsInChunk, EndsIn, chunk_small}
 use Rattle.asm_promises.proofs.Made.{made_sized}
 use Rattle.asm_promises.proofs.Counts.{table_few}
 use Rattle.asm_promises.proofs.Symbols.{by_most, symbol_most}
@@ -175,14 +175,9 @@ record IsTable (count : ℕ) (table : TableParts) : Type 0 where
   entries : length table.entries ≡ count
   symbols : All (λ k. k < count) table.symbols
 
-within : {X : Type 0} (xs : List X) (n : ℕ) (x : X) → slice_get xs n ≡ Some x → n < length xs
-within [] n x e = absurd (cc)
-within (y ∷ xs) zero x e = omega arith
-within (y ∷ xs) (suc n) x e = let less = within xs n x e in omega arith
-
 entered_table : (count symbol : ℕ) (table : TableParts) (o : Option (Option ℕ)) → slice_get table.entries symbol ≡ o → IsTable count table → IsTable count (entered_by symbol table o)
 entered_table count symbol table (Some None) g h =
-    let less = within table.entries symbol None g in
+    let less = (found table.entries symbol None None g).0 in
     let same = h.entries in
     let kept : length (slice_set table.entries symbol (Some (length table.symbols))) ≡ length table.entries = length-set table.entries symbol (Some (length table.symbols)) in
     record { entries = kept ∙ same; symbols = All-push (λ k. k < count) table.symbols symbol h.symbols (omega arith) }

@@ -1,5 +1,5 @@
 -- Chunks are small, and symbols end in theirs.
-use Rattle.std.proofs.Common.{◌≡◌, ℕ, zero, suc, ◌+◌, ◌≤◌, ◌==◌, ◌⊎◌, inl, inr, nat_lt, Bool, true, false, cond, List, [], ◌∷◌, ◌++◌, length, slice_index_or, slice_set, Option, Some, None, Ok, Err, All, refl, sym, ap, ◌∙◌, subst, lit≤, arith}
+use Rattle.std.proofs.Common.{◌≡◌, ℕ, zero, suc, ◌+◌, ◌<◌, ◌≤◌, ◌==◌, ◌⊎◌, inl, inr, nat_lt, Bool, true, false, cond, List, [], ◌∷◌, ◌++◌, length, slice_get, slice_index_or, slice_set, Option, Some, None, Ok, Err, All, refl, sym, ap, ◌∙◌, subst, lit≤, arith}
 use Rattle.std.proofs.lemmas.Bool.{cases_lt}
 use Rattle.std.proofs.Math.ListN.{length-set}
 use Rattle.std.proofs.lemmas.List.{get_or_past, length-append}
@@ -41,6 +41,12 @@ set_or (y ∷ xs) (suc i) x (suc n) d =
 pub last_item : {X : Type 0} (xs : List X) (x d : X) → slice_index_or (xs ++ x ∷ []) (length xs) d ≡ x
 last_item [] x d = refl
 last_item (y ∷ xs) x d = last_item xs x d
+
+-- an item that is there
+pub found : {X : Type 0} (xs : List X) (number : ℕ) (x d : X) → slice_get xs number ≡ Some x → (number < length xs) × (slice_index_or xs number d ≡ x)
+found [] number x d e = absurd (cc)
+found (y ∷ xs) zero x d e = (omega arith, cc)
+found (y ∷ xs) (suc number) x d e = let rest = found xs number x d e in let less = rest.0 in (omega arith, rest.1)
 
 -- ---- sizes
 

@@ -44,7 +44,7 @@ use Rattle.asm_promises.proofs.Steps.{steps_of}
 use Rattle.asm_promises.proofs.Runs.{few, total_least}
 use Rattle.asm_promises.proofs.Late.{got}
 use Rattle.asm_promises.proofs.Reading.{Phases, phases_of}
-use Rattle.asm_promises.proofs.Sizes.{IsInChunk, EndsIn, size_at}
+use Rattle.asm_promises.proofs.Sizes.{found, IsInChunk, EndsIn, size_at}
 use Rattle.asm_promises.proofs.Made.{IsSized, made_sized}
 use Rattle.asm_promises.proofs.Coverage.{all_in_order}
 use Rattle.asm_promises.proofs.Counts.{order_count, sections_few, table_few}
@@ -143,16 +143,6 @@ kept_is : (dropped : Bool) (o : Option ℕ) (start : ℕ) → cond dropped None 
 kept_is true o start e = absurd (cc)
 kept_is false o start e = e
 
-got_at : (xs : List ℕ) (number n : ℕ) → slice_get xs number ≡ Some n → slice_index_or xs number 0 ≡ n
-got_at [] number n e = absurd (cc)
-got_at (x ∷ xs) zero n e = cc
-got_at (x ∷ xs) (suc number) n e = got_at xs number n e
-
-within : (xs : List ℕ) (number n : ℕ) → slice_get xs number ≡ Some n → number < length xs
-within [] number n e = absurd (cc)
-within (x ∷ xs) zero n e = omega arith
-within (x ∷ xs) (suc number) n e = let less = within xs number n e in omega arith
-
 kind_same : (chunks : List Chunk) (number : ℕ) → kind_or_dropped (slice_get chunks number) ≡ (slice_index_or chunks number no_chunk).kind
 kind_same [] number = refl
 kind_same (chunk ∷ chunks) zero = refl
@@ -173,7 +163,7 @@ unfolding address_in chunk_address
 chunk_kept places chunk offset base e =
     let x = then_is (cond (rank (kind_of places chunk) == rank kinds.Dropped) None (slice_get places.addresses chunk)) offset base e in
     record {
-      less = within places.addresses chunk x.0 (kept_is (rank (kind_of places chunk) == rank kinds.Dropped) (slice_get places.addresses chunk) x.0 x.1);
+      less = (found places.addresses chunk x.0 0 (kept_is (rank (kind_of places chunk) == rank kinds.Dropped) (slice_get places.addresses chunk) x.0 x.1)).0;
       kept = kept_test (rank (kind_of places chunk) == rank kinds.Dropped) (slice_get places.addresses chunk) x.0 x.1;
     }
 
@@ -181,7 +171,7 @@ address_is : (places : PlacesParts) (chunk offset base : ℕ) → address_in pla
 unfolding address_in chunk_address
 address_is places chunk offset base e =
     let x = then_is (cond (rank (kind_of places chunk) == rank kinds.Dropped) None (slice_get places.addresses chunk)) offset base e in
-    let start_is : slice_index_or places.addresses chunk 0 ≡ x.0 = got_at places.addresses chunk x.0 (kept_is (rank (kind_of places chunk) == rank kinds.Dropped) (slice_get places.addresses chunk) x.0 x.1) in
+    let start_is : slice_index_or places.addresses chunk 0 ≡ x.0 = (found places.addresses chunk x.0 0 (kept_is (rank (kind_of places chunk) == rank kinds.Dropped) (slice_get places.addresses chunk) x.0 x.1)).1 in
     ap (λ (n : ℕ). (n + offset) % 2 ^ 64) start_is ∙ x.2
 
 fits : (start offset length size end base : ℕ) → start + size ≤ end → end < 2 ^ 64 → offset + length ≤ size → (start + offset) % 2 ^ 64 ≡ base → base + length ≤ end

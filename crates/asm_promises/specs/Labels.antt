@@ -74,7 +74,8 @@ pub record IsFirst (test : Local → Bool) (labels : List Local) (label : Local)
 -- ---- names
 
 -- a label that is a name is the symbol that its file has of it, a place where the statement stands
-pub record IsNamed (program : ProgramParts) (file token : ℕ) (name : List ℕ) (stand : Stand) : Type 0 where
+pub record IsNamed (program : ProgramParts) (file token : ℕ) (name : List ℕ) (stand : Stand)
+    : Type 0 where
   pub symbol : ℕ
   pub definition : DefinitionParts
   pub own : own_in program file name ≡ Some symbol

@@ -1,5 +1,6 @@
 -- Stacks one after another, each behind what was taken before, and behind all symbols.
-use Rattle.std.specs.Prelude.{◌≡◌, ℕ, ◌+◌, ◌≤◌, ◌==◌, ◌⊎◌, ⊤, false, List, [], ◌∷◌, length, Option, Some, None}
+use Rattle.std.specs.Prelude.{◌≡◌, ◌⊎◌, ℕ, ◌+◌, ◌≤◌, ◌==◌, ⊤, false, List, [], ◌∷◌, length}
+use Rattle.std.specs.Prelude.{Option, Some, None}
 use Rattle.cheri_model.specs.declared.memory.TheConstants.{RAM_BASE}
 use Rattle.asm_capabilities.specs.Capabilities.{table_length}
 use Rattle.asm_layout.specs.Placement.{rank}

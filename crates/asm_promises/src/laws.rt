@@ -21,7 +21,14 @@ ghost use Rattle.asm_expressions.specs.Tokens.{text_at};
 ghost use Rattle.asm_statements.specs.Marks.{is_name};
 ghost use Rattle.asm_symbols.specs.declared.locals.Local.{Local};
 ghost use Rattle.asm_links.specs.Locals.{has_digits, local_label};
-ghost use Rattle.asm_promises.specs.Labels.{AreThere, IsFirst, IsLast, IsNamed, labels_after, labels_up_to};
+ghost use Rattle.asm_promises.specs.Labels.{
+  AreThere,
+  IsFirst,
+  IsLast,
+  IsNamed,
+  labels_after,
+  labels_up_to,
+};
 ghost use Rattle.asm_late.specs.Late.{LateParts};
 ghost use Rattle.asm_code.specs.Standing.{index_of};
 ghost use Rattle.asm_code.specs.Standing as standing;
@@ -84,21 +91,6 @@ pub fn labels_stand_at_their_statement()
         → statement_stood tokens parts number s entry ≡ Ok next
         → (labelled : DraftParts) × (labels_put tokens s.first s.labels parts ≡ Ok labelled)
         × AreThere next.1 parts labelled }
-{}
-
-/// The map of an image reads back: each of its lines is one that a map can have, so that reading it
-/// gives what they say, of a program with so many instructions and harts. There are at most 16
-/// files, with names that have no newline.
-pub fn every_map_reads_back()
-    ensures lines { (texts : List (List ℕ)) (harts : HartsParts) (a : AssembledParts)
-        (names : List (List ℕ)) (lines : List MapLine) → length texts ≤ 16
-        → assembly_meaning texts harts ≡ Ok a → length names ≡ length texts
-        → All IsFileText names → map line_parts lines ≡ map_of a names → All IsWritable lines }
-    ensures reads { (texts : List (List ℕ)) (harts : HartsParts) (a : AssembledParts)
-        (names : List (List ℕ)) (lines : List MapLine) (counts : Counts) → length texts ≤ 16
-        → assembly_meaning texts harts ≡ Ok a → length names ≡ length texts
-        → All IsFileText names → map line_parts lines ≡ map_of a names
-        → map_meaning counts (map_text lines) ≡ said_of counts (map reader.line_parts lines) }
 {}
 
 /// Each label of a file that is a name is the symbol that the file has of that name: a place, where
@@ -172,6 +164,21 @@ pub fn stacks_overlap_no_symbol()
     ensures { (texts : List (List ℕ)) (harts : HartsParts) (a : AssembledParts)
         → length texts ≤ 16 → assembly_meaning texts harts ≡ Ok a
         → All (λ (note : NoteParts). OverlapsNone a note.stack) a.harts }
+{}
+
+/// The map of an image reads back: each of its lines is one that a map can have, so that reading it
+/// gives what they say, of a program with so many instructions and harts. There are at most 16
+/// files, with names that have no newline.
+pub fn every_map_reads_back()
+    ensures lines { (texts : List (List ℕ)) (harts : HartsParts) (a : AssembledParts)
+        (names : List (List ℕ)) (lines : List MapLine) → length texts ≤ 16
+        → assembly_meaning texts harts ≡ Ok a → length names ≡ length texts
+        → All IsFileText names → map line_parts lines ≡ map_of a names → All IsWritable lines }
+    ensures reads { (texts : List (List ℕ)) (harts : HartsParts) (a : AssembledParts)
+        (names : List (List ℕ)) (lines : List MapLine) (counts : Counts) → length texts ≤ 16
+        → assembly_meaning texts harts ≡ Ok a → length names ≡ length texts
+        → All IsFileText names → map line_parts lines ≡ map_of a names
+        → map_meaning counts (map_text lines) ≡ said_of counts (map reader.line_parts lines) }
 {}
 
 /// Nothing is given but what is written: a granule of an image holds an integer, a sentry with

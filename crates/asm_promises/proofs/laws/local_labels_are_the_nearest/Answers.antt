@@ -1,5 +1,5 @@
 use Rattle.asm_promises.proofs.Reading.{phases_of}
-use Rattle.asm_promises.proofs.Locals.{back_is_last, ahead_is_first}
+use Rattle.asm_promises.proofs.Nearest.{back_is_last, ahead_is_first}
 use Rattle.asm_promises.proofs.laws.local_labels_are_the_nearest.Goals as goal
 
 pub returns : goal.returns

@@ -1,5 +1,5 @@
 use Rattle.asm_promises.proofs.Reading.{phases_of}
-use Rattle.asm_promises.proofs.Names.{label_named}
+use Rattle.asm_promises.proofs.NamesOfFiles.{label_named}
 use Rattle.asm_promises.proofs.laws.names_are_labels_of_statements.Goals as goal
 
 pub returns : goal.returns
