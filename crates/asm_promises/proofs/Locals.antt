@@ -1,10 +1,9 @@
 -- Local labels over whole files: each stands where its statement stands, and statements see those before.
-use Rattle.std.proofs.Common.{◌≡◌, ℕ, zero, suc, ◌+◌, ◌<◌, ◌≤◌, nat_lt, Bool, true, false, cond, List, [], ◌∷◌, ◌++◌, length, take, drop, slice_get, slice_index, slice_index_or, Option, Some, None, Ok, refl, sym, ap, ◌∙◌, subst, append-nil, append_assoc, codes, inl, inr, arith}
+use Rattle.std.proofs.Common.{◌≡◌, ℕ, zero, suc, ◌+◌, ◌<◌, ◌≤◌, nat_lt, Bool, true, false, cond, List, [], ◌∷◌, ◌++◌, length, slice_get, slice_index_or, Option, None, Ok, refl, sym, ap, ◌∙◌, subst, append-nil, append_assoc, inl, inr, arith}
 use Rattle.std.proofs.lemmas.Bool.{cases_lt}
 use Rattle.std.proofs.lemmas.Bool.Decides.{nat_tests}
-use Rattle.std.proofs.lemmas.List.{length-append, get_or_append_left, take_more, take_at, drop_at}
-use Rattle.std.proofs.lemmas.Option.{slice_get-get_or, slice_get_past}
-use Rattle.std.proofs.lemmas.List.Elements.{All-nil, All-cons, All-push}
+use Rattle.std.proofs.lemmas.List.{length-append, get_or_append_left}
+use Rattle.std.proofs.lemmas.Option.{slice_get_past}
 use Rattle.std.specs.Option.{is_none}
 use Rattle.canonical.proofs.round_trip.Ranges.{test_true}
 use Rattle.asm_tokens.specs.declared.fault.AsmFaultKind.TheVariants as faults
@@ -29,13 +28,12 @@ use Rattle.asm_files.specs.Faults.{of_file}
 use Rattle.asm_files.specs.Steps.{each_from}
 use Rattle.asm_files.specs.Stands.{opening_of, closing_of, statement_stood}
 use Rattle.asm_files.specs.Sections.{SectionsParts, entry_of}
-use Rattle.asm_files.specs.Programs.{FileParts, MadeParts, ProgramParts, tokens_or_none, tokens_in, stand_in, locals_in, no_stand}
+use Rattle.asm_files.specs.Programs.{FileParts, MadeParts}
 use Rattle.asm_files.specs.Files.{ReadingParts, with_stand, statement_step, statements_put, begun_draft, file_begun, file_ended, file_put, no_made, made_of}
-use Rattle.asm_links.specs.Locals.{has_digits, if_digits, label_at, or_others, last_before, first_in, first_from, label_of, label_by, local_label}
 use Rattle.asm_listable.proofs.Starts.{then_ok}
-use Rattle.asm_promises.specs.Labels.{label_here, labels_here, all_labels, stands_of, labels_up_to, labels_after, IsLast, IsFirst}
+use Rattle.asm_promises.specs.Labels.{label_here, labels_here, all_labels}
 use Rattle.asm_promises.proofs.Walk.{BodyKeeps, body_keeps}
-use Rattle.asm_promises.proofs.Reading.{Phases, none_more, each_listed}
+use Rattle.asm_promises.proofs.Reading.{each_listed}
 use Rattle.asm_promises.proofs.Sizes.{last_item}
 use Rattle.asm_promises.proofs.Sound.{of_file_ok}
 

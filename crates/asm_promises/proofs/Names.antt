@@ -1,9 +1,7 @@
 -- Labels that are names: each is a symbol, a place where its statement stands.
-use Rattle.std.proofs.Common.{◌≡◌, ℕ, zero, suc, ◌+◌, ◌*◌, ◌<◌, ◌≤◌, ◌⊎◌, nat_lt, Bool, true, false, cond, List, [], ◌∷◌, ◌++◌, length, slice_get, slice_index_or, Option, Some, None, Ok, refl, sym, ap, ◌∙◌, subst, inl, inr, bytes_eq, arith}
+use Rattle.std.proofs.Common.{◌≡◌, ℕ, zero, suc, ◌+◌, ◌*◌, ◌<◌, ◌≤◌, ◌⊎◌, nat_lt, Bool, true, false, cond, List, [], ◌∷◌, ◌++◌, length, slice_get, Option, Some, None, Ok, refl, sym, ap, ◌∙◌, subst, inl, inr, bytes_eq, arith}
 use Rattle.std.specs.Option.{is_none}
-use Rattle.std.proofs.lemmas.Bool.{cases_lt}
 use Rattle.std.proofs.lemmas.Bool.Decides.{nat_tests}
-use Rattle.std.proofs.lemmas.List.{length-append, get_or_append_left}
 use Rattle.std.proofs.lemmas.Option.{slice_get_past}
 use Rattle.std.proofs.lemmas.Slice.Eq.{bytes_eq-Decides}
 use Rattle.canonical.proofs.round_trip.Ranges.{test_true}
@@ -16,30 +14,15 @@ use Rattle.asm_expressions.specs.Tokens.{kind_or_end, kind_at, text_at, fault_at
 use Rattle.asm_symbols.specs.declared.definitions.Meaning.TheVariants.{Place}
 use Rattle.asm_symbols.specs.Definitions.{DefinitionParts, with_symbol, label_symbol}
 use Rattle.asm_symbols.specs.Locals.{with_local}
-use Rattle.asm_symbols.specs.Names.{first_of, no_names, defined}
+use Rattle.asm_symbols.specs.Names.{first_of, defined}
 use Rattle.asm_chunks.specs.Chunks.{here_of}
 use Rattle.asm_statements.specs.declared.statement.Body.{Body}
-use Rattle.asm_statements.specs.declared.statement.Body.TheVariants as bodies
 use Rattle.asm_statements.specs.Marks.{name_kind, is_name}
-use Rattle.asm_statements.specs.Statements.{StatementParts}
 use Rattle.asm_drafts.specs.declared.sections.Entry.{Entry}
 use Rattle.asm_drafts.specs.Drafts.{DraftParts, with_symbols, with_locals}
-use Rattle.asm_drafts.specs.Kept.{kept_number}
 use Rattle.asm_drafts.specs.Labels.{named, local_here, locally_labelled, labelled_kind, labelled, labels_put}
-use Rattle.asm_drafts.specs.Statements.{body_put}
-use Rattle.asm_files.specs.declared.stand.Stand.{Stand}
-use Rattle.asm_files.specs.Faults.{of_file}
-use Rattle.asm_files.specs.Steps.{each_from}
-use Rattle.asm_files.specs.Stands.{opening_of, closing_of, statement_stood}
-use Rattle.asm_files.specs.Sections.{SectionsParts, entry_of}
-use Rattle.asm_files.specs.Programs.{FileParts, MadeParts, ProgramParts, own_in, stand_in, no_stand}
-use Rattle.asm_files.specs.Files.{ReadingParts, with_stand, statement_step, statements_put, begun_draft, file_begun, file_ended, file_put, no_made, made_of}
 use Rattle.asm_listable.proofs.Starts.{then_ok}
-use Rattle.asm_promises.specs.Labels.{IsNamed}
-use Rattle.asm_promises.proofs.Walk.{BodyKeeps, body_keeps}
-use Rattle.asm_promises.proofs.Reading.{Phases, each_listed}
-use Rattle.asm_promises.proofs.Sizes.{last_item}
-use Rattle.asm_promises.proofs.Sound.{of_file_ok}
+use Rattle.asm_promises.proofs.Walk.{BodyKeeps}
 
 -- ---- what is known stays known
 

@@ -1,31 +1,21 @@
 -- Labels that are names over whole programs: each is a symbol of its file, and stays one.
-use Rattle.std.proofs.Common.{◌≡◌, ℕ, zero, suc, ◌+◌, ◌*◌, ◌<◌, ◌≤◌, ◌⊎◌, nat_lt, Bool, true, false, cond, List, [], ◌∷◌, ◌++◌, length, slice_get, slice_index_or, Option, Some, None, Ok, refl, sym, ap, ◌∙◌, subst, inl, inr, bytes_eq, arith}
-use Rattle.std.specs.Option.{is_none}
+use Rattle.std.proofs.Common.{◌≡◌, ℕ, ◌+◌, ◌*◌, ◌<◌, true, List, [], ◌∷◌, ◌++◌, length, slice_get, slice_index_or, Option, Some, None, Ok, refl, sym, ap, ◌∙◌, subst, inl, inr, arith}
 use Rattle.std.proofs.lemmas.Bool.{cases_lt}
-use Rattle.std.proofs.lemmas.Bool.Decides.{nat_tests}
 use Rattle.std.proofs.lemmas.List.{length-append, get_or_append_left}
-use Rattle.std.proofs.lemmas.Option.{slice_get_past}
-use Rattle.std.proofs.lemmas.Slice.Eq.{bytes_eq-Decides}
-use Rattle.canonical.proofs.round_trip.Ranges.{test_true}
-use Rattle.asm_tokens.specs.declared.fault.AsmFaultKind.TheVariants as faults
-use Rattle.asm_tokens.specs.declared.token.TokenKind.{TokenKind}
-use Rattle.asm_tokens.specs.declared.token.TokenKind.TheVariants as kinds
 use Rattle.asm_tokens.specs.Faults.{◌>>=◌}
 use Rattle.asm_tokens.specs.Tokens.{TokenParts}
-use Rattle.asm_expressions.specs.Tokens.{kind_or_end, kind_at, text_at, fault_at}
+use Rattle.asm_expressions.specs.Tokens.{text_at}
 use Rattle.asm_symbols.specs.declared.definitions.Meaning.TheVariants.{Place}
-use Rattle.asm_symbols.specs.Definitions.{DefinitionParts, with_symbol, label_symbol}
-use Rattle.asm_symbols.specs.Locals.{with_local}
-use Rattle.asm_symbols.specs.Names.{first_of, no_names, defined}
+use Rattle.asm_symbols.specs.Definitions.{DefinitionParts}
+use Rattle.asm_symbols.specs.Names.{no_names}
 use Rattle.asm_chunks.specs.Chunks.{here_of}
-use Rattle.asm_statements.specs.declared.statement.Body.{Body}
 use Rattle.asm_statements.specs.declared.statement.Body.TheVariants as bodies
-use Rattle.asm_statements.specs.Marks.{name_kind, is_name}
+use Rattle.asm_statements.specs.Marks.{is_name}
 use Rattle.asm_statements.specs.Statements.{StatementParts}
 use Rattle.asm_drafts.specs.declared.sections.Entry.{Entry}
-use Rattle.asm_drafts.specs.Drafts.{DraftParts, with_symbols, with_locals}
+use Rattle.asm_drafts.specs.Drafts.{DraftParts}
 use Rattle.asm_drafts.specs.Kept.{kept_number}
-use Rattle.asm_drafts.specs.Labels.{named, local_here, locally_labelled, labelled_kind, labelled, labels_put}
+use Rattle.asm_drafts.specs.Labels.{named, labels_put}
 use Rattle.asm_drafts.specs.Statements.{body_put}
 use Rattle.asm_files.specs.declared.stand.Stand.{Stand}
 use Rattle.asm_files.specs.Faults.{of_file}
@@ -36,7 +26,7 @@ use Rattle.asm_files.specs.Programs.{FileParts, MadeParts, ProgramParts, own_in,
 use Rattle.asm_files.specs.Files.{ReadingParts, with_stand, statement_step, statements_put, begun_draft, file_begun, file_ended, file_put, no_made, made_of}
 use Rattle.asm_listable.proofs.Starts.{then_ok}
 use Rattle.asm_promises.specs.Labels.{IsNamed}
-use Rattle.asm_promises.proofs.Walk.{BodyKeeps, body_keeps}
+use Rattle.asm_promises.proofs.Walk.{body_keeps}
 use Rattle.asm_promises.proofs.Reading.{Phases, each_listed}
 use Rattle.asm_promises.proofs.Sizes.{last_item}
 use Rattle.asm_promises.proofs.Sound.{of_file_ok}

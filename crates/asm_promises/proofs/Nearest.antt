@@ -1,43 +1,16 @@
 -- `1b` and `1f`: the last local label up to a statement, and the first one after it.
-use Rattle.std.proofs.Common.{◌≡◌, ℕ, zero, suc, ◌+◌, ◌<◌, ◌≤◌, nat_lt, Bool, true, false, cond, List, [], ◌∷◌, ◌++◌, length, take, drop, slice_get, slice_index, slice_index_or, Option, Some, None, Ok, refl, sym, ap, ◌∙◌, subst, append-nil, append_assoc, codes, inl, inr, arith}
-use Rattle.std.proofs.lemmas.Bool.{cases_lt}
-use Rattle.std.proofs.lemmas.Bool.Decides.{nat_tests}
-use Rattle.std.proofs.lemmas.List.{length-append, get_or_append_left, take_more, take_at, drop_at}
-use Rattle.std.proofs.lemmas.Option.{slice_get-get_or, slice_get_past}
+use Rattle.std.proofs.Common.{◌≡◌, ℕ, zero, suc, ◌+◌, ◌<◌, ◌≤◌, Bool, true, false, cond, List, [], ◌∷◌, ◌++◌, length, take, drop, slice_get, slice_index, slice_index_or, Option, Some, None, refl, sym, ap, ◌∙◌, subst, append-nil, append_assoc, codes, arith}
+use Rattle.std.proofs.lemmas.List.{length-append, take_more, take_at, drop_at}
+use Rattle.std.proofs.lemmas.Option.{slice_get-get_or}
 use Rattle.std.proofs.lemmas.List.Elements.{All-nil, All-cons, All-push}
-use Rattle.std.specs.Option.{is_none}
-use Rattle.canonical.proofs.round_trip.Ranges.{test_true}
-use Rattle.asm_tokens.specs.declared.fault.AsmFaultKind.TheVariants as faults
-use Rattle.asm_tokens.specs.declared.token.TokenKind.{TokenKind}
-use Rattle.asm_tokens.specs.declared.token.TokenKind.TheVariants as kinds
-use Rattle.asm_tokens.specs.Faults.{◌>>=◌}
 use Rattle.asm_tokens.specs.Tokens.{TokenParts}
-use Rattle.asm_expressions.specs.Tokens.{kind_or_end, kind_at, text_at, fault_at}
 use Rattle.asm_symbols.specs.declared.locals.Local.{Local}
-use Rattle.asm_symbols.specs.Definitions.{DefinitionParts, with_symbol, label_symbol}
-use Rattle.asm_symbols.specs.Locals.{with_local}
-use Rattle.asm_chunks.specs.Chunks.{here_of}
-use Rattle.asm_statements.specs.declared.statement.Body.{Body}
 use Rattle.asm_statements.specs.Statements.{StatementParts}
-use Rattle.asm_drafts.specs.declared.sections.Entry.{Entry}
-use Rattle.asm_drafts.specs.Drafts.{DraftParts, with_symbols, with_locals}
-use Rattle.asm_drafts.specs.Kept.{kept_number}
-use Rattle.asm_drafts.specs.Labels.{named, local_here, locally_labelled, labelled_kind, labelled, labels_put}
-use Rattle.asm_drafts.specs.Statements.{body_put}
 use Rattle.asm_files.specs.declared.stand.Stand.{Stand}
-use Rattle.asm_files.specs.Faults.{of_file}
-use Rattle.asm_files.specs.Steps.{each_from}
-use Rattle.asm_files.specs.Stands.{opening_of, closing_of, statement_stood}
-use Rattle.asm_files.specs.Sections.{SectionsParts, entry_of}
-use Rattle.asm_files.specs.Programs.{FileParts, MadeParts, ProgramParts, tokens_or_none, tokens_in, stand_in, locals_in, no_stand}
-use Rattle.asm_files.specs.Files.{ReadingParts, with_stand, statement_step, statements_put, begun_draft, file_begun, file_ended, file_put, no_made, made_of}
+use Rattle.asm_files.specs.Programs.{FileParts, ProgramParts, tokens_or_none, tokens_in, stand_in, locals_in, no_stand}
 use Rattle.asm_links.specs.Locals.{has_digits, if_digits, label_at, or_others, last_before, first_in, first_from, label_of, label_by, local_label}
-use Rattle.asm_listable.proofs.Starts.{then_ok}
-use Rattle.asm_promises.specs.Labels.{label_here, labels_here, all_labels, stands_of, labels_up_to, labels_after, IsLast, IsFirst}
-use Rattle.asm_promises.proofs.Walk.{BodyKeeps, body_keeps}
-use Rattle.asm_promises.proofs.Reading.{Phases, none_more, each_listed}
-use Rattle.asm_promises.proofs.Sizes.{last_item}
-use Rattle.asm_promises.proofs.Sound.{of_file_ok}
+use Rattle.asm_promises.specs.Labels.{labels_here, all_labels, stands_of, labels_up_to, labels_after, IsLast, IsFirst}
+use Rattle.asm_promises.proofs.Reading.{Phases, none_more}
 use Rattle.asm_promises.proofs.Sizes.{found}
 use Rattle.asm_promises.proofs.Locals.{AreCounted, AreStood, no_file, stood_same, files_stood}
 

@@ -167,7 +167,7 @@ chunk_kept places chunk offset base e =
       kept = kept_test (rank (kind_of places chunk) == rank kinds.Dropped) (slice_get places.addresses chunk) x.0 x.1;
     }
 
-address_is : (places : PlacesParts) (chunk offset base : ℕ) → address_in places chunk offset ≡ Some base → (slice_index_or places.addresses chunk 0 + offset) % 2 ^ 64 ≡ base
+pub address_is : (places : PlacesParts) (chunk offset base : ℕ) → address_in places chunk offset ≡ Some base → (slice_index_or places.addresses chunk 0 + offset) % 2 ^ 64 ≡ base
 unfolding address_in chunk_address
 address_is places chunk offset base e =
     let x = then_is (cond (rank (kind_of places chunk) == rank kinds.Dropped) None (slice_get places.addresses chunk)) offset base e in

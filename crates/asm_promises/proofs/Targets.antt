@@ -1,5 +1,5 @@
 -- What a branch goes to is the instruction at the place that its target is.
-use Rattle.std.proofs.Common.{◌≡◌, ℕ, ◌+◌, ◌*◌, ◌/◌, ◌%◌, ◌^◌, ◌<◌, ◌≤◌, ◌==◌, nat_lt, not, Bool, true, false, cond, Result, Ok, Err, refl, sym, ap, ◌∙◌, subst, arith}
+use Rattle.std.proofs.Common.{◌≡◌, ℕ, ◌+◌, ◌*◌, ◌/◌, ◌%◌, ◌^◌, ◌<◌, ◌≤◌, ◌==◌, nat_lt, not, Bool, true, false, cond, slice_index_or, Option, Some, None, Result, Ok, Err, refl, sym, ap, ◌∙◌, subst, arith}
 use Rattle.std.specs.Prelude.{◌||◌}
 use Rattle.std.proofs.lemmas.Bool.Decides.{nat_tests}
 use Rattle.cheri_model.specs.declared.code.TheConstants.{CODE_BASE, INSTRUCTION_BYTES}
@@ -9,10 +9,12 @@ use Rattle.asm_values.specs.declared.values.Location.{Location}
 use Rattle.asm_values.specs.declared.values.Value.TheVariants.{At}
 use Rattle.asm_layout.specs.declared.chunk.ChunkKind.TheVariants.{Code}
 use Rattle.asm_layout.specs.Placement.{rank}
-use Rattle.asm_places.specs.Places.{PlacesParts, behind, kind_of, address_of, instruction_at, target_at, target_of}
-use Rattle.asm_late.specs.Late.{LateParts}
+use Rattle.asm_places.specs.Places.{PlacesParts, behind, kind_of, address_in, or_section, address_of, instruction_at, target_at, target_of}
+use Rattle.asm_late.specs.Late.{LateParts, places_of}
 use Rattle.asm_code.specs.Standing as standing
-use Rattle.asm_code.specs.Standing.{index_of}
+use Rattle.asm_code.specs.Standing.{stand_of, index_of, address_of as statement_address}
+use Rattle.asm_files.specs.declared.stand.Stand.{Stand}
+use Rattle.asm_promises.proofs.Symbols.{address_is}
 use Rattle.asm_listable.proofs.Starts.{located_low}
 
 -- a number of an instruction, from an offset
@@ -71,3 +73,32 @@ target_statement late file number most n parts location e there =
     let x = found parts location most n e in
     let same : x.0 ≡ standing.address_of late file number 0 0 = same_ok x.0 (standing.address_of late file number 0 0) (address_of parts (At location)) x.1 there in
     sym x.2.number ∙ ap (λ (k : ℕ). behind k CODE_BASE / INSTRUCTION_BYTES) same
+
+-- ---- labels
+
+section_ok : (o : Option ℕ) (addr : ℕ) → or_section o ≡ Ok addr → o ≡ Some addr
+section_ok (Some one) addr e = let is : one ≡ addr = cc in ap (λ (n : ℕ). Some n) is
+section_ok None addr e = absurd (cc)
+
+same_place : (start offset addr : ℕ) → (start + offset) % 2 ^ 64 ≡ addr → addr ≡ (start + (offset + 0 * 0) % 2 ^ 64) % 2 ^ 64
+same_place start offset addr e = omega arith
+
+-- a place where a statement stands has the statement's address
+pub label_address : (late : LateParts) (file number addr : ℕ) (location : Location) → location.chunk ≡ (stand_of late file number).chunk
+    → location.offset ≡ (stand_of late file number).offset → address_of (places_of late) (At location) ≡ Ok addr → addr ≡ statement_address late file number 0 0
+unfolding address_of statement_address places_of
+label_address late file number addr location chunk offset e =
+    let there = address_is (places_of late) location.chunk location.offset addr (section_ok (address_in (places_of late) location.chunk location.offset) addr e) in
+    let stand : Stand = stand_of late file number in
+    let by_chunk : (slice_index_or late.linked.layout.addresses stand.chunk 0 + location.offset) % 2 ^ 64 ≡ addr =
+    subst (λ (n : ℕ). (slice_index_or late.linked.layout.addresses n 0 + location.offset) % 2 ^ 64 ≡ addr) chunk there in
+    let by_offset : (slice_index_or late.linked.layout.addresses stand.chunk 0 + stand.offset) % 2 ^ 64 ≡ addr =
+    subst (λ (n : ℕ). (slice_index_or late.linked.layout.addresses stand.chunk 0 + n) % 2 ^ 64 ≡ addr) offset by_chunk in
+    same_place (slice_index_or late.linked.layout.addresses stand.chunk 0) stand.offset addr by_offset
+
+pub target_label : (late : LateParts) (file number most n : ℕ) (location : Location) → location.chunk ≡ (stand_of late file number).chunk
+    → location.offset ≡ (stand_of late file number).offset → target_of (places_of late) (At location) most ≡ Ok n → n ≡ index_of late file number
+target_label late file number most n location chunk offset e =
+    let x = found (places_of late) location most n e in
+    let is = label_address late file number x.0 location chunk offset x.1 in
+    target_statement late file number most n (places_of late) location e (x.1 ∙ ap (λ (k : ℕ). Ok k) is)

@@ -29,7 +29,7 @@ ghost use Rattle.asm_promises.specs.Labels.{
   labels_after,
   labels_up_to,
 };
-ghost use Rattle.asm_late.specs.Late.{LateParts};
+ghost use Rattle.asm_late.specs.Late.{LateParts, places_of};
 ghost use Rattle.asm_code.specs.Standing.{index_of};
 ghost use Rattle.asm_code.specs.Standing as standing;
 ghost use Rattle.listings.specs.Meaning.{listing_limit, listing_meaning};
@@ -121,7 +121,9 @@ pub fn local_labels_are_the_nearest()
 {}
 
 /// What a branch goes to is the instruction at the place that its target is: no further than the
-/// program's end, at its number's address; and the first one of the statement that stands there.
+/// program's end, at its number's address; and the first one of the statement that stands there. A
+/// place where a statement stands, as labels are, by names or by digits, has that statement's
+/// address; and a branch to it goes to the statement's first instruction.
 pub fn targets_are_instructions()
     ensures address { (parts : PlacesParts) (location : Location) (most n : ℕ)
         → target_of parts (At location) most ≡ Ok n
@@ -131,6 +133,15 @@ pub fn targets_are_instructions()
         (location : Location) → target_of parts (At location) most ≡ Ok n
         → address_of parts (At location) ≡ Ok (standing.address_of late file number 0 0)
         → n ≡ index_of late file number }
+    ensures place { (late : LateParts) (file number addr : ℕ) (location : Location)
+        → location.chunk ≡ (stand_in late.program file number).chunk
+        → location.offset ≡ (stand_in late.program file number).offset
+        → address_of (places_of late) (At location) ≡ Ok addr
+        → addr ≡ standing.address_of late file number 0 0 }
+    ensures label { (late : LateParts) (file number most n : ℕ) (location : Location)
+        → location.chunk ≡ (stand_in late.program file number).chunk
+        → location.offset ≡ (stand_in late.program file number).offset
+        → target_of (places_of late) (At location) most ≡ Ok n → n ≡ index_of late file number }
 {}
 
 /// The stacks of all harts are apart: each begins behind everything that the layout puts into memory,
