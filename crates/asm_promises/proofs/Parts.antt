@@ -1,4 +1,4 @@
--- What is read of a statement: registers below 32, numbers of 64 bits, and no operation yet.
+-- What is read of a statement: registers below 32, numbers of 64 bits, names of symbols, and no operation yet.
 use Rattle.std.proofs.Common.{◌≡◌, ℕ, ◌+◌, ◌-◌, ◌*◌, ◌<◌, ◌==◌, nat_lt, Bool, true, false, cond, List, Option, Some, None, Result, Ok, Err, All, refl, subst, lit<, arith}
 use Rattle.std.proofs.lemmas.List.Elements.{All-append}
 use Rattle.std.proofs.lemmas.Bool.Decides.{nat_tests}

@@ -1,4 +1,4 @@
--- Numbers of tokens have 64 bits.
+-- Numbers of tokens have 64 bits, and names of tokens are names as maps have them.
 use Rattle.std.proofs.Common.{◌≡◌, ℕ, zero, suc, ◌+◌, ◌-◌, ◌^◌, ◌<◌, ◌==◌, ◌&&◌, nat_lt, nat_le, Bool, true, false, cond, List, [], ◌∷◌, ◌++◌, length, take, drop, Option, Some, None, Result, Ok, All, refl, sym, ap, ◌∙◌, subst, lit<, arith}
 use Rattle.std.specs.Prelude.{◌||◌, slice_index, option_map, take_while, List}
 use Rattle.std.specs.Char.{is_ascii_digit}

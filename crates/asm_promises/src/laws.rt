@@ -76,8 +76,8 @@ pub fn every_image_runs()
         → assembly_meaning texts harts ≡ Ok a → listing_meaning (canon a.image) ≡ Ok a.image }
 {}
 
-/// Each instruction of an image has one origin, in order, but for the guard and the exit where these
-/// follow: the statement that it comes from, which the map tells.
+/// Each instruction of an image has one origin, in order, but for the guard and the exit where
+/// these follow: the statement that it comes from, which the map tells.
 pub fn every_instruction_has_its_origin()
     ensures { (texts : List (List ℕ)) (harts : HartsParts) (a : AssembledParts)
         → assembly_meaning texts harts ≡ Ok a
@@ -144,8 +144,8 @@ pub fn targets_are_instructions()
         → target_of (places_of late) (At location) most ≡ Ok n → n ≡ index_of late file number }
 {}
 
-/// The stacks of all harts are apart: each begins behind everything that the layout puts into memory,
-/// and behind the stack of each hart before it.
+/// The stacks of all harts are apart: each begins behind everything that the layout puts into
+/// memory, and behind the stack of each hart before it.
 pub fn stacks_are_apart()
     ensures { (texts : List (List ℕ)) (harts : HartsParts) (a : AssembledParts)
         → assembly_meaning texts harts ≡ Ok a
