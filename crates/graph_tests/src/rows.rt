@@ -2,7 +2,7 @@
 
 ghost use Rattle.std.specs.Prelude.{◌≡◌};
 
-use interner::{Interner, Words};
+use interner::Interner;
 use std::alloc::AllocError;
 use std::test::Fail;
 
@@ -50,30 +50,5 @@ fn rows_are_kept_once(rt: HostRuntime) -> Result<(), Fail> {
     assert!(rt; insert_many(&mut many)?);
     assert!(rt; insert_many(&mut many)?);
     assert_eq!(rt; many.len(), 1000);
-    Ok(())
-}
-
-/// Whether 1000 words, of which no two are the same, are numbered in their order.
-fn insert_many_words(words: &mut Words) -> Result<bool, AllocError> {
-    for n in 0..1000u32 {
-        if words.insert(u64::from(n % 10) << 60 | u64::from(n / 10))? != n {
-            return Ok(false);
-        }
-    }
-    Ok(true)
-}
-
-#[test]
-fn words_are_kept_once(rt: HostRuntime) -> Result<(), Fail> {
-    let mut words = Words::new(rt.alloc());
-    assert!(rt; words.find(0).is_none() && words.word(0).is_none());
-    assert!(rt; insert_many_words(&mut words)?);
-    assert!(rt; insert_many_words(&mut words)?);
-    assert_eq!(rt; words.len(), 1000);
-    assert_eq!(rt; [words.find(3 << 60), words.find(3 << 59)], [Some(3), None]);
-    assert_eq!(rt;
-        [words.word(12), words.word(1000)],
-        [Some(2 << 60 | 1), None]
-    );
     Ok(())
 }
