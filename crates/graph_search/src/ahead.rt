@@ -33,8 +33,8 @@ pub struct Ahead {
     pub node: Vec<u32>,
     /// For each label, whether there is such an edge.
     pub leads: Vec<bool>,
-    /// For each label a row, which is the node to which the edge leads, if there is one. There is room
-    /// for the rows of all labels.
+    /// For each label a row, which is the node to which the edge leads, if there is one. There is
+    /// room for the rows of all labels.
     pub rows: Vec<u32>,
 }
 

@@ -25,8 +25,8 @@ use crate::word_slots::{add, place_of};
 use std::alloc::{AllocError, Global};
 use std::marker::Model;
 
-/// Words of 64 bits, each kept once, as rows of one number. They are numbered from 0 on in the order
-/// in which they came.
+/// Words of 64 bits, each kept once, as rows of one number. They are numbered from 0 on in the
+/// order in which they came.
 #[derive(Drop)]
 pub struct Words {
     words: Vec<u64>,
@@ -101,8 +101,8 @@ impl Words {
         number_at(slots, place)
     }
 
-    /// The number of this word, which becomes the last one where it is not there. Fails only when out
-    /// of memory, or of numbers after 2^32 - 1 words; then nothing changes.
+    /// The number of this word, which becomes the last one where it is not there. Fails only when
+    /// out of memory, or of numbers after 2^32 - 1 words; then nothing changes.
     pub fn insert(&mut self, word: u64) -> Result<u32, AllocError>
         ensures interned { IfOk result (λ number.
             IsInterned self.old self.new (word ∷ []) number) }
