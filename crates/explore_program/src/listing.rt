@@ -29,13 +29,6 @@ pub struct Listed<'t> {
     pub sources: Option<&'t [Source<'t>]>,
 }
 
-/// The texts of a listing and, if there is one, of its map.
-#[derive(Clone, Copy)]
-pub struct Texts<'t> {
-    pub listing: &'t [u8],
-    pub map: Option<&'t [u8]>,
-}
-
 /// What the texts of a listing and its map mean: the image, and what the map says that the image's
 /// instructions come from.
 #[derive(Drop)]
@@ -76,18 +69,22 @@ fn read_map<'t>(
     }
 }
 
-/// What texts mean. The listing is judged before the map.
-pub fn read_mapped_image<'t>(alloc: Global, texts: Texts<'t>) -> Result<MappedImage<'t>, Fault>
-    ensures meaning { IfOk result (λ mapped.
-        listing_meaning texts.entry.listing.now ≡ Ok mapped.image) }
+/// What the texts of a listing and, if there is one, of its map mean. The listing is judged before
+/// the map.
+pub fn read_mapped_image<'t>(
+    alloc: Global,
+    listing: &[u8],
+    map: Option<&'t [u8]>,
+) -> Result<MappedImage<'t>, Fault>
+    ensures meaning { IfOk result (λ mapped. listing_meaning listing.now ≡ Ok mapped.image) }
     ensures whole { GivesImage result
-        (mapped_image_of texts.entry.listing.now (option_map bytes_in texts.entry.map)) }
+        (mapped_image_of listing.now (option_map bytes_in map.entry)) }
 {
-    let image = match read_listing(alloc, texts.listing) {
+    let image = match read_listing(alloc, listing) {
         Ok(image) => image,
         Err(fault) => return Err(Fault::Input(InputFault::from(fault))),
     };
-    let sources = read_map(alloc, &image, texts.map)?;
+    let sources = read_map(alloc, &image, map)?;
     Ok(MappedImage { image, sources })
 }
 

@@ -14,7 +14,7 @@ ghost use Rattle.explore_program.specs.Program.{command_line, format_of};
 
 use crate::answers::{Asking, answer_question};
 use crate::faults::{Fault, OwnFault};
-use crate::listing::{Listed, Texts, read_map_text, read_mapped_image};
+use crate::listing::{Listed, read_map_text, read_mapped_image};
 use crate::progress::TerminalProgress;
 use crate::questions::ranges_of;
 use cheri_model::Image;
@@ -120,26 +120,28 @@ fn answer_listed<S: Sink, P: Progress>(
 fn answer_texts<S: Sink, P: Progress>(
     alloc: Global,
     request: &ExploreRequest<'_>,
-    texts: Texts<'_>,
+    listing: &[u8],
+    map: Option<&[u8]>,
     progress: &mut P,
     sink: &mut S,
 ) -> Result<Ending, Fault>
     requires some { 1 ≤ request.now.states }
     requires few { length request.now.sweeps.items ≤ MAX_SWEEPS }
     ensures printed { IfOk result (λ ending. HasWhole
-        (IsTextsAnswer texts.entry.listing.now (option_map bytes_in texts.entry.map)
+        (IsTextsAnswer listing.now (option_map bytes_in map.entry)
         (explore_asked_by request.now)) ending
         (S.written sink.old) (S.written sink.new)) }
     ensures failed { IfErr result (λ fault. FailsBy (failure_of fault)
-        (IsTextsAnswer texts.entry.listing.now (option_map bytes_in texts.entry.map)
+        (IsTextsAnswer listing.now (option_map bytes_in map.entry)
         (explore_asked_by request.now)) fault
         (S.written sink.old) (S.written sink.new)) }
     ensures identity { S.identity sink.new ≡ S.identity sink.old }
 {
-    let mapped = read_mapped_image(alloc, texts)?;
+    let mapped = read_mapped_image(alloc, listing, map)?;
+    let sources = mapped.sources();
     let listed = Listed {
-        text: texts.listing,
-        sources: mapped.sources(),
+        text: listing,
+        sources,
     };
     answer_listed(alloc, request, &mapped.image, listed, progress, sink)
 }
@@ -166,17 +168,11 @@ fn answer_mapped<F: Files, S: Sink, P: Progress>(
     ensures identity { S.identity sink.new ≡ S.identity sink.old }
 {
     match request.map {
-        None => {
-            let texts = Texts { listing, map: None };
-            answer_texts(alloc, request, texts, progress, sink)
-        }
+        None => answer_texts(alloc, request, listing, None, progress, sink),
         Some(name) => {
             let map = read_map_text(files, name)?;
-            let texts = Texts {
-                listing,
-                map: Some(map.as_slice()),
-            };
-            answer_texts(alloc, request, texts, progress, sink)
+            let text = Some(map.as_slice());
+            answer_texts(alloc, request, listing, text, progress, sink)
         }
     }
 }
