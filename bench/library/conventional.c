@@ -286,3 +286,115 @@ cheri_jumped conventional_invoke(cheri_cap code, uint8_t c1, cheri_cap data, uin
     jumped.left = entered(data, data.addr);
     return jumped;
 }
+
+/*
+ * Why a result has no tag.
+ */
+
+static inline bool is_sealed(cheri_cap cap) { return type_of(cap) != CHERI_CAPS_UNSEALED; }
+
+static inline unsigned perms_of(cheri_cap cap) { return (unsigned)(fields_of(cap) >> 48); }
+
+static inline uint8_t open_reason(cheri_cap cap) {
+    if (!counts(cap))
+        return CHERI_CAPS_WHY_SOURCE_UNTAGGED;
+    return is_sealed(cap) ? CHERI_CAPS_WHY_SOURCE_SEALED : 0;
+}
+
+static inline uint8_t address_reason(cheri_cap cap, uint64_t addr) {
+    uint8_t why = open_reason(cap);
+    if (why)
+        return why;
+    return conventional_is_representable(cap.upper, cap.addr, addr) ? 0 : CHERI_CAPS_WHY_NOT_REPRESENTABLE;
+}
+
+static inline uint8_t bounds_reason(cheri_cap cap, uint64_t len, bool exact) {
+    uint8_t why = open_reason(cap);
+    if (why)
+        return why;
+    uint64_t base;
+    wide top = decode(cap.upper, cap.addr, &base);
+    if (cap.addr < base)
+        return CHERI_CAPS_WHY_BASE_BELOW;
+    if ((wide)cap.addr + len > top)
+        return CHERI_CAPS_WHY_END_ABOVE;
+    return exact && !round_range(cap.addr, len).exact ? CHERI_CAPS_WHY_ROUNDED : 0;
+}
+
+static inline uint8_t authority_reason(cheri_cap authority, unsigned permission, uint8_t lacks) {
+    if (!counts(authority))
+        return CHERI_CAPS_WHY_AUTHORITY_UNTAGGED;
+    if (is_sealed(authority))
+        return CHERI_CAPS_WHY_AUTHORITY_SEALED;
+    if (!has(authority, permission))
+        return lacks;
+    return holds(authority, authority.addr, 1) ? 0 : CHERI_CAPS_WHY_TYPE_OUTSIDE;
+}
+
+static inline uint8_t seal_reason(cheri_cap cap, cheri_cap authority) {
+    uint8_t why = open_reason(cap);
+    if (!why)
+        why = authority_reason(authority, 7, CHERI_CAPS_WHY_NO_SEAL);
+    if (why)
+        return why;
+    return authority.addr > CHERI_CAPS_LAST_SEALABLE ? CHERI_CAPS_WHY_TYPE_NOT_SEALABLE : 0;
+}
+
+static inline uint8_t unseal_reason(cheri_cap cap, cheri_cap authority) {
+    if (!counts(cap))
+        return CHERI_CAPS_WHY_SOURCE_UNTAGGED;
+    if (!is_sealed(cap))
+        return CHERI_CAPS_WHY_SOURCE_UNSEALED;
+    if (type_of(cap) == CHERI_CAPS_SENTRY)
+        return CHERI_CAPS_WHY_SOURCE_SENTRY;
+    uint8_t why = authority_reason(authority, 9, CHERI_CAPS_WHY_NO_UNSEAL);
+    if (why)
+        return why;
+    return authority.addr != type_of(cap) ? CHERI_CAPS_WHY_TYPE_DIFFERS : 0;
+}
+
+static inline uint8_t build_reason(cheri_cap cap, cheri_cap word) {
+    uint8_t why = open_reason(cap);
+    if (why)
+        return why;
+    if (fields_of(word) >> 46 & 3)
+        return CHERI_CAPS_WHY_RESERVED_BITS;
+    uint64_t limit_base, base;
+    wide limit_top = decode(cap.upper, cap.addr, &limit_base), top = decode(word.upper, word.addr, &base);
+    if (base < limit_base)
+        return CHERI_CAPS_WHY_BASE_BELOW;
+    if (top > limit_top)
+        return CHERI_CAPS_WHY_TOP_ABOVE;
+    if (top < base)
+        return CHERI_CAPS_WHY_BASE_ABOVE_TOP;
+    if (perms_of(word) & ~perms_of(cap))
+        return CHERI_CAPS_WHY_MORE_PERMISSIONS;
+    /* the region that the bounds' own exponent gives */
+    wide len = top - base;
+    unsigned e = len >> 13 ? 64 - (unsigned)__builtin_clzll((uint64_t)(len >> 13)) : 0;
+    uint64_t start = ((base >> (e + 11)) - 1) << (e + 11);
+    return e >= 50 || word.addr - start < UINT64_C(1) << (e + 14) ? 0 : CHERI_CAPS_WHY_NOT_REPRESENTABLE;
+}
+
+uint8_t conventional_why(uint8_t op, cheri_cap a, cheri_cap b) {
+    switch (op) {
+    case CHERI_CAPS_OP_MOVE:
+    case CHERI_CAPS_OP_UNSEALED_BY_JUMP: return counts(a) ? 0 : CHERI_CAPS_WHY_SOURCE_UNTAGGED;
+    case CHERI_CAPS_OP_CLEAR_TAG: return CHERI_CAPS_WHY_CLEARED;
+    case CHERI_CAPS_OP_SET_ADDRESS: return address_reason(a, b.addr);
+    case CHERI_CAPS_OP_INC_OFFSET: return address_reason(a, a.addr + b.addr);
+    case CHERI_CAPS_OP_SET_BOUNDS: return bounds_reason(a, b.addr, false);
+    case CHERI_CAPS_OP_SET_BOUNDS_EXACT: return bounds_reason(a, b.addr, true);
+    case CHERI_CAPS_OP_AND_PERMS:
+    case CHERI_CAPS_OP_SET_FLAGS: return open_reason(a);
+    case CHERI_CAPS_OP_SET_HIGH: return CHERI_CAPS_WHY_UPPER_REPLACED;
+    case CHERI_CAPS_OP_SEAL: return seal_reason(a, b);
+    case CHERI_CAPS_OP_UNSEAL: return unseal_reason(a, b);
+    case CHERI_CAPS_OP_SEAL_ENTRY: {
+        uint8_t why = open_reason(a);
+        return why ? why : has(a, 1) ? 0 : CHERI_CAPS_WHY_NO_EXECUTE;
+    }
+    case CHERI_CAPS_OP_BUILD: return build_reason(a, b);
+    default: return CHERI_CAPS_WHY_NO_OPERATION;
+    }
+}

@@ -22,3 +22,4 @@ cheri_trap conventional_check_jump(cheri_cap through, uint8_t reg, uint64_t offs
 cheri_trap conventional_check_invoke(cheri_cap code, uint8_t c1, cheri_cap data, uint8_t c2);
 cheri_jumped conventional_jump(cheri_cap pcc, cheri_cap through, uint8_t reg, uint64_t offset);
 cheri_jumped conventional_invoke(cheri_cap code, uint8_t c1, cheri_cap data, uint8_t c2);
+uint8_t conventional_why(uint8_t op, cheri_cap a, cheri_cap b);

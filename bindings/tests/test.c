@@ -1,7 +1,8 @@
 /*
  * Compares the library with rows of test vectors: test FILE..
  *
- * Each row says what a function answers; the format is that of docs/FORMATS.md, "Test vectors".
+ * Each row says what a function answers; the format is that of docs/FORMATS.md, "Test vectors", and
+ * that of rows of reasons, which is told there too.
  * Prints each difference and, last, the counts. Ends with 0 where no row differs and each file is
  * whole.
  */
@@ -95,6 +96,20 @@ static cheri_cap cap_of(const wide *f) {
     return cap;
 }
 
+/* The instructions that make a capability, each at its number. */
+static const char *const instructions[] = {
+    "none", "move",      "clear_tag", "set_address", "inc_offset", "set_bounds", "set_bounds_exact", "and_perms",
+    "set_flags", "set_high", "seal",  "unseal", "seal_entry", "build", "unsealed_by_jump",
+};
+
+/* The number of an instruction, or 0. */
+static uint8_t number_of(const char *operation) {
+    for (uint8_t i = 1; i < sizeof instructions / sizeof *instructions; i++)
+        if (strcmp(operation, instructions[i]) == 0)
+            return i;
+    return 0;
+}
+
 /* value: operation tag upper addr tag upper addr tag upper addr, the last of the result */
 static bool check_value(const char *operation, const wide *f) {
     cheri_cap cap = cap_of(f), other = cap_of(f + 3), expected = cap_of(f + 6), found;
@@ -129,18 +144,42 @@ static bool check_value(const char *operation, const wide *f) {
         found = cheri_caps_of_integer(cheri_caps_equal_exact(cap, other));
     else
         return false;
-    return same_cap(found, expected);
+    uint8_t op = number_of(operation);
+    bool same_tag = op == 0 || found.tag == (cheri_caps_why(op, cap, other) == CHERI_CAPS_WHY_NONE);
+    return same_cap(found, expected) && same_tag;
+}
+
+/* why: operation tag upper addr tag upper addr reason */
+static bool check_why(const char *operation, const wide *f) {
+    uint8_t op = number_of(operation);
+    return op != 0 && cheri_caps_why(op, cap_of(f), cap_of(f + 3)) == f[6].low;
+}
+
+/* A number that no instruction has, and the texts of reasons. */
+static long check_texts(void) {
+    cheri_cap null = cheri_caps_null();
+    long differ = 0;
+    for (int op = 0; op < 256; op++) {
+        uint8_t why = cheri_caps_why((uint8_t)op, null, null);
+        bool known = op >= CHERI_CAPS_OP_MOVE && op <= CHERI_CAPS_OP_UNSEALED_BY_JUMP;
+        differ += known == (why == CHERI_CAPS_WHY_NO_OPERATION);
+        differ += strncmp(cheri_caps_why_text(why), known ? "the " : "no instruction", 4) != 0;
+    }
+    return differ + (strcmp(cheri_caps_why_text(CHERI_CAPS_WHY_NOT_ALIGNED + 1), "no reason has this number") != 0);
 }
 
 static bool check_row(char **fields, size_t count) {
-    bool has_operation = strcmp(fields[0], "value") == 0;
+    bool is_value = strcmp(fields[0], "value") == 0, is_why = strcmp(fields[0], "why") == 0;
+    bool has_operation = is_value || is_why;
     size_t first = has_operation ? 2 : 1;
     wide numbers[MOST_FIELDS];
     for (size_t i = first; i < count; i++)
         if (!read_number(fields[i], &numbers[i - first]))
             return false;
-    if (has_operation)
+    if (is_value)
         return count == 11 && check_value(fields[1], numbers);
+    if (is_why)
+        return count == 9 && check_why(fields[1], numbers);
     if (strcmp(fields[0], "word") == 0)
         return count == 12 && check_word(numbers);
     if (strcmp(fields[0], "range") == 0)
@@ -158,7 +197,8 @@ static long check_file(const char *name, long *rows) {
     bool ended = false;
     if (file == NULL)
         return -1;
-    if (fgets(line, sizeof line, file) == NULL || strcmp(line, "cheri-caps vectors 1\n") != 0) {
+    if (fgets(line, sizeof line, file) == NULL ||
+        (strcmp(line, "cheri-caps vectors 1\n") != 0 && strcmp(line, "cheri-caps reasons 1\n") != 0)) {
         fclose(file);
         return -1;
     }
@@ -220,7 +260,7 @@ int main(int argc, char **argv) {
         }
         differ += found;
     }
-    differ += check_arrays();
+    differ += check_arrays() + check_texts();
     printf("%ld rows, %ld differ\n", rows, differ);
     return rows > 0 && differ == 0 ? 0 : 1;
 }

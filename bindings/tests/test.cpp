@@ -3,6 +3,7 @@
 #include "cheri_caps.h"
 
 #include <cstdio>
+#include <string>
 
 static int differ = 0;
 
@@ -109,6 +110,12 @@ int main() {
     expect(is(jumped.pcc, true, pcc.upper, 0x10000000) && jumped.left.tag && !cheri_caps_read(jumped.left).sealed, "invoke");
     jumped = cheri_caps_invoke(sealed_code, 8, sixteen, 9);
     expect(is(jumped.pcc, false, 0, 0) && is(jumped.left, false, 0, 0) && traps(jumped.trap, CHERI_CAPS_TRAP_SEAL, 9), "invoke of open data");
+
+    expect(cheri_caps_why(CHERI_CAPS_OP_SET_BOUNDS, sixteen, cheri_caps_of_integer(16)) == CHERI_CAPS_WHY_NONE, "why of no reason");
+    uint8_t why = cheri_caps_why(CHERI_CAPS_OP_SET_BOUNDS, sixteen, cheri_caps_of_integer(17));
+    expect(why == CHERI_CAPS_WHY_END_ABOVE, "why");
+    expect(std::string("the end of the requested range is above the source's top") == cheri_caps_why_text(why), "why_text");
+    expect(cheri_caps_why(0, sixteen, sixteen) == CHERI_CAPS_WHY_NO_OPERATION, "why of no operation");
 
     const cheri_word words[] = {{addr, upper}, {0, 0}};
     cheri_bounds out[2];

@@ -10,7 +10,9 @@ from __future__ import annotations
 
 import doctest
 import pickle
+import re
 import sys
+from pathlib import Path
 from typing import Callable, List
 
 import cheri_caps
@@ -61,6 +63,16 @@ def value_of(tag: int, upper: int, addr: int) -> Capability:
         return Capability(word)
 
 
+def reason_of(operation: str, first: Capability, second: Capability) -> int:
+    reason = cheri_caps.why(operation, first, second)
+    assert reason is None or reason.text == cheri_caps.REASONS[reason.number]
+    return reason.number if reason else 0
+
+
+def check_why(operation: str, f: List[int]) -> bool:
+    return reason_of(operation, value_of(*f[:3]), value_of(*f[3:6])) == f[6]
+
+
 def check_value(operation: str, f: List[int]) -> bool:
     first, second = value_of(*f[:3]), value_of(*f[3:6])
     if operation in UNARY:
@@ -73,6 +85,8 @@ def check_value(operation: str, f: List[int]) -> bool:
         found = Capability.integer(first.test_subset(second))
     else:
         found = Capability.integer(first == second)
+    if operation in cheri_caps.OPERATIONS and found.tag != (reason_of(operation, first, second) == 0):
+        return False
     return (int(found.tag), found.word) == (f[6], f[7] << 64 | f[8]) and found == value_of(*f[6:])
 
 
@@ -81,8 +95,9 @@ CHECKS = {"word": (11, check_word), "range": (11, check_range), "address": (4, c
 
 def check_row(line: str) -> bool:
     kind, *rest = line.split(" ")
-    if kind == "value":
-        return len(rest) == 10 and check_value(rest[0], [int(number, 16) for number in rest[1:]])
+    if kind in ("value", "why"):
+        length, check = (10, check_value) if kind == "value" else (8, check_why)
+        return len(rest) == length and check(rest[0], [int(number, 16) for number in rest[1:]])
     count, check = CHECKS[kind]
     return len(rest) == count and check([int(number, 16) for number in rest])
 
@@ -90,7 +105,8 @@ def check_row(line: str) -> bool:
 def read_rows(name: str) -> List[str]:
     """The rows of a file of vectors, which must be whole."""
     lines = open(name, encoding="ascii").read().split("\n")
-    assert lines[0] == "cheri-caps vectors 1" and lines[-2:] == ["end", ""], f"{name} is not whole"
+    firsts = ("cheri-caps vectors 1", "cheri-caps reasons 1")
+    assert lines[0] in firsts and lines[-2:] == ["end", ""], f"{name} is not whole"
     lines = [line for line in lines[1:-2] if not line.startswith("#")]
     assert lines[0] == f"rows {len(lines) - 1}", f"{name} is not whole"
     return lines[1:]
@@ -147,6 +163,21 @@ def try_errors() -> None:
             raise AssertionError(parts)
 
 
+def try_reasons() -> None:
+    """The names and texts of the header, and operands that are integers."""
+    header = Path(cheri_caps.__file__).parents[1] / "include" / "cheri_caps.h"
+    text = header.read_text(encoding="ascii")
+    reasons = {int(number): words for number, words in re.findall(r'REASON\((\d+), \w+, "(.*)"\)', text)}
+    assert reasons.pop(0) and reasons.pop(255) and reasons == cheri_caps.REASONS
+    numbers = re.findall(r"CHERI_CAPS_OP_(\w+) = (\d+)", text)
+    assert {name.lower(): int(number) for name, number in numbers} == cheri_caps.OPERATIONS
+    sixteen = Capability.make(0x80000000, 16)
+    assert cheri_caps.why("inc_offset", sixteen, -1) is None
+    assert cheri_caps.why("set_bounds", sixteen, 17) == (14, cheri_caps.REASONS[14])
+    assert raises(ValueError, lambda: cheri_caps.why("set_bounds", sixteen, -1))
+    assert raises(ValueError, lambda: cheri_caps.why("csetbounds", sixteen, 1))
+
+
 def try_arrays(rows: List[str]) -> bool:
     """The arrays against the functions of one value; False where numpy isn't there."""
     words = [int(f[1], 16) << 64 | int(f[2], 16) for f in map(str.split, rows) if f[0] == "word"]
@@ -181,6 +212,7 @@ def main() -> int:
             print(row)
     try_class()
     try_errors()
+    try_reasons()
     arrays = try_arrays(rows)
     examples = doctest.testmod(cheri_caps)
     print(f"{len(rows)} rows, {differ} differ, {examples.attempted} examples, {examples.failed} fail, "

@@ -1,6 +1,6 @@
 //! Laws over the structs: each function does nothing, and its contract is the law.
 
-ghost use Rattle.std.specs.Prelude.{◌≡◌, ℕ, Option, List, length, true};
+ghost use Rattle.std.specs.Prelude.{◌≡◌, ℕ, ◌==◌, Option, Some, List, length, true};
 ghost use Rattle.cap_model.specs.values.CapValue.{CapValue, IsLawfulValue};
 ghost use Rattle.cap_model.specs.values.CapValue.{tag_of};
 ghost use Rattle.cap_model.specs.results.Addresses.{
@@ -10,6 +10,7 @@ ghost use Rattle.cap_model.specs.results.Addresses.{
   set_address,
   with_address,
 };
+ghost use Rattle.cap_model.specs.results.CapInstructions.{CapInstruction, capability_result};
 ghost use Rattle.cap_model.specs.results.Seals.{unsealed};
 ghost use Rattle.cheri_model.specs.steps.Hart.{link};
 ghost use Rattle.cheri_model.specs.declared.access.Access.{Access};
@@ -21,6 +22,7 @@ ghost use Rattle.cheri_caps.specs.Checks.{
   link_of,
   ram_range,
 };
+ghost use Rattle.cheri_caps.specs.Reasons.{why};
 ghost use Rattle.cheri_caps.specs.Structs.{value_of, struct_of};
 
 /// A struct that a function gave means the value that it was given for. So calls can be chained.
@@ -49,4 +51,10 @@ pub fn jumps_are_the_machines()
         ≡ with_address (unsealed v) target }
     ensures link { (pcc : CapValue) → IsLawfulValue pcc → is_open pcc ≡ true →
         in_bounds pcc (address_of pcc) 4 ≡ true → link_of pcc ≡ link pcc }
+{}
+
+/// An instruction's result has a tag just where there is no reason that it has none.
+pub fn tags_are_kept_without_reasons()
+    ensures { (instruction : CapInstruction) (v w : CapValue) → IsLawfulValue v →
+        (why (Some instruction) v w == 0) ≡ tag_of (capability_result instruction v w) }
 {}
