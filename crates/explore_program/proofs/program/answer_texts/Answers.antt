@@ -20,12 +20,12 @@ pub returns-clause-printed : goal.returns-clause-printed
 returns-clause-printed g c =
     all_whole (λ ending. ending) own_failure false _ _
     (of_request c.args.listing.now (option_map bytes_in c.args.map) (explore_asked_by c.args.request.now)
-    (mapped_parts c.in_ok-mapped.mapped) (option_map sources_parts c.sources.result) c.in_ok-mapped.ensures.whole c.sources.ensures)
+    (mapped_parts c.in_ok-mapped.mapped) (option_map sources_parts c.sources-sources.result) c.in_ok-mapped.ensures.whole c.sources-sources.ensures)
     _ _ c.answer_listed.result c.answer_listed.ensures.printed
 
 pub returns-clause-failed : goal.returns-clause-failed
 returns-clause-failed g c =
     all_fail (λ ending. ending) own_failure false _ _
     (of_request c.args.listing.now (option_map bytes_in c.args.map) (explore_asked_by c.args.request.now)
-    (mapped_parts c.in_ok-mapped.mapped) (option_map sources_parts c.sources.result) c.in_ok-mapped.ensures.whole c.sources.ensures)
+    (mapped_parts c.in_ok-mapped.mapped) (option_map sources_parts c.sources-sources.result) c.in_ok-mapped.ensures.whole c.sources-sources.ensures)
     _ _ c.answer_listed.result c.answer_listed.ensures.failed
