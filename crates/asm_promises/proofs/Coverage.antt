@@ -41,13 +41,13 @@ pub record KeepsKinds (before after : List Chunk) : Type 0 where
   pub longer : length before ≤ length after
   pub kinds : (number : ℕ) → number < length before → kind_at after number ≡ kind_at before number
 
-then_kinds : (a b c : List Chunk) → KeepsKinds a b → KeepsKinds b c → KeepsKinds a c
+pub then_kinds : (a b c : List Chunk) → KeepsKinds a b → KeepsKinds b c → KeepsKinds a c
 then_kinds a b c h k =
     let one = h.longer in
     let two = k.longer in
     record { longer = omega arith; kinds = λ number less. k.kinds number (omega arith) ∙ h.kinds number less }
 
-set_kinds : (chunks : List Chunk) (at : ℕ) (chunk : Chunk) → chunk.kind ≡ kind_at chunks at → KeepsKinds chunks (slice_set chunks at chunk)
+pub set_kinds : (chunks : List Chunk) (at : ℕ) (chunk : Chunk) → chunk.kind ≡ kind_at chunks at → KeepsKinds chunks (slice_set chunks at chunk)
 set_kinds chunks at chunk same =
     let long = length-set chunks at chunk in
     record {
@@ -58,7 +58,7 @@ set_kinds chunks at chunk same =
       ];
     }
 
-push_kinds : (chunks : List Chunk) (chunk : Chunk) → KeepsKinds chunks (chunks ++ chunk ∷ [])
+pub push_kinds : (chunks : List Chunk) (chunk : Chunk) → KeepsKinds chunks (chunks ++ chunk ∷ [])
 push_kinds chunks chunk =
     let long : length (chunks ++ chunk ∷ []) ≡ length chunks + 1 = length-append chunks (chunk ∷ []) in
     record { longer = omega arith; kinds = λ number less. ap (λ (c : Chunk). c.kind) (get_or_append_left chunks (chunk ∷ []) no_chunk number less) }
@@ -193,8 +193,8 @@ body_listed tokens body entry count start inside =
       set = λ parts at number early b free h. h;
       common = λ parts at size align b few small free h. common_listed count start parts.chunks size align h;
       wanted = λ parts name h. h;
-      grown = λ parts more chunks h e. grown_listed count start parts.chunks chunks more h e;
-      padded = λ parts unit most chunks small h e. padded_listed count start parts.chunks chunks unit most h e;
+      grown = λ parts more chunks whole h e. grown_listed count start parts.chunks chunks more h e;
+      padded = λ parts unit most chunks small is h e. padded_listed count start parts.chunks chunks unit most h e;
       raised = λ parts h. raised_listed count start parts.chunks 16 h;
     }
 

@@ -51,7 +51,7 @@ body_good tokens body entry =
       set = λ parts at number early b free h. record { placed = more_good parts _ h (record { early = tt }) };
       common = λ parts at size align b few small free h. record { placed = more_good parts _ h (common_low parts.symbols _ at (length parts.chunks.chunks) size) };
       wanted = λ parts name h. record { placed = h.placed };
-      grown = λ parts count chunks h e. record { placed = h.placed };
-      padded = λ parts unit most chunks small h e. record { placed = h.placed };
+      grown = λ parts count chunks whole h e. record { placed = h.placed };
+      padded = λ parts unit most chunks small is h e. record { placed = h.placed };
       raised = λ parts h. record { placed = h.placed };
     }

@@ -18,7 +18,8 @@ use Rattle.asm_pictures.specs.Asked.{HartsParts}
 use Rattle.asm_pictures.specs.Image.{exit_address, whole, or_fault, listed, program_with, image_made}
 use Rattle.asm_image.specs.Whole.{AssembledParts, scene_of, assembly_meaning}
 use Rattle.asm_promises.specs.Given.{objects_in, requests_in, IsHeld, IsGivenHart}
-use Rattle.asm_promises.proofs.Steps.{late_in, Steps, steps_of}
+use Rattle.asm_promises.specs.Origins.{late_in}
+use Rattle.asm_promises.proofs.Steps.{Steps, steps_of}
 use Rattle.asm_promises.proofs.Held.{granules_held}
 use Rattle.asm_promises.proofs.Registers.{InHart, harts_given}
 

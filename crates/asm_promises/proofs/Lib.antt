@@ -11,6 +11,9 @@ pub mod Statements
 pub mod Operations
 pub mod Sound
 pub mod Values
+pub mod Units
+pub mod Alignments
+pub mod Here
 pub mod Walk
 pub mod Drafts
 pub mod Reading
@@ -23,6 +26,7 @@ pub mod Sizes
 pub mod Made
 pub mod Coverage
 pub mod Counts
+pub mod Untouched
 pub mod Placed
 pub mod Stacks
 pub mod Symbols
@@ -37,3 +41,9 @@ pub mod SymbolNames
 pub mod MapLines
 pub mod Notes
 pub mod MapTold
+pub mod Stretches
+pub mod StretchesOfFiles
+pub mod Marks
+pub mod Aligned
+pub mod OneStatement
+pub mod FromStatements

@@ -123,8 +123,8 @@ same_locals tokens body entry places =
       set = λ parts at number early b free h. h;
       common = λ parts at size align b few small free h. h;
       wanted = λ parts name h. h;
-      grown = λ parts count chunks h e. h;
-      padded = λ parts unit most chunks small h e. h;
+      grown = λ parts count chunks whole h e. h;
+      padded = λ parts unit most chunks small is h e. h;
       raised = λ parts h. h;
     }
 

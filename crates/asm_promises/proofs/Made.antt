@@ -53,10 +53,10 @@ body_sized tokens body entry most =
           let longer : length (parts.chunks.chunks ++ with_common size align ∷ []) ≡ length parts.chunks.chunks + 1 = length-append parts.chunks.chunks (with_common size align ∷ []) in
           record { sizes = common_sizes parts size align _ h.sizes few small refl refl; few = omega arith });
       wanted = λ parts name h. record { sizes = record { small = h.sizes.small; inside = h.sizes.inside }; few = h.few };
-      grown = λ parts count chunks h e.
+      grown = λ parts count chunks whole h e.
           (let few = h.few in let same = grown_length parts.chunks chunks count e in
           record { sizes = grown_sizes parts count chunks h.sizes e; few = omega arith });
-      padded = λ parts unit most chunks small h e.
+      padded = λ parts unit most chunks small is h e.
           (let few = h.few in let same = padded_length parts.chunks chunks unit most e in
           record { sizes = padded_sizes parts unit most chunks small h.sizes e; few = omega arith });
       raised = λ parts h.

@@ -45,7 +45,8 @@ use Rattle.asm_image.specs.Whole.{AssembledParts, scene_of, assembly_meaning, ma
 use Rattle.asm_listable.proofs.Starts.{then_ok}
 use Rattle.asm_promises.specs.Given.{requests_in}
 use Rattle.asm_promises.specs.Maps.{IsFileText}
-use Rattle.asm_promises.proofs.Steps.{late_in, steps_of}
+use Rattle.asm_promises.specs.Origins.{late_in}
+use Rattle.asm_promises.proofs.Steps.{steps_of}
 use Rattle.asm_promises.proofs.Late.{got, program_read}
 use Rattle.asm_promises.proofs.Runs.{few, total_least}
 use Rattle.asm_promises.proofs.Instructions.{code_origins}

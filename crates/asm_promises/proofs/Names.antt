@@ -66,8 +66,8 @@ body_known tokens body entry before =
       set = λ parts at number early b free h. defined_known before parts h _;
       common = λ parts at size align b few small free h. (let k = defined_known before parts h _ in record { own = k.own; there = k.there });
       wanted = λ parts name h. record { own = h.own; there = h.there };
-      grown = λ parts count chunks h e. record { own = h.own; there = h.there };
-      padded = λ parts unit most chunks small h e. record { own = h.own; there = h.there };
+      grown = λ parts count chunks whole h e. record { own = h.own; there = h.there };
+      padded = λ parts unit most chunks small is h e. record { own = h.own; there = h.there };
       raised = λ parts h. record { own = h.own; there = h.there };
     }
 

@@ -18,7 +18,8 @@ use Rattle.asm_code.specs.Beginning.{steps_from, origin_of, count_of, statement_
 use Rattle.asm_pictures.specs.Asked.{HartsParts}
 use Rattle.asm_pictures.specs.Image.{total, program_with}
 use Rattle.asm_image.specs.Whole.{AssembledParts, assembly_meaning}
-use Rattle.asm_promises.proofs.Steps.{late_in, steps_of}
+use Rattle.asm_promises.specs.Origins.{late_in}
+use Rattle.asm_promises.proofs.Steps.{steps_of}
 use Rattle.asm_promises.proofs.Given.{made_of}
 use Rattle.asm_promises.proofs.Late.{program_read}
 use Rattle.asm_promises.proofs.Instructions.{code_length, code_origins}
@@ -29,7 +30,7 @@ unfolding overwritten
 over_length [] items at = refl
 over_length (x ∷ xs) items at = over_length xs (slice_set items at x) (at + 1) ∙ length-set items at x
 
-steps_length : {X : Type 0} (step : ℕ → X → List (Option Origin) → List (Option Origin)) → ((n : ℕ) (x : X) (s : List (Option Origin)) → length (step n x s) ≡ length s)
+pub steps_length : {X : Type 0} (step : ℕ → X → List (Option Origin) → List (Option Origin)) → ((n : ℕ) (x : X) (s : List (Option Origin)) → length (step n x s) ≡ length s)
     → (n : ℕ) (xs : List X) (s : List (Option Origin)) → length (steps_from step n xs s) ≡ length s
 unfolding steps_from
 steps_length step same n [] s = refl
@@ -46,12 +47,12 @@ module _ (late : LateParts) where
   marked_by true marks at count origin = over_length (replicate count (Some origin)) marks at
   marked_by false marks at count origin = refl
 
-  statement_length : (file n : ℕ) (s : StatementParts) (marks : List (Option Origin)) → length (statement_marked late file n s marks) ≡ length marks
+  pub statement_length : (file n : ℕ) (s : StatementParts) (marks : List (Option Origin)) → length (statement_marked late file n s marks) ≡ length marks
   unfolding statement_marked
   statement_length file n s marks =
       marked_by (rank (kind_of late file n) == rank Code) marks (index_of late file n) (count_of (stand_of late file n)) (origin_of late file n s)
 
-  file_length : (n : ℕ) (f : FileParts) (marks : List (Option Origin)) → length (file_marked late n f marks) ≡ length marks
+  pub file_length : (n : ℕ) (f : FileParts) (marks : List (Option Origin)) → length (file_marked late n f marks) ≡ length marks
   unfolding file_marked
   file_length n f marks = steps_length (statement_marked late n) (λ k s ms. statement_length n k s ms) 0 f.statements marks
 

@@ -23,6 +23,7 @@ use Rattle.asm_layout.specs.Layout.{LayoutParts, opening, at_memory, code_placed
 use Rattle.asm_late.specs.Reach.{instructions_to}
 use Rattle.asm_promises.proofs.Listed.{Member}
 use Rattle.asm_promises.proofs.Sizes.{set_or, IsSmallChunk, size_at, chunk_small}
+use Rattle.asm_promises.proofs.Untouched.{memory_keeps}
 
 -- ---- one chunk
 
@@ -325,6 +326,9 @@ pub record IsLaid (chunks : List Chunk) (order : List ℕ) (entries : ℕ) (layo
       → RAM_BASE + table_length entries ≤ slice_index_or layout.addresses number 0
   pub code : (number : ℕ) → Member number order → number < length chunks → (rank (slice_index_or chunks number no_chunk).kind == rank kinds.Code) ≡ true
       → CODE_BASE ≤ slice_index_or layout.addresses number 0
+  pub code_inside : (number : ℕ) → (rank (slice_index_or chunks number no_chunk).kind == rank kinds.Code) ≡ true
+      → slice_index_or layout.addresses number 0 + size_at chunks number ≤ layout.code_end
+  pub code_end : (CODE_BASE ≤ layout.code_end) × (layout.code_end ≤ RAM_BASE)
   pub apart : AreApart chunks layout.addresses
   pub count : length layout.addresses ≡ length chunks
   pub ends : (number : ℕ) → slice_index_or layout.addresses number 0 + size_at chunks number ≤ layout.memory_end
@@ -363,6 +367,8 @@ laid chunks order entries small few most code =
       code = λ number member less is_code.
           (let behind = placed_behind chunks small kinds.Code order first number (omega arith) member less is_code opened in
           goes.behind CODE_BASE number (omega arith) (omega arith));
+      code_inside = λ number is_code. (let before = coded_ends.ends number in let same = memory_keeps chunks order begin number is_code in omega arith);
+      code_end = (omega arith, code_end);
       apart = goes.apart begin_ends (go.apart (opening_ends chunks small) (opening_apart chunks));
       count = goes.count_is ∙ count;
       ends = there.ends;

@@ -51,7 +51,8 @@ use Rattle.asm_pictures.specs.Harts.{OpenedParts, hart_number, with_start, asked
 use Rattle.asm_pictures.specs.Image.{whole, total, sizes_judged, exit_address, program_with}
 use Rattle.asm_image.specs.Whole.{AssembledParts, scene_of, assembly_meaning}
 use Rattle.asm_promises.specs.Given.{requests_in}
-use Rattle.asm_promises.proofs.Steps.{late_in, steps_of}
+use Rattle.asm_promises.specs.Origins.{late_in}
+use Rattle.asm_promises.proofs.Steps.{steps_of}
 use Rattle.asm_promises.proofs.Memory.{Keeps, IsOf, contents_kept}
 use Rattle.asm_promises.proofs.Given.{made_of}
 use Rattle.asm_promises.proofs.Values.{IsLowValue}

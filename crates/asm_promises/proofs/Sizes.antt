@@ -1,5 +1,5 @@
 -- Chunks are small, and symbols end in theirs.
-use Rattle.std.proofs.Common.{◌≡◌, ℕ, zero, suc, ◌+◌, ◌<◌, ◌≤◌, ◌==◌, ◌⊎◌, inl, inr, nat_lt, Bool, true, false, cond, List, [], ◌∷◌, ◌++◌, length, slice_get, slice_index_or, slice_set, Option, Some, None, Ok, Err, All, refl, sym, ap, ◌∙◌, subst, lit≤, arith}
+use Rattle.std.proofs.Common.{◌≡◌, ℕ, zero, suc, ◌+◌, ◌<◌, ◌≤◌, ◌==◌, ◌⊎◌, inl, inr, nat_lt, Bool, true, false, cond, List, [], ◌∷◌, ◌++◌, length, replicate, slice_get, slice_index_or, slice_set, Option, Some, None, Ok, Err, All, refl, sym, ap, ◌∙◌, subst, lit≤, arith}
 use Rattle.std.proofs.lemmas.Bool.{cases_lt}
 use Rattle.std.proofs.Math.ListN.{length-set}
 use Rattle.std.proofs.lemmas.List.{get_or_past, length-append}
@@ -41,6 +41,12 @@ set_or (y ∷ xs) (suc i) x (suc n) d =
 pub last_item : {X : Type 0} (xs : List X) (x d : X) → slice_index_or (xs ++ x ∷ []) (length xs) d ≡ x
 last_item [] x d = refl
 last_item (y ∷ xs) x d = last_item xs x d
+
+-- an item of those that are all the same
+pub repeated : {X : Type 0} (count n : ℕ) (x : X) → slice_index_or (replicate count x) n x ≡ x
+repeated zero n x = refl
+repeated (suc count) zero x = refl
+repeated (suc count) (suc n) x = repeated count n x
 
 -- an item that is there
 pub found : {X : Type 0} (xs : List X) (number : ℕ) (x d : X) → slice_get xs number ≡ Some x → (number < length xs) × (slice_index_or xs number d ≡ x)
@@ -91,7 +97,7 @@ inside_later : (before after : List Chunk) (ds : List DefinitionParts) → Grows
 inside_later before after ds grows h =
     All-weaker (IsInChunk before) (IsInChunk after) (λ d k. record { ends = ends_later before after grows d.bytes d.meaning k.ends }) ds h
 
-set_grows : (chunks : List Chunk) (at : ℕ) (chunk : Chunk) → size_at chunks at ≤ chunk.size → Grows chunks (slice_set chunks at chunk)
+pub set_grows : (chunks : List Chunk) (at : ℕ) (chunk : Chunk) → size_at chunks at ≤ chunk.size → Grows chunks (slice_set chunks at chunk)
 set_grows chunks at chunk more =
     record {
       more = λ number. elim (set_or chunks at chunk number no_chunk) [
@@ -108,7 +114,7 @@ push_size [] chunk number = omega arith
 push_size (c ∷ chunks) chunk zero = omega arith
 push_size (c ∷ chunks) chunk (suc number) = push_size chunks chunk number
 
-push_grows : (chunks : List Chunk) (chunk : Chunk) → Grows chunks (chunks ++ chunk ∷ [])
+pub push_grows : (chunks : List Chunk) (chunk : Chunk) → Grows chunks (chunks ++ chunk ∷ [])
 push_grows chunks chunk = record { more = λ number. push_size chunks chunk number }
 
 -- ---- what steps keep

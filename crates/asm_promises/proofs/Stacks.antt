@@ -51,7 +51,8 @@ use Rattle.asm_pictures.specs.Image.{whole, total, sizes_judged, exit_address, p
 use Rattle.asm_image.specs.Whole.{AssembledParts, scene_of, assembly_meaning}
 use Rattle.asm_promises.specs.Given.{requests_in}
 use Rattle.asm_promises.specs.Stacks.{end_behind, IsBehind, AreBehind}
-use Rattle.asm_promises.proofs.Steps.{late_in, steps_of as phases_of}
+use Rattle.asm_promises.specs.Origins.{late_in}
+use Rattle.asm_promises.proofs.Steps.{steps_of as phases_of}
 use Rattle.asm_promises.proofs.Placed.{next_small}
 use Rattle.asm_promises.proofs.Given.{made_of}
 use Rattle.asm_promises.proofs.Runs.{or_false, below, listable}

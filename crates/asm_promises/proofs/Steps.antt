@@ -14,9 +14,7 @@ use Rattle.asm_pictures.specs.Image.{sizes_judged, exit_address, program_with, i
 use Rattle.asm_image.specs.Whole.{AssembledParts, DrawnParts, scene_of, drawn_in, ram_for, drawn, linked_drawn, assembled, linked_meaning, program_meaning, assembly_meaning}
 use Rattle.asm_listable.proofs.Starts.{then_ok}
 use Rattle.asm_promises.specs.Given.{requests_in}
-
-abbrev pub late_in : AssembledParts → LateParts
-late_in a = record { program = a.program; linked = a.linked }
+use Rattle.asm_promises.specs.Origins.{late_in}
 
 pub record Steps (texts : List (List ℕ)) (harts : HartsParts) (a : AssembledParts) : Type 0 where
   pub contents : ContentsParts

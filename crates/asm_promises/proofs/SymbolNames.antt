@@ -155,8 +155,8 @@ module _ (tokens : List TokenParts) (named : All IsNamedToken tokens) where
         set = λ parts at number early b free h. named_symbol parts _ h (set_name body at k b);
         common = λ parts at size align b few small free h. (let one = named_symbol parts _ h (common_name body at k b) in record { names = one.names; own = one.own });
         wanted = λ parts name h. record { names = h.names; own = h.own };
-        grown = λ parts count chunks h e. record { names = h.names; own = h.own };
-        padded = λ parts unit most chunks small h e. record { names = h.names; own = h.own };
+        grown = λ parts count chunks whole h e. record { names = h.names; own = h.own };
+        padded = λ parts unit most chunks small is h e. record { names = h.names; own = h.own };
         raised = λ parts h. record { names = h.names; own = h.own };
       }
 

@@ -143,7 +143,7 @@ kept_is : (dropped : Bool) (o : Option ℕ) (start : ℕ) → cond dropped None 
 kept_is true o start e = absurd (cc)
 kept_is false o start e = e
 
-kind_same : (chunks : List Chunk) (number : ℕ) → kind_or_dropped (slice_get chunks number) ≡ (slice_index_or chunks number no_chunk).kind
+pub kind_same : (chunks : List Chunk) (number : ℕ) → kind_or_dropped (slice_get chunks number) ≡ (slice_index_or chunks number no_chunk).kind
 kind_same [] number = refl
 kind_same (chunk ∷ chunks) zero = refl
 kind_same (chunk ∷ chunks) (suc number) = kind_same chunks number
@@ -206,7 +206,7 @@ module _ (texts : List (List ℕ)) (program : ProgramParts) (few_files : length 
   sized : IsSized (length program.files) program.made
   sized = made_sized _ program.files program.made phases.files phases.made
 
-  laid_out : (linked_with program exits seen).instructions ≤ 16384
+  pub laid_out : (linked_with program exits seen).instructions ≤ 16384
       → IsLaid program.made.chunks (order_of program) (length (table_of program seen).symbols) (layout_of program.made.chunks (order_of program) (length (table_of program seen).symbols))
   unfolding linked_with
   laid_out small =

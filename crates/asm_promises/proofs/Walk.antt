@@ -1,9 +1,6 @@
 -- What a statement does to what is made so far, as steps: what each step keeps, the statement keeps.
-use Rattle.std.proofs.Common.{◌≡◌, ℕ, zero, suc, ◌+◌, ◌*◌, ◌%◌, ◌^◌, ◌<◌, ◌≤◌, ◌==◌, nat_lt, nat_le, min, Bool, true, false, cond, List, [], ◌∷◌, length, Option, Some, None, Result, Ok, Err, refl, ap, ◌∙◌, subst, lit≤, arith}
+use Rattle.std.proofs.Common.{◌≡◌, ℕ, zero, suc, ◌+◌, ◌*◌, ◌%◌, ◌<◌, ◌≤◌, ◌==◌, nat_lt, Bool, true, false, cond, List, [], ◌∷◌, length, Option, Some, Result, Ok, Err, refl, ap, ◌∙◌, subst, arith}
 use Rattle.std.specs.Option.{is_none}
-use Rattle.std.proofs.Math.Nat.{pow-le-pow_right}
-use Rattle.std.proofs.lemmas.Bool.{and_parts}
-use Rattle.std.proofs.lemmas.Bool.Decides.{nat_tests}
 use Rattle.canonical.proofs.round_trip.Ranges.{test_true, test_false}
 use Rattle.asm_names.specs.declared.sections.SectionKind.{SectionKind}
 use Rattle.asm_tokens.specs.declared.fault.AsmFault.{AsmFault}
@@ -32,8 +29,8 @@ use Rattle.asm_drafts.specs.declared.names.TheConstants.{MAX_ALIGN}
 use Rattle.asm_drafts.specs.declared.sections.Entry.{Entry}
 use Rattle.asm_drafts.specs.Drafts.{DraftParts, with_chunks, with_symbols, with_locals, is_here, after_chunks, grown_at, ended, each_put}
 use Rattle.asm_drafts.specs.Labels.{defined_at, named, local_here, locally_labelled, labelled_kind, labelled, labels_put}
-use Rattle.asm_drafts.specs.Names.{unless_named, set_symbol, set_put, common_align, power_at, align_said, common_align_of, common_added, size_of, common_put, with_wanted, want_put, up_to, or_zero}
-use Rattle.asm_drafts.specs.Operands.{early_if_said, first_of}
+use Rattle.asm_drafts.specs.Names.{unless_named, set_symbol, set_put, common_align_of, common_added, size_of, common_put, with_wanted, want_put, up_to, or_zero}
+use Rattle.asm_drafts.specs.Operands.{early_if_said}
 use Rattle.asm_drafts.specs.Padding.{fill_judged, exponent_unit, byte_unit, padded_at, narrowed, padding_put, align_put, balign_put}
 use Rattle.asm_drafts.specs.Bytes.{unless_code, number_at, data_put, if_aligned, capability_at, chericap_put, zeros_put, string_at, strings_put}
 use Rattle.asm_drafts.specs.Code.{count_of, constant_of, instruction_put}
@@ -43,53 +40,9 @@ use Rattle.asm_drafts.specs.Kept.{kept_number}
 use Rattle.asm_files.specs.declared.stand.Stand.{Stand}
 use Rattle.asm_files.specs.Stands.{opening_of, closing_of, statement_stood}
 use Rattle.asm_listable.proofs.Starts.{then_ok}
-
--- ---- units
-
-power_small : (tokens : List TokenParts) (at number unit : ℕ) → power_at tokens at number ≡ Ok unit → unit ≤ MAX_ALIGN
-unfolding power_at
-power_small tokens at number unit e =
-    let x = test_true _ (Ok number) (fault_at tokens faults.Range at) unit e in
-    let is : number ≡ unit = (let k = x.1 in cc) in
-    let small : nat_le number MAX_ALIGN ≡ true = (and_parts _ (nat_le number MAX_ALIGN) x.0).1 in
-    let few : number ≤ MAX_ALIGN = grind (arith, nat_tests) in
-    subst (λ (n : ℕ). n ≤ MAX_ALIGN) is few
-
-if_small : (test : Bool) (a b : ℕ) → a ≤ 16 → b ≤ 16 → cond test a b ≤ 16
-if_small true a b p q = p
-if_small false a b p q = q
-
-common_small : (size : ℕ) → common_align size ≤ MAX_ALIGN
-unfolding common_align
-common_small size =
-    let small = if_small (nat_le 16 size) 16 _ (lit≤ tt) (if_small (nat_le 8 size) 8 _ (lit≤ tt) (if_small (nat_le 4 size) 4 _ (lit≤ tt) (if_small (nat_le 2 size) 2 1 (lit≤ tt) (lit≤ tt)))) in
-    omega arith
-
-said_small : (tokens : List TokenParts) (at size unit : ℕ) (said : Option ℕ) → align_said tokens at size said ≡ Ok unit → unit ≤ MAX_ALIGN
-said_small tokens at size unit (Some align) e = power_small tokens at align unit e
-said_small tokens at size unit None e =
-    let is : common_align size ≡ unit = cc in subst (λ (n : ℕ). n ≤ MAX_ALIGN) is (common_small size)
-
-align_small : (tokens : List TokenParts) (parts : DraftParts) (s : StatementParts) (size unit : ℕ) → common_align_of tokens parts s size ≡ Ok unit → unit ≤ MAX_ALIGN
-unfolding common_align_of
-align_small tokens parts s size unit e =
-    let x = then_ok (early_if_said tokens parts s 1 (up_to MAX_ALIGN)) (λ align. align_said tokens (first_of s 1) size align) unit e in
-    said_small tokens (first_of s 1) size unit x.0 x.2
-
-exponent_small : (tokens : List TokenParts) (parts : DraftParts) (s : StatementParts) (unit : ℕ) → exponent_unit tokens parts s ≡ Ok unit → unit ≤ MAX_ALIGN
-unfolding exponent_unit
-exponent_small tokens parts s unit e =
-    let x = then_ok (early_if_said tokens parts s 0 (up_to 20)) (λ exponent. Ok (2 ^ min (or_zero exponent) 20)) unit e in
-    let is : 2 ^ min (or_zero x.0) 20 ≡ unit = (let k = x.2 in cc) in
-    let least : min (or_zero x.0) 20 ≤ 20 = omega arith in
-    let most : 2 ^ min (or_zero x.0) 20 ≤ 2 ^ 20 = pow-le-pow_right {n = 2} (lit≤ tt) least in
-    subst (λ (n : ℕ). n ≤ MAX_ALIGN) is most
-
-byte_small : (tokens : List TokenParts) (parts : DraftParts) (s : StatementParts) (unit : ℕ) → byte_unit tokens parts s ≡ Ok unit → unit ≤ MAX_ALIGN
-unfolding byte_unit
-byte_small tokens parts s unit e =
-    let x = then_ok (early_if_said tokens parts s 0 (up_to MAX_ALIGN)) (λ said. power_at tokens (first_of s 0) _) unit e in
-    power_small tokens (first_of s 0) _ unit x.2
+use Rattle.asm_promises.proofs.Units.{IsUnit}
+use Rattle.asm_promises.proofs.Alignments.{align_small, exponent_small, byte_small, exponent_is, byte_is}
+use Rattle.asm_promises.proofs.Here.{raised_same, grown_same, code_refused, IsWhole}
 
 -- ---- labels
 
@@ -157,8 +110,8 @@ pub record BodyKeeps (tokens : List TokenParts) (body : Body) (entry : Entry) (P
       → Q (with_symbols (with_chunks parts (with_chunk parts.chunks (with_common size align)))
       (with_symbol parts.symbols (common_symbol parts.symbols (text_at tokens at) at (length parts.chunks.chunks) size)))
   pub wanted : (parts : DraftParts) (name : List ℕ) → Q parts → Q (with_wanted parts name)
-  pub grown : (parts : DraftParts) (count : ℕ) (chunks : ChunksParts) → Q parts → grown parts.chunks count ≡ Ok chunks → Q (with_chunks parts chunks)
-  pub padded : (parts : DraftParts) (unit : ℕ) (most : Option ℕ) (chunks : ChunksParts) → unit ≤ MAX_ALIGN → Q parts → padded parts.chunks unit most ≡ Ok chunks
+  pub grown : (parts : DraftParts) (count : ℕ) (chunks : ChunksParts) → IsWhole parts count → Q parts → grown parts.chunks count ≡ Ok chunks → Q (with_chunks parts chunks)
+  pub padded : (parts : DraftParts) (unit : ℕ) (most : Option ℕ) (chunks : ChunksParts) → unit ≤ MAX_ALIGN → IsUnit unit → Q parts → padded parts.chunks unit most ≡ Ok chunks
       → Q (with_chunks parts chunks)
   pub raised : (parts : DraftParts) → Q parts → Q (with_chunks parts (raised parts.chunks 16))
 
@@ -171,9 +124,20 @@ module _ (tokens : List TokenParts) (s : StatementParts) (entry : Entry) (P Q : 
   chunks_kept parts after at (Ok chunks) h e = let is : with_chunks parts chunks ≡ after = cc in subst Q is (h chunks refl)
   chunks_kept parts after at (Err fault) h e = absurd (cc)
 
-  grown_kept : (parts after : DraftParts) → Q parts → (at count : ℕ) → grown_at tokens at count parts ≡ Ok after → Q after
+  grown_kept : (parts after : DraftParts) → Q parts → (at count : ℕ) → IsWhole parts count → grown_at tokens at count parts ≡ Ok after → Q after
   unfolding grown_at
-  grown_kept parts after h at count e = chunks_kept parts after at (grown parts.chunks count) (λ chunks f. keeps.grown parts count chunks h f) e
+  grown_kept parts after h at count whole e = chunks_kept parts after at (grown parts.chunks count) (λ chunks f. keeps.grown parts count chunks whole h f) e
+
+  -- in data
+  abbrev IsOther : DraftParts → Type 0
+  IsOther parts = Q parts × (is_here parts Code ≡ false)
+
+  other_whole : (parts : DraftParts) (count : ℕ) → is_here parts Code ≡ false → IsWhole parts count
+  other_whole parts count other code = absurd (cc)
+
+  other_kept : (parts after : DraftParts) (at count : ℕ) → IsOther parts → grown_at tokens at count parts ≡ Ok after → IsOther after
+  other_kept parts after at count h e =
+      (grown_kept parts after h.0 at count (other_whole parts count h.1) e, grown_same tokens at count parts after e ∙ h.1)
 
   defined_ok : (parts after : DraftParts) (at : ℕ) (d : DefinitionParts) → (is_none (parts.symbols.own d.name) ≡ true → Q (with_symbols parts (with_symbol parts.symbols d)))
       → defined_at tokens parts at d ≡ Ok after → Q after
@@ -182,14 +146,14 @@ module _ (tokens : List TokenParts) (s : StatementParts) (entry : Entry) (P Q : 
       let is : with_symbols parts (with_symbol parts.symbols d) ≡ after = (let k = x.1 in cc) in
       subst Q is (h x.0)
 
-  each_kept : (step : Operand → DraftParts → Result DraftParts AsmFault)
-      → ((operand : Operand) (parts after : DraftParts) → Q parts → step operand parts ≡ Ok after → Q after)
-      → (operands : List Operand) (parts after : DraftParts) → Q parts → each_put step operands parts ≡ Ok after → Q after
+  each_kept : (R : DraftParts → Type 0) (step : Operand → DraftParts → Result DraftParts AsmFault)
+      → ((operand : Operand) (parts after : DraftParts) → R parts → step operand parts ≡ Ok after → R after)
+      → (operands : List Operand) (parts after : DraftParts) → R parts → each_put step operands parts ≡ Ok after → R after
   unfolding each_put
-  each_kept step kept [] parts after h e = same parts after h (Ok parts) refl e
-  each_kept step kept (operand ∷ operands) parts after h e =
+  each_kept R step kept [] parts after h e = let is : parts ≡ after = cc in subst R is h
+  each_kept R step kept (operand ∷ operands) parts after h e =
       let x = then_ok (step operand parts) (λ next. each_put step operands next) after e in
-      each_kept step kept operands x.0 after (kept operand parts x.0 h x.1) x.2
+      each_kept R step kept operands x.0 after (kept operand parts x.0 h x.1) x.2
 
   dropped_or : (test : Bool) (parts after : DraftParts) (r : Result DraftParts AsmFault) → Q parts → (r ≡ Ok after → Q after)
       → cond test (Ok parts) r ≡ Ok after → Q after
@@ -216,7 +180,7 @@ module _ (tokens : List TokenParts) (s : StatementParts) (entry : Entry) (P Q : 
     code_by true at operation fault e =
         let x = then_ok (constant_of tokens parts s) (λ constant. ended s.fault >>= λ u. grown_at tokens at (4 * count_of operation constant) parts) after e in
         let y = then_ok (ended s.fault) (λ u. grown_at tokens at (4 * count_of operation x.0) parts) after x.2 in
-        grown_kept parts after h at (4 * count_of operation x.0) y.2
+        grown_kept parts after h at (4 * count_of operation x.0) (λ code. omega arith) y.2
     code_by false at operation fault e = absurd (cc)
 
     instruction_kept : (at : ℕ) (operation : Option Operation) → instruction_put tokens parts s at operation ≡ Ok after → Q after
@@ -247,7 +211,7 @@ module _ (tokens : List TokenParts) (s : StatementParts) (entry : Entry) (P Q : 
     global_kept : (each_put (want_put tokens) s.operands parts >>= λ next. only_ended next s) ≡ Ok after → Q after
     global_kept e =
         let x = then_ok (each_put (want_put tokens) s.operands parts) (λ next. only_ended next s) after e in
-        ended_kept x.0 after (each_kept (want_put tokens) (λ operand p q k f. want_kept operand p q k f) s.operands parts x.0 h x.1) x.2
+        ended_kept x.0 after (each_kept Q (want_put tokens) (λ operand p q k f. want_kept operand p q k f) s.operands parts x.0 h x.1) x.2
 
     set_kept : (number at : ℕ) → s.body ≡ bodies.Set at → set_put tokens parts number s at ≡ Ok after → Q after
     unfolding set_put
@@ -270,52 +234,52 @@ module _ (tokens : List TokenParts) (s : StatementParts) (entry : Entry) (P Q : 
         defined_ok more after at (common_symbol parts.symbols (text_at tokens at) at (length parts.chunks.chunks) (size_of y.0))
         (λ free. keeps.common parts at (size_of y.0) z.0 b few (align_small tokens parts s (size_of y.0) z.0 z.1) free first) w.2
 
-    padding_kept : (at unit : ℕ) → unit ≤ MAX_ALIGN → padding_put tokens parts s at unit ≡ Ok after → Q after
+    padding_kept : (at unit : ℕ) → unit ≤ MAX_ALIGN → IsUnit unit → padding_put tokens parts s at unit ≡ Ok after → Q after
     unfolding padding_put padded_at
-    padding_kept at unit small e =
+    padding_kept at unit small is e =
         let x = then_ok (fill_judged tokens parts s 1) (λ fill. early_if_said tokens parts s 2 (up_to MAX_ALIGN) >>= λ most. ended s.fault >>= λ u. padded_at tokens at unit (narrowed most) parts) after e in
         let y = then_ok (early_if_said tokens parts s 2 (up_to MAX_ALIGN)) (λ most. ended s.fault >>= λ u. padded_at tokens at unit (narrowed most) parts) after x.2 in
         let z = then_ok (ended s.fault) (λ u. padded_at tokens at unit (narrowed y.0) parts) after y.2 in
-        chunks_kept parts after at (padded parts.chunks unit (narrowed y.0)) (λ chunks f. keeps.padded parts unit (narrowed y.0) chunks small h f) z.2
+        chunks_kept parts after at (padded parts.chunks unit (narrowed y.0)) (λ chunks f. keeps.padded parts unit (narrowed y.0) chunks small is h f) z.2
 
     align_kept : (at : ℕ) → align_put tokens parts s at ≡ Ok after → Q after
     unfolding align_put
     align_kept at e =
         dropped_or (is_here parts Dropped) parts after (exponent_unit tokens parts s >>= λ unit. padding_put tokens parts s at unit) h
-        (λ f. (let x = then_ok (exponent_unit tokens parts s) (λ unit. padding_put tokens parts s at unit) after f in padding_kept at x.0 (exponent_small tokens parts s x.0 x.1) x.2)) e
+        (λ f. (let x = then_ok (exponent_unit tokens parts s) (λ unit. padding_put tokens parts s at unit) after f in padding_kept at x.0 (exponent_small tokens parts s x.0 x.1) (exponent_is tokens parts s x.0 x.1) x.2)) e
 
     balign_kept : (at : ℕ) → balign_put tokens parts s at ≡ Ok after → Q after
     unfolding balign_put
     balign_kept at e =
         dropped_or (is_here parts Dropped) parts after (byte_unit tokens parts s >>= λ unit. padding_put tokens parts s at unit) h
-        (λ f. (let x = then_ok (byte_unit tokens parts s) (λ unit. padding_put tokens parts s at unit) after f in padding_kept at x.0 (byte_small tokens parts s x.0 x.1) x.2)) e
+        (λ f. (let x = then_ok (byte_unit tokens parts s) (λ unit. padding_put tokens parts s at unit) after f in padding_kept at x.0 (byte_small tokens parts s x.0 x.1) (byte_is tokens parts s x.0 x.1) x.2)) e
 
     -- a step for each operand, where data may be
     data_by : (at : ℕ) (step : Operand → DraftParts → Result DraftParts AsmFault)
-        → ((operand : Operand) (p q : DraftParts) → Q p → step operand p ≡ Ok q → Q q)
+        → ((operand : Operand) (p q : DraftParts) → IsOther p → step operand p ≡ Ok q → IsOther q)
         → cond (is_here parts Dropped) (Ok parts) (unless_code tokens parts at >>= λ code. each_put step s.operands parts >>= λ next. ended s.fault >>= λ u. Ok next) ≡ Ok after
         → Q after
     data_by at step kept e =
         dropped_or (is_here parts Dropped) parts after (unless_code tokens parts at >>= λ code. each_put step s.operands parts >>= λ next. ended s.fault >>= λ u. Ok next) h
         (λ f. (let x = then_ok (unless_code tokens parts at) (λ code. each_put step s.operands parts >>= λ next. ended s.fault >>= λ u. Ok next) after f in
         let y = then_ok (each_put step s.operands parts) (λ next. ended s.fault >>= λ u. Ok next) after x.2 in
-        after_ended y.0 (each_kept step kept s.operands parts y.0 h y.1) y.2)) e
+        after_ended y.0 (each_kept IsOther step kept s.operands parts y.0 (h, code_refused tokens parts at x.0 x.1) y.1).0 y.2)) e
 
     data_kept : (at width : ℕ) → data_put tokens parts s at width ≡ Ok after → Q after
     unfolding data_put
-    data_kept at width e = data_by at (number_at tokens at width) (λ operand p q k f. grown_kept p q k at width f) e
+    data_kept at width e = data_by at (number_at tokens at width) (λ operand p q k f. other_kept p q at width k f) e
 
-    aligned_kept : (first : ℕ) (p q : DraftParts) → Q p → if_aligned tokens first p ≡ Ok q → Q q
+    aligned_kept : (first : ℕ) (p q : DraftParts) → IsOther p → if_aligned tokens first p ≡ Ok q → IsOther q
     aligned_kept first p q k f =
         let x = test_true ((here_of p.chunks).size % 16 == 0) (Ok (with_chunks p (raised p.chunks 16))) (fault_at tokens faults.Range first) q f in
         let is : with_chunks p (raised p.chunks 16) ≡ q = (let g = x.1 in cc) in
-        subst Q is (keeps.raised p k)
+        subst IsOther is (keeps.raised p k.0, raised_same p 16 ∙ k.1)
 
-    capability_kept : (at : ℕ) (operand : Operand) (p q : DraftParts) → Q p → capability_at tokens at operand p ≡ Ok q → Q q
+    capability_kept : (at : ℕ) (operand : Operand) (p q : DraftParts) → IsOther p → capability_at tokens at operand p ≡ Ok q → IsOther q
     unfolding capability_at
     capability_kept at operand p q k f =
         let x = then_ok (grown_at tokens at 16 p) (λ next. if_aligned tokens operand.first next) q f in
-        aligned_kept operand.first x.0 q (grown_kept p x.0 k at 16 x.1) x.2
+        aligned_kept operand.first x.0 q (other_kept p x.0 at 16 k x.1) x.2
 
     chericap_kept : (at : ℕ) → chericap_put tokens parts s at ≡ Ok after → Q after
     unfolding chericap_put
@@ -330,13 +294,13 @@ module _ (tokens : List TokenParts) (s : StatementParts) (entry : Entry) (P Q : 
         let y = then_ok (early_if_said tokens parts s 0 (up_to MAX_CHUNK)) (λ count. fill_judged tokens parts s 1 >>= λ fill. ended s.fault >>= λ u. grown_at tokens at (or_zero count) parts) after x.2 in
         let z = then_ok (fill_judged tokens parts s 1) (λ fill. ended s.fault >>= λ u. grown_at tokens at (or_zero y.0) parts) after y.2 in
         let w = then_ok (ended s.fault) (λ u. grown_at tokens at (or_zero y.0) parts) after z.2 in
-        grown_kept parts after h at (or_zero y.0) w.2)) e
+        grown_kept parts after h at (or_zero y.0) (other_whole parts (or_zero y.0) (code_refused tokens parts at x.0 x.1)) w.2)) e
 
-    string_kept : (at count : ℕ) (operand : Operand) (p q : DraftParts) → Q p → string_at tokens at count operand p ≡ Ok q → Q q
+    string_kept : (at count : ℕ) (operand : Operand) (p q : DraftParts) → IsOther p → string_at tokens at count operand p ≡ Ok q → IsOther q
     unfolding string_at
     string_kept at count operand p q k f =
         let x = test_false _ (grown_at tokens at _ p) (fault_at tokens faults.Section operand.first) q f in
-        grown_kept p q k at _ x.1
+        other_kept p q at _ k x.1
 
     strings_kept : (at zeros : ℕ) → strings_put tokens parts s at zeros ≡ Ok after → Q after
     unfolding strings_put

@@ -3,3 +3,4 @@ pub mod Given
 pub mod Stacks
 pub mod Labels
 pub mod Maps
+pub mod Origins

@@ -47,6 +47,9 @@ ghost use Rattle.asm_maps.specs.Maps.{map_text};
 ghost use Rattle.asm_maps.specs.declared.line.MapLine.{MapLine};
 ghost use Rattle.asm_promises.specs.Maps.{IsFileText};
 ghost use Rattle.asm_starts.specs.Starts.{NoteParts};
+ghost use Rattle.asm_instructions.specs.declared.origin.Origin.{Origin};
+ghost use Rattle.asm_code.specs.Beginning.{origin_of};
+ghost use Rattle.asm_promises.specs.Origins.{HasInstruction, IsOriginOf, IsToldIn, late_in};
 ghost use Rattle.asm_promises.specs.Stacks.{
   AreApart,
   AreBehind,
@@ -82,6 +85,32 @@ pub fn every_instruction_has_its_origin()
     ensures { (texts : List (List ℕ)) (harts : HartsParts) (a : AssembledParts)
         → assembly_meaning texts harts ≡ Ok a
         → length a.image.program ≡ total (length a.origins) a.exit }
+{}
+
+/// Each instruction of an image, guard and exit aside, comes from just one statement: no two
+/// statements have an instruction's address among their bytes; the instruction's origin is the one
+/// that has, or that of a gap where none has; and the map has a line with this statement's file and
+/// line. There are at most 16 files.
+pub fn each_instruction_comes_from_one_statement()
+    ensures one { (texts : List (List ℕ)) (harts : HartsParts) (a : AssembledParts)
+        → length texts ≤ 16 → assembly_meaning texts harts ≡ Ok a
+        → (file number other_file other n : ℕ) (s t : StatementParts)
+        → HasInstruction (late_in a) file number s n
+        → HasInstruction (late_in a) other_file other t n
+        → (other_file ≡ file) × (other ≡ number) }
+    ensures inside { (texts : List (List ℕ)) (harts : HartsParts) (a : AssembledParts)
+        → length texts ≤ 16 → assembly_meaning texts harts ≡ Ok a
+        → (file number n : ℕ) (s : StatementParts) → HasInstruction (late_in a) file number s n
+        → n < length a.origins }
+    ensures origin { (texts : List (List ℕ)) (harts : HartsParts) (a : AssembledParts)
+        → length texts ≤ 16 → assembly_meaning texts harts ≡ Ok a
+        → (n : ℕ) (origin : Origin) → slice_get a.origins n ≡ Some origin
+        → IsOriginOf (late_in a) n origin }
+    ensures map { (texts : List (List ℕ)) (harts : HartsParts) (a : AssembledParts)
+        (names : List (List ℕ)) → length texts ≤ 16 → assembly_meaning texts harts ≡ Ok a
+        → (file number n : ℕ) (s : StatementParts) → HasInstruction (late_in a) file number s n
+        → IsToldIn (map_of a names) (length names) n file
+        (origin_of (late_in a) file number s).line }
 {}
 
 /// The labels of a statement are symbols whose place is where the statement stands.
