@@ -1,19 +1,22 @@
 -- The instructions of an image come from statements, each from just one, which its origin and the map tell.
-use Rattle.std.proofs.Common.{◌≡◌, ℕ, zero, suc, ◌+◌, ◌-◌, ◌*◌, ◌/◌, ◌%◌, ◌^◌, ◌<◌, ◌≤◌, inl, inr, Bool, List, [], ◌∷◌, ◌++◌, length, slice_get, Some, None, Ok, refl, sym, ap, ◌∙◌, subst, arith}
+use Rattle.std.proofs.Common.{◌≡◌, ℕ, zero, suc, ◌+◌, ◌-◌, ◌*◌, ◌/◌, ◌%◌, ◌^◌, ◌<◌, ◌≤◌, ◌==◌, inl, inr, Bool, true, List, [], ◌∷◌, ◌++◌, length, slice_get, Some, None, Ok, refl, sym, ap, ◌∙◌, subst, arith}
 use Rattle.cheri_model.specs.declared.code.TheConstants.{CODE_BASE}
 use Rattle.cheri_model.specs.declared.memory.TheConstants.{RAM_BASE}
 use Rattle.asm_tokens.specs.Faults.{◌>>=◌}
-use Rattle.asm_files.specs.Programs.{ProgramParts}
+use Rattle.asm_files.specs.Programs.{ProgramParts, statement_at}
 use Rattle.asm_links.specs.Sections.{sections_judged}
 use Rattle.asm_links.specs.Seen.{seen_of}
 use Rattle.asm_late.specs.Linked.{LinkedParts, linked_with, linked_of}
 use Rattle.asm_late.specs.Reach.{instructions_to}
 use Rattle.asm_listable.proofs.Starts.{then_ok}
+use Rattle.asm_layout.specs.declared.chunk.ChunkKind.TheVariants.{Code}
+use Rattle.asm_layout.specs.Placement.{rank}
 use Rattle.asm_statements.specs.Statements.{StatementParts}
 use Rattle.asm_labels.specs.Before.{label_before}
 use Rattle.asm_instructions.specs.declared.origin.Origin.{Origin}
 use Rattle.asm_links.specs.Order.{order_of}
-use Rattle.asm_code.specs.Beginning.{origin_of, room_of, code_begun}
+use Rattle.asm_code.specs.Standing.{stand_of, kind_of, index_of}
+use Rattle.asm_code.specs.Beginning.{origin_of, count_of, room_of, code_begun}
 use Rattle.asm_mapping.specs.Lines.{LineParts, each_line, file as file_line}
 use Rattle.asm_symbols.specs.Definitions.{DefinitionParts}
 use Rattle.asm_places.specs.Places.{PlacesParts}
@@ -179,6 +182,15 @@ module _ (texts : List (List ℕ)) (harts : HartsParts) (a : AssembledParts) (fe
   has : (file number n : ℕ) (s : StatementParts) → IsAmong (late_in a) file number s n → HasInstruction (late_in a) file number s n
   has file number n s h =
       has_by (late_in a) file number n s _ _ (is_at texts (late_in a) (length a.linked.table.symbols) phases laid aligned file number s h.there h.code) h
+
+  pub numbers_of : (file number n : ℕ) (s : StatementParts) → HasInstruction (late_in a) file number s n
+      → (index_of (late_in a) file number ≤ n) × (n < index_of (late_in a) file number + count_of (stand_of (late_in a) file number))
+  numbers_of file number n s h = let one = among file number n s h in (one.from, one.to)
+
+  pub has_each : (file number k : ℕ) (s : StatementParts) → statement_at a.program file number ≡ Some s → (rank (kind_of (late_in a) file number) == rank Code) ≡ true
+      → k < count_of (stand_of (late_in a) file number) → HasInstruction (late_in a) file number s (index_of (late_in a) file number + k)
+  has_each file number k s there code less =
+      has file number (index_of (late_in a) file number + k) s (record { there = there; code = code; from = omega arith; to = omega arith })
 
   pub just_one : (file number other_file other n : ℕ) (s t : StatementParts) → HasInstruction (late_in a) file number s n → HasInstruction (late_in a) other_file other t n
       → (other_file ≡ file) × (other ≡ number)

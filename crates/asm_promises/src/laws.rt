@@ -1,7 +1,7 @@
 //! Laws over what files of assembly mean: the functions do nothing, and their contracts are the
 //! laws.
 
-ghost use Rattle.std.specs.Prelude.{◌≡◌, ◌≤◌, ◌<◌, ◌+◌, ◌*◌, ◌%◌, ◌^◌, ◌++◌, ℕ, List, length};
+ghost use Rattle.std.specs.Prelude.{◌≡◌, ◌≤◌, ◌<◌, ◌==◌, ◌+◌, ◌*◌, ◌%◌, ◌^◌, ◌++◌, ℕ, List, length};
 ghost use Rattle.std.specs.Prelude.{Ok, Some, codes, map, slice_get, true};
 ghost use Rattle.std.specs.List.{All};
 ghost use Rattle.cheri_model.specs.declared.code.TheConstants.{CODE_BASE, INSTRUCTION_BYTES};
@@ -48,7 +48,10 @@ ghost use Rattle.asm_maps.specs.declared.line.MapLine.{MapLine};
 ghost use Rattle.asm_promises.specs.Maps.{IsFileText};
 ghost use Rattle.asm_starts.specs.Starts.{NoteParts};
 ghost use Rattle.asm_instructions.specs.declared.origin.Origin.{Origin};
-ghost use Rattle.asm_code.specs.Beginning.{origin_of};
+ghost use Rattle.asm_code.specs.Beginning.{count_of, origin_of};
+ghost use Rattle.asm_files.specs.Programs.{statement_at};
+ghost use Rattle.asm_layout.specs.declared.chunk.ChunkKind.TheVariants.{Code};
+ghost use Rattle.asm_layout.specs.Placement.{rank};
 ghost use Rattle.asm_promises.specs.Origins.{HasInstruction, IsOriginOf, IsToldIn, late_in};
 ghost use Rattle.asm_promises.specs.Stacks.{
   AreApart,
@@ -88,9 +91,10 @@ pub fn every_instruction_has_its_origin()
 {}
 
 /// Each instruction of an image, guard and exit aside, comes from just one statement: no two
-/// statements have an instruction's address among their bytes; the instruction's origin is the one
-/// that has, or that of a gap where none has; and the map has a line with this statement's file and
-/// line. There are at most 16 files.
+/// statements have an instruction's address among their bytes. A statement has the instructions
+/// from its first one on, as many as its bytes hold, and all are in the image. An instruction's
+/// origin is the statement that has it, or is of a gap that none has; and the map has a line with
+/// this statement's file and line. There are at most 16 files.
 pub fn each_instruction_comes_from_one_statement()
     ensures one { (texts : List (List ℕ)) (harts : HartsParts) (a : AssembledParts)
         → length texts ≤ 16 → assembly_meaning texts harts ≡ Ok a
@@ -98,6 +102,18 @@ pub fn each_instruction_comes_from_one_statement()
         → HasInstruction (late_in a) file number s n
         → HasInstruction (late_in a) other_file other t n
         → (other_file ≡ file) × (other ≡ number) }
+    ensures numbers { (texts : List (List ℕ)) (harts : HartsParts) (a : AssembledParts)
+        → length texts ≤ 16 → assembly_meaning texts harts ≡ Ok a
+        → (file number n : ℕ) (s : StatementParts) → HasInstruction (late_in a) file number s n
+        → (index_of (late_in a) file number ≤ n)
+        × (n < index_of (late_in a) file number
+        + count_of (standing.stand_of (late_in a) file number)) }
+    ensures each { (texts : List (List ℕ)) (harts : HartsParts) (a : AssembledParts)
+        → length texts ≤ 16 → assembly_meaning texts harts ≡ Ok a
+        → (file number k : ℕ) (s : StatementParts) → statement_at a.program file number ≡ Some s
+        → (rank (standing.kind_of (late_in a) file number) == rank Code) ≡ true
+        → k < count_of (standing.stand_of (late_in a) file number)
+        → HasInstruction (late_in a) file number s (index_of (late_in a) file number + k) }
     ensures inside { (texts : List (List ℕ)) (harts : HartsParts) (a : AssembledParts)
         → length texts ≤ 16 → assembly_meaning texts harts ≡ Ok a
         → (file number n : ℕ) (s : StatementParts) → HasInstruction (late_in a) file number s n
