@@ -1,6 +1,11 @@
 //! Which lines of a listing are properties, and where the others are at fault.
 
+ghost use Rattle.std.specs.Prelude.{◌≡◌, Ok};
+ghost use Rattle.listings.specs.Meaning.{listing_meaning};
+
+use cheri_model::Image;
 use explore_properties::{Claim, Properties, PropertyFault, When, read_properties};
+use grammar::labels::Labels;
 use listing_labels::labels_of;
 use listing_maps::Names;
 use listings::read_listing;
@@ -83,15 +88,27 @@ fn with_listing(alloc: Global, lines: &str, end: &str) -> Result<Vec<u8>, Fail> 
     Ok(text)
 }
 
+/// The properties of a listing without a map.
+fn read_unmapped<'t>(
+    alloc: Global,
+    labels: &Labels<'_>,
+    image: &Image,
+    text: &'t [u8],
+) -> Result<Properties<'t>, PropertyFault>
+    requires { listing_meaning text.now ≡ Ok image.now }
+{
+    let names = Names {
+        labels,
+        sources: None,
+    };
+    read_properties(alloc, &names, image, text)
+}
+
 /// Where the first fault of a listing's properties is: its line and byte, if it has one.
 fn fault_of(alloc: Global, text: &[u8]) -> Result<Option<(usize, usize)>, Fail> {
     let image = read_listing(alloc, text)?;
     let labels = labels_of(alloc, &image, text)?;
-    let names = Names {
-        labels: &labels,
-        sources: None,
-    };
-    match read_properties(alloc, &names, &image, text) {
+    match read_unmapped(alloc, &labels, &image, text) {
         Ok(_) => Ok(None),
         Err(PropertyFault::Place(place)) => Ok(Some((place.line, place.byte))),
         Err(PropertyFault::NoMemory) => Ok(None),
@@ -177,11 +194,7 @@ fn properties_are_read(rt: HostRuntime) -> Result<(), Fail> {
     let text = with_listing(alloc, LINES, "")?;
     let image = read_listing(alloc, text.as_slice())?;
     let labels = labels_of(alloc, &image, text.as_slice())?;
-    let names = Names {
-        labels: &labels,
-        sources: None,
-    };
-    let Ok(read) = read_properties(alloc, &names, &image, text.as_slice()) else {
+    let Ok(read) = read_unmapped(alloc, &labels, &image, text.as_slice()) else {
         return Err(Fail::from("the lines are at fault"));
     };
     assert!(rt; are_known(&read), "the properties are others");
