@@ -2,7 +2,7 @@
 
 use cheri_model::Image;
 use condition_texts::{TextFault, read_condition, read_items};
-use grammar::labels::labels_of;
+use grammar::labels::{Labels, labels_of};
 use listing_maps::Names;
 use listings::read_listing;
 use std::alloc::Global;
@@ -258,24 +258,32 @@ fn takes_condition(rt: &impl Abort, alloc: Global, names: &Names<'_>, image: &Im
     }
 }
 
-fn conditions_are_judged(rt: &impl Abort, alloc: Global, names: &Names<'_>, image: &Image) {
+fn good_are_taken(rt: &impl Abort, alloc: Global, names: &Names<'_>, image: &Image) {
     for text in GOOD {
         takes_condition(rt, alloc, names, image, text);
     }
+}
+
+fn bad_are_refused(rt: &impl Abort, alloc: Global, names: &Names<'_>, image: &Image) {
     for (text, byte) in BAD {
         refuses_condition(rt, alloc, names, image, text, *byte);
     }
+}
+
+fn conditions_are_judged(rt: &impl Abort, alloc: Global, labels: &Labels<'_>, image: &Image) {
+    let names = Names {
+        labels,
+        sources: None,
+    };
+    good_are_taken(rt, alloc, &names, image);
+    bad_are_refused(rt, alloc, &names, image);
 }
 
 #[test]
 fn conditions_are_read_or_refused_at_their_first_faulty_word(rt: HostRuntime) -> Result<(), Fail> {
     let image = image(rt.alloc())?;
     let labels = labels_of(rt.alloc(), LISTING)?;
-    let names = Names {
-        labels: &labels,
-        sources: None,
-    };
-    conditions_are_judged(&rt, rt.alloc(), &names, &image);
+    conditions_are_judged(&rt, rt.alloc(), &labels, &image);
     Ok(())
 }
 

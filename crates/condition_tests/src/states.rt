@@ -6,7 +6,7 @@ use cap_ops::Cap;
 use cheri_model::{Image, Perms, RAM_BASE, Reg, Status, Trap};
 use condition_texts::read_condition;
 use conditions::StateView;
-use grammar::labels::labels_of;
+use grammar::labels::{Labels, labels_of};
 use hart::Hart;
 use listing_maps::Names;
 use listings::read_listing;
@@ -157,25 +157,29 @@ fn filled_ram(alloc: Global) -> Result<Ram, Fail> {
 /// Whether a condition holds in a state, or nothing of a text that is none.
 fn answer(
     alloc: Global,
-    names: &Names<'_>,
+    labels: &Labels<'_>,
     image: &Image,
     shown: &Shown<'_>,
     text: &str,
 ) -> Option<bool> {
-    let condition = read_condition(alloc, names, image, text).ok()?;
+    let names = Names {
+        labels,
+        sources: None,
+    };
+    let condition = read_condition(alloc, &names, image, text).ok()?;
     Some(condition.holds(shown))
 }
 
 fn conditions_are_asked(
     rt: &impl Abort,
     alloc: Global,
-    names: &Names<'_>,
+    labels: &Labels<'_>,
     image: &Image,
     shown: &Shown<'_>,
 ) {
     for (text, holds) in ANSWERS {
         assert!(rt;
-            answer(alloc, names, image, shown, text) == Some(*holds),
+            answer(alloc, labels, image, shown, text) == Some(*holds),
             "{text:?}"
         );
     }
@@ -195,10 +199,6 @@ fn conditions_hold_as_the_model_says(rt: HostRuntime) -> Result<(), Fail> {
         ram: &ram,
     };
     let labels = labels_of(rt.alloc(), LISTING)?;
-    let names = Names {
-        labels: &labels,
-        sources: None,
-    };
-    conditions_are_asked(&rt, rt.alloc(), &names, &image, &shown);
+    conditions_are_asked(&rt, rt.alloc(), &labels, &image, &shown);
     Ok(())
 }
