@@ -1,9 +1,9 @@
 -- The instructions of an image come from statements, each from just one, which its origin and the map tell.
-use Rattle.std.proofs.Common.{◌≡◌, ℕ, zero, suc, ◌+◌, ◌-◌, ◌*◌, ◌/◌, ◌%◌, ◌^◌, ◌<◌, ◌≤◌, ◌==◌, inl, inr, Bool, true, List, [], ◌∷◌, ◌++◌, length, slice_get, Some, None, Ok, refl, sym, ap, ◌∙◌, subst, arith}
+use Rattle.std.proofs.Common.{◌≡◌, ℕ, zero, suc, ◌+◌, ◌-◌, ◌*◌, ◌/◌, ◌%◌, ◌^◌, ◌<◌, ◌≤◌, ◌==◌, inl, inr, Bool, true, List, [], ◌∷◌, ◌++◌, length, slice_get, Option, Some, None, Ok, All, refl, sym, ap, ◌∙◌, subst, arith}
 use Rattle.cheri_model.specs.declared.code.TheConstants.{CODE_BASE}
 use Rattle.cheri_model.specs.declared.memory.TheConstants.{RAM_BASE}
 use Rattle.asm_tokens.specs.Faults.{◌>>=◌}
-use Rattle.asm_files.specs.Programs.{ProgramParts, statement_at}
+use Rattle.asm_files.specs.Programs.{FileParts, ProgramParts, statements_or_none, statement_at, stand_in}
 use Rattle.asm_links.specs.Sections.{sections_judged}
 use Rattle.asm_links.specs.Seen.{seen_of}
 use Rattle.asm_late.specs.Linked.{LinkedParts, linked_with, linked_of}
@@ -11,6 +11,12 @@ use Rattle.asm_late.specs.Reach.{instructions_to}
 use Rattle.asm_listable.proofs.Starts.{then_ok}
 use Rattle.asm_layout.specs.declared.chunk.ChunkKind.TheVariants.{Code}
 use Rattle.asm_layout.specs.Placement.{rank}
+use Rattle.cheri_model.specs.declared.instr.Instr.{Instr}
+use Rattle.asm_expansions.specs.declared.operation.Operation.{Operation}
+use Rattle.asm_statements.specs.declared.statement.Body.{Body}
+use Rattle.asm_statements.specs.declared.statement.Body.TheVariants as bodies
+use Rattle.asm_drafts.specs.Code.{count_of as early_count}
+use Rattle.asm_code.specs.Code.{instructions_of}
 use Rattle.asm_statements.specs.Statements.{StatementParts}
 use Rattle.asm_labels.specs.Before.{label_before}
 use Rattle.asm_instructions.specs.declared.origin.Origin.{Origin}
@@ -30,7 +36,11 @@ use Rattle.asm_image.specs.Whole.{AssembledParts, assembly_meaning, mapped_of, m
 use Rattle.asm_promises.specs.Origins.{late_in, HasInstruction, IsOriginOf, told, gap, IsToldIn}
 use Rattle.asm_promises.proofs.Steps.{Steps, steps_of}
 use Rattle.asm_promises.proofs.Reading.{Phases, phases_of, none_more}
-use Rattle.asm_promises.proofs.Late.{program_read}
+use Rattle.asm_promises.proofs.Late.{got, program_read}
+use Rattle.asm_promises.proofs.Operations.{IsSound}
+use Rattle.asm_promises.proofs.Sound.{IsSoundBody, IsSoundStatement, IsSoundFile}
+use Rattle.asm_promises.proofs.CountedFiles.{statement_counted}
+use Rattle.asm_promises.proofs.Fitting.{instructions_fit}
 use Rattle.asm_promises.proofs.Instructions.{code_origins}
 use Rattle.asm_promises.proofs.Runs.{few, total_least}
 use Rattle.asm_promises.proofs.Origins.{begun_length}
@@ -38,7 +48,7 @@ use Rattle.asm_promises.proofs.Placed.{IsLaid}
 use Rattle.asm_promises.proofs.StretchesOfFiles.{files_stretch}
 use Rattle.asm_promises.proofs.Marks.{IsAmong, origin_told, origin_from}
 use Rattle.asm_promises.proofs.Aligned.{AreAligned, linked_aligned}
-use Rattle.asm_promises.proofs.OneStatement.{IsAt, is_at, linked_laid, one_statement}
+use Rattle.asm_promises.proofs.OneStatement.{IsAt, chunk_code, is_at, linked_laid, one_statement}
 
 -- ---- addresses and numbers of instructions
 
@@ -144,6 +154,17 @@ code_told mapped names n o e =
     (in_front (files ++ codes ++ exits ++ data_lines) entries k line
     (in_front (files ++ codes ++ exits) data_lines k line (in_front (files ++ codes) exits k line code)))
 
+-- ---- statements
+
+sound_by : (program : ProgramParts) (file number : ℕ) (s : StatementParts) (o : Option FileParts) → All IsSoundFile program.files → slice_get program.files file ≡ o
+    → slice_get (statements_or_none o) number ≡ Some s → IsSoundStatement s
+sound_by program file number s (Some f) all g e = got IsSoundStatement f.statements number s (got IsSoundFile program.files file f all g).statements e
+sound_by program file number s None all g e = absurd (cc)
+
+statement_sound : (program : ProgramParts) (file number : ℕ) (s : StatementParts) → All IsSoundFile program.files → statement_at program file number ≡ Some s → IsSoundStatement s
+unfolding statement_at
+statement_sound program file number s all e = sound_by program file number s (slice_get program.files file) all refl e
+
 -- ---- images
 
 module _ (texts : List (List ℕ)) (harts : HartsParts) (a : AssembledParts) (few_files : length texts ≤ 16) (e : assembly_meaning texts harts ≡ Ok a) where
@@ -247,3 +268,18 @@ module _ (texts : List (List ℕ)) (harts : HartsParts) (a : AssembledParts) (fe
       → IsToldIn (map_of a names) (length names) n file (origin_of (late_in a) file number s).line
   unfolding map_of mapped_of origin_of
   map_tells names file number n s h = (_, code_told (mapped_of a) names n (origin_of (late_in a) file number s) (told_of file number n s h))
+
+  -- what an instruction stands for is as long as its bytes
+  pub fits : (file number at : ℕ) (s : StatementParts) (operation : Operation) (instrs : List Instr) → statement_at a.program file number ≡ Some s
+      → s.body ≡ bodies.Instruction at (Some operation) → (rank (kind_of (late_in a) file number) == rank Code) ≡ true
+      → instructions_of (late_in a) a.origins file number s operation ≡ Ok instrs → length instrs ≡ count_of (stand_of (late_in a) file number)
+  unfolding early_count stand_in
+  fits file number at s operation instrs there b code made =
+      let read = program_read texts a.program steps.read in
+      let sound : IsSoundBody s.body s.operands = (statement_sound a.program file number s read.files there).body in
+      let is_sound : IsSound operation s.operands = subst (λ (body : Body). IsSoundBody body s.operands) b sound in
+      let in_chunk = chunk_code texts (late_in a) (length a.linked.table.symbols) phases laid aligned file number code in
+      let counted = statement_counted texts a.program file number s phases there at (Some operation) b in_chunk in
+      let bytes = counted.0 in
+      let long = instructions_fit (late_in a) a.origins file number s operation instrs is_sound counted.1 made in
+      omega arith

@@ -27,6 +27,7 @@ pub mod Made
 pub mod Coverage
 pub mod Counts
 pub mod Untouched
+pub mod Counted
 pub mod Placed
 pub mod Stacks
 pub mod Symbols
@@ -43,7 +44,9 @@ pub mod Notes
 pub mod MapTold
 pub mod Stretches
 pub mod StretchesOfFiles
+pub mod CountedFiles
 pub mod Marks
 pub mod Aligned
 pub mod OneStatement
+pub mod Fitting
 pub mod FromStatements

@@ -72,7 +72,7 @@ statement_known sections tokens number s before after e =
       known = λ k less named. still_known y.0 z.0 (s.first + 2 * k) (text_at tokens (s.first + 2 * k)) stand.chunk stand.offset body (knows.known k less named);
     })
 
-abbrev no_statement : StatementParts
+abbrev pub no_statement : StatementParts
 no_statement = record { first = 0; labels = 0; body = bodies.Nothing; operands = []; nodes = []; fault = None }
 
 -- those of all statements so far

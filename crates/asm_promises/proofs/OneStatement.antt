@@ -111,11 +111,11 @@ module _ (texts : List (List ℕ)) (late : LateParts) (entries : ℕ) (phases : 
   unfolding statement_at
   is_there file number s e = there_by file number s (slice_get late.program.files file) refl e
 
-  abbrev IsInCode : ℕ → ℕ → Type 0
+  abbrev pub IsInCode : ℕ → ℕ → Type 0
   IsInCode file number = (rank (kind_of late file number) == rank Code) ≡ true
 
   -- its chunk is one of code
-  chunk_code : (file number : ℕ) → IsInCode file number → IsCode (slice_index_or late.program.made.chunks (stand_here file number).chunk no_chunk)
+  pub chunk_code : (file number : ℕ) → IsInCode file number → IsCode (slice_index_or late.program.made.chunks (stand_here file number).chunk no_chunk)
   unfolding kind_of places.kind_of places_of stand_in
   chunk_code file number code = ap (λ (k : ChunkKind). rank k == rank Code) (sym (kind_same late.program.made.chunks (stand_here file number).chunk)) ∙ code
 

@@ -19,6 +19,7 @@ use Rattle.asm_statements.specs.declared.forms.Form.TheVariants as form
 use Rattle.asm_statements.specs.declared.forms.Wanted.{Wanted}
 use Rattle.asm_statements.specs.declared.forms.Wanted.TheVariants as wanted
 use Rattle.asm_statements.specs.declared.statement.Operand.{Operand}
+use Rattle.asm_statements.specs.declared.statement.Role.{Role}
 use Rattle.asm_statements.specs.declared.statement.Role.TheVariants as roles
 use Rattle.asm_statements.specs.Choosing.{fits, first_fit, first_form, or_else, form_of, meant_form, survey_of, operand_count, ending_of}
 use Rattle.asm_statements.specs.Drafts.{Parts, Step, ◌>>=◌, add, done, with_register, with_nodes, with_operand}
@@ -60,12 +61,13 @@ IsLowOperation (does.Clgc a) = a < 32
 IsLowOperation (does.LoadSymbol op a) = a < 32
 IsLowOperation (does.La a) = a < 32
 
--- the operands of what goes somewhere are targets
+-- the operands of what goes somewhere are targets, and those of `li` are known while a file is read
 abbrev pub AreAimed : Operation → List Operand → Type 0
 AreAimed (does.Branch op a b) operands = All (λ o. o.role ≡ roles.Target) operands
 AreAimed (does.Jump a) operands = All (λ o. o.role ≡ roles.Target) operands
 AreAimed (does.PseudoBranch op a b) operands = All (λ o. o.role ≡ roles.Target) operands
 AreAimed (does.ZeroBranch op a) operands = All (λ o. o.role ≡ roles.Target) operands
+AreAimed (does.Li a) operands = All (λ o. o.role ≡ roles.Early) operands
 AreAimed _ operands = Unit {0}
 
 pub record IsSound (operation : Operation) (operands : List Operand) : Type 0 where
@@ -76,6 +78,7 @@ abbrev pub AreAimedBy : Mnemonic → List Operand → Type 0
 AreAimedBy (mnemonics.Branch op) operands = All (λ o. o.role ≡ roles.Target) operands
 AreAimedBy (mnemonics.PseudoBranch op) operands = All (λ o. o.role ≡ roles.Target) operands
 AreAimedBy (mnemonics.ZeroBranch op) operands = All (λ o. o.role ≡ roles.Target) operands
+AreAimedBy mnemonics.Li operands = All (λ o. o.role ≡ roles.Early) operands
 AreAimedBy mnemonics.Jump operands = All (λ o. o.role ≡ roles.Target) operands
 AreAimedBy mnemonics.JumpAndLink operands = All (λ o. o.role ≡ roles.Target) operands
 AreAimedBy _ operands = Unit {0}
@@ -150,7 +153,7 @@ module _ (rs : Registers) (h : AreLow rs) (os : List Operand) where
   operation_sound mnemonics.Fence a = record { low = tt; aimed = tt }
   operation_sound (mnemonics.PseudoTwo op) a = record { low = two; aimed = tt }
   operation_sound (mnemonics.PseudoThree op) a = record { low = three; aimed = tt }
-  operation_sound mnemonics.Li a = record { low = h.first; aimed = tt }
+  operation_sound mnemonics.Li a = record { low = h.first; aimed = a }
   operation_sound (mnemonics.Inspect op) a = record { low = two; aimed = tt }
   operation_sound (mnemonics.Modify op) a = record { low = two; aimed = tt }
   operation_sound (mnemonics.Round op) a = record { low = two; aimed = tt }
@@ -171,63 +174,69 @@ module _ (rs : Registers) (h : AreLow rs) (os : List Operand) where
   operation_sound mnemonics.Clgc a = record { low = h.first; aimed = tt }
   operation_sound mnemonics.La a = record { low = h.first; aimed = tt }
 
--- ---- forms whose only expression is a target
+-- ---- forms whose only expression has a role
 
-abbrev IsAimedWanted : Wanted → Type 0
-IsAimedWanted wanted.Integer = Unit {0}
-IsAimedWanted wanted.Capability = Unit {0}
-IsAimedWanted wanted.Target = Unit {0}
-IsAimedWanted _ = ⊥
+module _ (role : Role) where
+  abbrev IsAimedWanted : Wanted → Type 0
+  IsAimedWanted wanted.Integer = Unit {0}
+  IsAimedWanted wanted.Capability = Unit {0}
+  IsAimedWanted wanted.Target = roles.Target ≡ role
+  IsAimedWanted wanted.Constant = roles.Early ≡ role
+  IsAimedWanted _ = ⊥
 
-abbrev IsAimedOf : Form → Type 0
-IsAimedOf form.None = Unit {0}
-IsAimedOf (form.One a) = IsAimedWanted a
-IsAimedOf (form.Two a b) = IsAimedWanted a × IsAimedWanted b
-IsAimedOf (form.Three a b c) = IsAimedWanted a × IsAimedWanted b × IsAimedWanted c
+  abbrev IsAimedOf : Form → Type 0
+  IsAimedOf form.None = Unit {0}
+  IsAimedOf (form.One a) = IsAimedWanted a
+  IsAimedOf (form.Two a b) = IsAimedWanted a × IsAimedWanted b
+  IsAimedOf (form.Three a b c) = IsAimedWanted a × IsAimedWanted b × IsAimedWanted c
 
-record IsAimedForm (f : Form) : Type 0 where
-  is : IsAimedOf f
+  record IsAimedForm (f : Form) : Type 0 where
+    is : IsAimedOf f
 
-abbrev AreAimedForms : List Form → Type 0
-AreAimedForms [] = Unit {0}
-AreAimedForms (f ∷ forms) = IsAimedForm f × AreAimedForms forms
+  abbrev AreAimedForms : List Form → Type 0
+  AreAimedForms [] = Unit {0}
+  AreAimedForms (f ∷ forms) = IsAimedForm f × AreAimedForms forms
 
-record IsAimedIf (o : Option Form) : Type 0 where
-  then : (f : Form) → o ≡ Some f → IsAimedForm f
+  record IsAimedIf (o : Option Form) : Type 0 where
+    then : (f : Form) → o ≡ Some f → IsAimedForm f
 
-fit_by : (test : Bool) (f : Form) (o : Option Form) → IsAimedForm f → IsAimedIf o → IsAimedIf (cond test (Some f) o)
-fit_by true f o h k = record { then = λ g e. (let is : f ≡ g = cc in subst IsAimedForm is h) }
-fit_by false f o h k = k
+  fit_by : (test : Bool) (f : Form) (o : Option Form) → IsAimedForm f → IsAimedIf o → IsAimedIf (cond test (Some f) o)
+  fit_by true f o h k = record { then = λ g e. (let is : f ≡ g = cc in subst IsAimedForm is h) }
+  fit_by false f o h k = k
 
-fit_aimed : (count : ℕ) (ending : Option Ending) (forms : List Form) → AreAimedForms forms → IsAimedIf (first_fit count ending forms)
-unfolding first_fit
-fit_aimed count ending [] h = record { then = λ g e. absurd (cc) }
-fit_aimed count ending (f ∷ forms) h = fit_by (fits count ending f) f (first_fit count ending forms) h.0 (fit_aimed count ending forms h.1)
+  fit_aimed : (count : ℕ) (ending : Option Ending) (forms : List Form) → AreAimedForms forms → IsAimedIf (first_fit count ending forms)
+  unfolding first_fit
+  fit_aimed count ending [] h = record { then = λ g e. absurd (cc) }
+  fit_aimed count ending (f ∷ forms) h = fit_by (fits count ending f) f (first_fit count ending forms) h.0 (fit_aimed count ending forms h.1)
 
-or_aimed : (o : Option Form) (f : Form) → IsAimedIf o → IsAimedForm f → IsAimedForm (or_else o f)
-or_aimed (Some g) f h k = h.then g refl
-or_aimed None f h k = k
+  or_aimed : (o : Option Form) (f : Form) → IsAimedIf o → IsAimedForm f → IsAimedForm (or_else o f)
+  or_aimed (Some g) f h k = h.then g refl
+  or_aimed None f h k = k
 
-first_aimed : (forms : List Form) → AreAimedForms forms → IsAimedForm (first_form forms)
-first_aimed [] h = record { is = tt }
-first_aimed (f ∷ forms) h = h.0
+  first_aimed : (forms : List Form) → AreAimedForms forms → IsAimedForm (first_form forms)
+  first_aimed [] h = record { is = tt }
+  first_aimed (f ∷ forms) h = h.0
 
-meant_aimed : (tokens : List TokenParts) (forms : List Form) (at : ℕ) → AreAimedForms forms → IsAimedForm (meant_form tokens forms at)
-unfolding meant_form form_of
-meant_aimed tokens forms at h =
-    let s = survey_of tokens at in
-    let count = operand_count at s in
-    or_aimed (first_fit count (Some (ending_of tokens s)) forms) (or_else (first_fit count None forms) (first_form forms)) (fit_aimed count (Some (ending_of tokens s)) forms h)
-    (or_aimed (first_fit count None forms) (first_form forms) (fit_aimed count None forms h) (first_aimed forms h))
+  meant_aimed : (tokens : List TokenParts) (forms : List Form) (at : ℕ) → AreAimedForms forms → IsAimedForm (meant_form tokens forms at)
+  unfolding meant_form form_of
+  meant_aimed tokens forms at h =
+      let s = survey_of tokens at in
+      let count = operand_count at s in
+      or_aimed (first_fit count (Some (ending_of tokens s)) forms) (or_else (first_fit count None forms) (first_form forms)) (fit_aimed count (Some (ending_of tokens s)) forms h)
+      (or_aimed (first_fit count None forms) (first_form forms) (fit_aimed count None forms h) (first_aimed forms h))
 
 -- ---- operands of such forms
 
-pub record IsAimed (p : Parts) : Type 0 where
-  pub all : All (λ o. o.role ≡ roles.Target) p.operands
+pub record IsAimed (role : Role) (p : Parts) : Type 0 where
+  pub all : All (λ o. o.role ≡ role) p.operands
 
-module _ (tokens : List TokenParts) where
+-- whatever the role is
+abbrev pub AreNone : Parts → Type 0
+AreNone p = (role : Role) → IsAimed role p
+
+module _ (tokens : List TokenParts) (role : Role) where
   abbrev A : {X : Type 0} → Step X → Type 0
-  A step = Keeps IsAimed step
+  A step = Keeps (IsAimed role) step
 
   nodes_aimed : (r : Result (List Node × ℕ) AsmFault) → A (add_nodes r)
   unfolding with_nodes
@@ -238,61 +247,64 @@ module _ (tokens : List TokenParts) where
   unfolding expression
   expression_aimed at = nodes_aimed (expression_at tokens at)
 
-  added_aimed : (at : ℕ) → A (add (with_operand roles.Target None at))
+  added_aimed : (one : Role) (at : ℕ) → one ≡ role → A (add (with_operand one None at))
   unfolding with_operand
-  added_aimed at =
-      add_kept IsAimed (with_operand roles.Target None at)
-      (λ p h. record { all = All-push (λ o. o.role ≡ roles.Target) p.operands (record { role = roles.Target; relocation = None; first = at; end = length p.nodes }) h.all refl })
+  added_aimed one at is =
+      add_kept (IsAimed role) (with_operand one None at)
+      (λ p h. record { all = All-push (λ o. o.role ≡ role) p.operands (record { role = one; relocation = None; first = at; end = length p.nodes }) h.all is })
 
-  target_aimed : (at : ℕ) → A (operand tokens roles.Target at)
+  operand_aimed : (one : Role) (at : ℕ) → one ≡ role → A (operand tokens one at)
   unfolding operand
-  target_aimed at =
-      then_kept IsAimed (expression tokens at) (λ next. add (with_operand roles.Target None at) >>= λ u. done next) (expression_aimed at)
-      (λ next. then_kept IsAimed (add (with_operand roles.Target None at)) (λ u. done next) (added_aimed at) (λ u. done_kept IsAimed next))
+  operand_aimed one at is =
+      then_kept (IsAimed role) (expression tokens at) (λ next. add (with_operand one None at) >>= λ u. done next) (expression_aimed at)
+      (λ next. then_kept (IsAimed role) (add (with_operand one None at)) (λ u. done next) (added_aimed one at is) (λ u. done_kept (IsAimed role) next))
 
   register_aimed : (kind : RegisterKind) (at : ℕ) → A (plain_register tokens kind at)
   unfolding plain_register with_register
   register_aimed kind at =
-      look_kept IsAimed (register_at tokens kind at) (λ register. add (with_register register) >>= λ u. done (at + 1))
-      (λ register e. then_kept IsAimed (add (with_register register)) (λ u. done (at + 1)) (add_kept IsAimed (with_register register) (λ p h. record { all = h.all }))
-      (λ u. done_kept IsAimed (at + 1)))
+      look_kept (IsAimed role) (register_at tokens kind at) (λ register. add (with_register register) >>= λ u. done (at + 1))
+      (λ register e. then_kept (IsAimed role) (add (with_register register)) (λ u. done (at + 1)) (add_kept (IsAimed role) (with_register register) (λ p h. record { all = h.all }))
+      (λ u. done_kept (IsAimed role) (at + 1)))
 
-  wanted_aimed : (which : Wanted) (at : ℕ) → IsAimedWanted which → A (wanted_operand tokens which at)
+  wanted_aimed : (which : Wanted) (at : ℕ) → IsAimedWanted role which → A (wanted_operand tokens which at)
   unfolding wanted_operand
   wanted_aimed wanted.Integer at h = register_aimed Integer at
   wanted_aimed wanted.Capability at h = register_aimed Capability at
-  wanted_aimed wanted.Target at h = target_aimed at
+  wanted_aimed wanted.Target at h = operand_aimed roles.Target at h
+  wanted_aimed wanted.Constant at h = operand_aimed roles.Early at h
   wanted_aimed _ at h = absurd h
 
-  next_aimed : (which : Wanted) (at : ℕ) → IsAimedWanted which → A (next_wanted tokens which at)
+  next_aimed : (which : Wanted) (at : ℕ) → IsAimedWanted role which → A (next_wanted tokens which at)
   unfolding next_wanted
-  next_aimed which at h = look_kept IsAimed (comma_at tokens at) (λ next. wanted_operand tokens which next) (λ next e. wanted_aimed which next h)
+  next_aimed which at h = look_kept (IsAimed role) (comma_at tokens at) (λ next. wanted_operand tokens which next) (λ next e. wanted_aimed which next h)
 
-  operands_aimed : (f : Form) (at : ℕ) → IsAimedForm f → A (operands tokens f at)
+  operands_aimed : (f : Form) (at : ℕ) → IsAimedForm role f → A (operands tokens f at)
   unfolding operands
-  operands_aimed form.None at h = done_kept IsAimed at
+  operands_aimed form.None at h = done_kept (IsAimed role) at
   operands_aimed (form.One a) at h = wanted_aimed a at h.is
   operands_aimed (form.Two a b) at h =
-      then_kept IsAimed (wanted_operand tokens a at) (λ next. next_wanted tokens b next) (wanted_aimed a at h.is.0) (λ next. next_aimed b next h.is.1)
+      then_kept (IsAimed role) (wanted_operand tokens a at) (λ next. next_wanted tokens b next) (wanted_aimed a at h.is.0) (λ next. next_aimed b next h.is.1)
   operands_aimed (form.Three a b c) at h =
-      then_kept IsAimed (wanted_operand tokens a at) (λ next. next_wanted tokens b next >>= λ after. next_wanted tokens c after) (wanted_aimed a at h.is.0)
-      (λ next. then_kept IsAimed (next_wanted tokens b next) (λ after. next_wanted tokens c after) (next_aimed b next h.is.1) (λ after. next_aimed c after h.is.2))
+      then_kept (IsAimed role) (wanted_operand tokens a at) (λ next. next_wanted tokens b next >>= λ after. next_wanted tokens c after) (wanted_aimed a at h.is.0)
+      (λ next. then_kept (IsAimed role) (next_wanted tokens b next) (λ after. next_wanted tokens c after) (next_aimed b next h.is.1) (λ after. next_aimed c after h.is.2))
 
-  -- what is read after the name has targets, where the name is of what goes somewhere
+module _ (tokens : List TokenParts) where
+  -- what is read after the name has that role, where the name's forms have it
   abbrev pub read_of : Mnemonic → ℕ → Step ℕ
   read_of m at = operands tokens (meant_form tokens (forms_of m) at) at
 
-  aimed_by : (forms : List Form) (at : ℕ) (p : Parts) → AreAimedForms forms → IsAimed p → All (λ o. o.role ≡ roles.Target) (operands tokens (meant_form tokens forms at) at p).0.operands
-  aimed_by forms at p h k = ((operands_aimed (meant_form tokens forms at) at (meant_aimed tokens forms at h)).keep p k).all
+  aimed_by : (role : Role) (forms : List Form) (at : ℕ) (p : Parts) → AreAimedForms role forms → IsAimed role p → All (λ o. o.role ≡ role) (operands tokens (meant_form tokens forms at) at p).0.operands
+  aimed_by role forms at p h k = ((operands_aimed tokens role (meant_form tokens forms at) at (meant_aimed role tokens forms at h)).keep p k).all
 
-  pub name_aimed : (m : Mnemonic) (at : ℕ) (p : Parts) → IsAimed p → AreAimedBy m (read_of m at p).0.operands
+  pub name_aimed : (m : Mnemonic) (at : ℕ) (p : Parts) → AreNone p → AreAimedBy m (read_of m at p).0.operands
   unfolding forms_of
   name_aimed (mnemonics.Branch op) at p h =
-      aimed_by (form.Three wanted.Integer wanted.Integer wanted.Target ∷ []) at p (record { is = (tt, tt, tt) }, tt) h
+      aimed_by roles.Target (form.Three wanted.Integer wanted.Integer wanted.Target ∷ []) at p (record { is = (tt, tt, refl) }, tt) (h roles.Target)
   name_aimed (mnemonics.PseudoBranch op) at p h =
-      aimed_by (form.Three wanted.Integer wanted.Integer wanted.Target ∷ []) at p (record { is = (tt, tt, tt) }, tt) h
-  name_aimed (mnemonics.ZeroBranch op) at p h = aimed_by (form.Two wanted.Integer wanted.Target ∷ []) at p (record { is = (tt, tt) }, tt) h
-  name_aimed mnemonics.Jump at p h = aimed_by (form.One wanted.Target ∷ []) at p (record { is = tt }, tt) h
+      aimed_by roles.Target (form.Three wanted.Integer wanted.Integer wanted.Target ∷ []) at p (record { is = (tt, tt, refl) }, tt) (h roles.Target)
+  name_aimed (mnemonics.ZeroBranch op) at p h = aimed_by roles.Target (form.Two wanted.Integer wanted.Target ∷ []) at p (record { is = (tt, refl) }, tt) (h roles.Target)
+  name_aimed mnemonics.Jump at p h = aimed_by roles.Target (form.One wanted.Target ∷ []) at p (record { is = refl }, tt) (h roles.Target)
   name_aimed mnemonics.JumpAndLink at p h =
-      aimed_by (form.Two wanted.Capability wanted.Target ∷ form.One wanted.Target ∷ []) at p (record { is = (tt, tt) }, (record { is = tt }, tt)) h
+      aimed_by roles.Target (form.Two wanted.Capability wanted.Target ∷ form.One wanted.Target ∷ []) at p (record { is = (tt, refl) }, (record { is = refl }, tt)) (h roles.Target)
+  name_aimed mnemonics.Li at p h = aimed_by roles.Early (form.Two wanted.Integer wanted.Constant ∷ []) at p (record { is = (tt, refl) }, tt) (h roles.Early)
   name_aimed _ at p h = tt

@@ -16,7 +16,6 @@ use Rattle.asm_statements.specs.declared.forms.Wanted.{Wanted}
 use Rattle.asm_statements.specs.declared.statement.Body.{Body}
 use Rattle.asm_statements.specs.declared.statement.Body.TheVariants as bodies
 use Rattle.asm_statements.specs.declared.statement.Operand.{Operand}
-use Rattle.asm_statements.specs.declared.statement.Role.TheVariants as roles
 use Rattle.asm_statements.specs.Choosing.{meant_form}
 use Rattle.asm_statements.specs.Directives.{set_value, new_name_at, directive}
 use Rattle.asm_statements.specs.Drafts.{Parts, next_step, ◌>>=◌, add, done, look, with_body, empty_parts}
@@ -34,7 +33,7 @@ use Rattle.asm_promises.proofs.Nodes.{IsLowNode}
 use Rattle.asm_promises.proofs.Parts.{HasNone, IsPart, Keeps, then_kept, look_kept, done_kept, add_kept, body_part}
 use Rattle.asm_promises.proofs.Statements.{wanted_kept, directive_kept, new_named, assigned_kept}
 use Rattle.asm_promises.proofs.Memory.{each_kept}
-use Rattle.asm_promises.proofs.Operations.{IsSound, AreAimedBy, operation_sound, IsAimed, name_aimed}
+use Rattle.asm_promises.proofs.Operations.{IsSound, AreAimedBy, operation_sound, AreNone, name_aimed}
 
 -- ---- statements
 
@@ -96,12 +95,12 @@ module _ (tokens : List TokenParts) (low : All IsLowToken tokens) where
   read_by (Ok next) m at p h a = ended_by (end_at tokens next) m at p h a
   read_by (Err fault) m at p h a = part_sound tokens p h
 
-  known_sound : (m : Mnemonic) (at : ℕ) (p : Parts) → (IsPart tokens) p → IsAimed p → IsSoundPart tokens (known tokens m at p).0
+  known_sound : (m : Mnemonic) (at : ℕ) (p : Parts) → (IsPart tokens) p → AreNone p → IsSoundPart tokens (known tokens m at p).0
   unfolding known with_body
   known_sound m at p h a =
       let q : Parts = with_body (bodies.Instruction at None) p in
       let start : (IsPart tokens) q = body_part tokens (bodies.Instruction at None) tt p h in
-      let aimed : IsAimed q = record { all = a.all } in
+      let aimed : AreNone q = λ role. record { all = (a role).all } in
       let step = operands tokens (meant_form tokens (forms_of m) (at + 1)) (at + 1) in
       read_by (step q).1 m at (step q).0 ((operands_kept (meant_form tokens (forms_of m) (at + 1)) (at + 1)).keep q start) (name_aimed tokens m (at + 1) q aimed)
 
@@ -109,12 +108,12 @@ module _ (tokens : List TokenParts) (low : All IsLowToken tokens) where
   unknown_kept true at = add_kept (IsPart tokens) (with_body (bodies.OutsideInstruction at)) (λ p h. body_part tokens (bodies.OutsideInstruction at) tt p h)
   unknown_kept false at = add_kept (IsPart tokens) (with_body (bodies.UnknownInstruction at)) (λ p h. body_part tokens (bodies.UnknownInstruction at) tt p h)
 
-  mnemonic_sound : (o : Option Mnemonic) (name : List ℕ) (at : ℕ) (p : Parts) → (IsPart tokens) p → IsAimed p → IsSoundPart tokens (by_mnemonic o tokens name at p).0
+  mnemonic_sound : (o : Option Mnemonic) (name : List ℕ) (at : ℕ) (p : Parts) → (IsPart tokens) p → AreNone p → IsSoundPart tokens (by_mnemonic o tokens name at p).0
   unfolding unknown
   mnemonic_sound (Some m) name at p h a = known_sound m at p h a
   mnemonic_sound None name at p h a = part_sound tokens _ ((unknown_kept (is_outside name) at).keep p h)
 
-  instruction_sound : (at : ℕ) (p : Parts) → (IsPart tokens) p → IsAimed p → IsSoundPart tokens (instruction tokens at p).0
+  instruction_sound : (at : ℕ) (p : Parts) → (IsPart tokens) p → AreNone p → IsSoundPart tokens (instruction tokens at p).0
   unfolding instruction named
   instruction_sound at p h a =
       let name = map to_ascii_lowercase (text_at tokens at) in mnemonic_sound (mnemonic_of name) name at p h a
@@ -127,32 +126,32 @@ module _ (tokens : List TokenParts) (low : All IsLowToken tokens) where
       (λ equals e. assigned_kept tokens low at equals (new_named tokens low at equals e)) in
       part_sound tokens _ (kept.keep p h)
 
-  named_by : (equals alone point : Bool) (at : ℕ) (p : Parts) (fault : AsmFault) → (IsPart tokens) p → IsAimed p
+  named_by : (equals alone point : Bool) (at : ℕ) (p : Parts) (fault : AsmFault) → (IsPart tokens) p → AreNone p
       → IsSoundPart tokens (cond equals (assigned tokens at) (cond alone (look (Err fault)) (cond point (directive tokens at) (instruction tokens at))) p).0
   named_by true alone point at p fault h a = assigned_sound at p h
   named_by false true point at p fault h a = part_sound tokens p h
   named_by false false true at p fault h a = part_sound tokens _ ((directive_kept tokens low at).keep p h)
   named_by false false false at p fault h a = instruction_sound at p h a
 
-  named_sound : (at : ℕ) (p : Parts) → (IsPart tokens) p → IsAimed p → IsSoundPart tokens (named_body tokens at p).0
+  named_sound : (at : ℕ) (p : Parts) → (IsPart tokens) p → AreNone p → IsSoundPart tokens (named_body tokens at p).0
   unfolding named_body
   named_sound at p h a = named_by (is_equals tokens (at + 1)) _ (begins_with_point (text_at tokens at)) at p _ h a
 
-  body_by : (nothing name : Bool) (at : ℕ) (p : Parts) (fault : AsmFault) → (IsPart tokens) p → IsAimed p
+  body_by : (nothing name : Bool) (at : ℕ) (p : Parts) (fault : AsmFault) → (IsPart tokens) p → AreNone p
       → IsSoundPart tokens (cond nothing (done tt) (cond name (named_body tokens at) (look (Err fault))) p).0
   body_by true name at p fault h a = part_sound tokens p h
   body_by false true at p fault h a = named_sound at p h a
   body_by false false at p fault h a = part_sound tokens p h
 
-  body_sound : (at : ℕ) (p : Parts) → (IsPart tokens) p → IsAimed p → IsSoundPart tokens (body tokens at p).0
+  body_sound : (at : ℕ) (p : Parts) → (IsPart tokens) p → AreNone p → IsSoundPart tokens (body tokens at p).0
   unfolding body
   body_sound at p h a = body_by (is_nothing tokens at) (is_name tokens at) at p _ h a
 
 empty_part : (tokens : List TokenParts) → IsPart tokens empty_parts
 empty_part tokens = record { registers = record { first = lit< tt; second = lit< tt; third = lit< tt }; none = tt; nodes = All-nil IsLowNode }
 
-empty_aimed : IsAimed empty_parts
-empty_aimed = record { all = All-nil (λ o. o.role ≡ roles.Target) }
+empty_aimed : AreNone empty_parts
+empty_aimed role = record { all = All-nil (λ o. o.role ≡ role) }
 
 pub record IsSoundStatement (s : StatementParts) : Type 0 where
   pub body : IsSoundBody s.body s.operands

@@ -1,5 +1,5 @@
 -- Where the statements of a file stand: in chunks of its own, each behind those before it there.
-use Rattle.std.proofs.Common.{◌≡◌, ℕ, zero, suc, ◌+◌, ◌%◌, ◌<◌, ◌≤◌, ◌==◌, inl, inr, Bool, true, false, cond, List, [], ◌∷◌, ◌++◌, length, slice_get, slice_index_or, slice_set, Option, Some, None, Ok, Err, All, refl, sym, ap, ◌∙◌, subst, lit≤, arith}
+use Rattle.std.proofs.Common.{◌≡◌, ℕ, zero, suc, ◌+◌, ◌*◌, ◌%◌, ◌<◌, ◌≤◌, ◌==◌, inl, inr, Bool, true, false, cond, List, [], ◌∷◌, ◌++◌, length, slice_get, slice_index_or, slice_set, Option, Some, None, Ok, Err, All, refl, sym, ap, ◌∙◌, subst, lit≤, arith}
 use Rattle.std.proofs.Math.ListN.{length-set}
 use Rattle.std.proofs.lemmas.Bool.{cases_lt}
 use Rattle.std.proofs.lemmas.List.{length-append, get_or_past}
@@ -17,19 +17,23 @@ use Rattle.asm_chunks.specs.declared.fault.ChunkFault.TheVariants as chunk_fault
 use Rattle.asm_chunks.specs.Chunks.{ChunksParts, no_chunk, here_of, with_here, with_chunk, with_common}
 use Rattle.asm_chunks.specs.Growth.{with_size, grown, with_align, raised, padding_of, padded}
 use Rattle.asm_chunks.specs.Sections.{opening_chunk, own_chunk, kind_of, kind_in, added, gone_to, entered_by, entered}
+use Rattle.asm_expansions.specs.declared.operation.Operation.{Operation}
 use Rattle.asm_statements.specs.declared.statement.Body.{Body}
+use Rattle.asm_statements.specs.declared.statement.Body.TheVariants as bodies
 use Rattle.asm_statements.specs.Statements.{StatementParts}
 use Rattle.asm_drafts.specs.declared.sections.Entry.{Entry}
 use Rattle.asm_drafts.specs.Drafts.{DraftParts, is_here}
 use Rattle.asm_drafts.specs.Kept.{kept_number}
 use Rattle.asm_drafts.specs.Labels.{labels_put}
-use Rattle.asm_drafts.specs.Statements.{body_put}
+use Rattle.asm_drafts.specs.Code.{count_of}
+use Rattle.asm_drafts.specs.Statements.{body_of, body_put}
 use Rattle.asm_files.specs.declared.stand.Stand.{Stand}
 use Rattle.asm_files.specs.Sections.{SectionsParts, entry_of}
 use Rattle.asm_files.specs.Stands.{size_or_none, opening_of, closing_of, statement_stood}
 use Rattle.asm_files.specs.Files.{ReadingParts, with_stand, statement_step}
 use Rattle.asm_listable.proofs.Starts.{then_ok}
 use Rattle.asm_promises.proofs.Units.{IsUnit, padding_whole, most_four}
+use Rattle.asm_promises.proofs.Counted.{kept_none, instruction_sized}
 use Rattle.asm_promises.proofs.Here.{here_kind}
 use Rattle.asm_promises.proofs.Walk.{LabelsKeep, BodyKeeps, labels_keep, body_keeps}
 use Rattle.asm_promises.proofs.Coverage.{KeepsKinds, set_kinds, push_kinds, then_kinds}
@@ -224,18 +228,25 @@ size_found (chunk ∷ chunks) (suc number) = size_found chunks number
 pub labels_same : (tokens : List TokenParts) (chunks : ChunksParts) → LabelsKeep tokens (λ at. Unit {0}) (λ d. chunks ≡ d.chunks)
 labels_same tokens chunks = record { local = λ parts at l h. h; name = λ parts at l n free h. h }
 
+-- an instruction of code takes the bytes of the instructions that it stands for, with the number that is kept of it
+abbrev pub IsCounted : List Chunk → StatementParts → Stand → Type 0
+IsCounted chunks s stand =
+    (at : ℕ) (operation : Option Operation) → s.body ≡ bodies.Instruction at operation → IsCode (slice_index_or chunks stand.chunk no_chunk)
+    → (stand.end ≡ stand.offset + 4 * count_of operation stand.value) × (slice_get s.operands 0 ≡ None → stand.value ≡ 0)
+
 -- a statement stands where its chunk ended before it, up to where that ends after it
-pub record StandsHere (start : ℕ) (before after : ReadingParts) : Type 0 where
+pub record StandsHere (start : ℕ) (s : StatementParts) (before after : ReadingParts) : Type 0 where
   pub stand : Stand
   pub stands : before.stands ++ stand ∷ [] ≡ after.stands
   pub chunk : stand.chunk ≡ before.draft.chunks.here
   pub offset : stand.offset ≡ size_at before.draft.chunks.chunks stand.chunk
   pub end : stand.end ≡ size_at after.draft.chunks.chunks stand.chunk
   pub goes : GoesOn start before.draft.chunks.chunks after.draft.chunks
+  pub counted : IsCounted after.draft.chunks.chunks s stand
 
 pub stands_here : (sections : SectionsParts) (tokens : List TokenParts) (start : ℕ) (first : List Chunk) (number : ℕ) (s : StatementParts) (before after : ReadingParts)
-    → GoesOn start first before.draft.chunks → statement_step sections tokens number s before ≡ Ok after → StandsHere start before after
-unfolding statement_step statement_stood opening_of closing_of
+    → GoesOn start first before.draft.chunks → statement_step sections tokens number s before ≡ Ok after → StandsHere start s before after
+unfolding statement_step statement_stood opening_of closing_of body_put
 stands_here sections tokens start first number s before after h e =
     let entry : Entry = entry_of sections tokens s in
     let x = then_ok (statement_stood tokens before.draft number s entry) (λ next. Ok (with_stand before next)) after e in
@@ -253,5 +264,22 @@ stands_here sections tokens start first number s before after h e =
     body_keeps tokens s entry (Goes start before.draft.chunks.chunks) (Goes start before.draft.chunks.chunks) (body_goes start before.draft.chunks.chunks tokens s.body entry) y.0 z.0 labelled number z.1 in
     let chunk : y.0.chunks.here ≡ before.draft.chunks.here = ap (λ (c : ChunksParts). c.here) (sym same) in
     let offset : (here_of y.0.chunks).size ≡ size_at before.draft.chunks.chunks y.0.chunks.here = ap (λ (c : ChunksParts). size_at c.chunks y.0.chunks.here) (sym same) in
-    subst (StandsHere start before) is
-    (record { stand = stand; stands = refl; chunk = chunk; offset = offset; end = size_found z.0.chunks.chunks y.0.chunks.here; goes = goes })
+    let end : size_or_none (slice_get z.0.chunks.chunks y.0.chunks.here) ≡ size_at z.0.chunks.chunks y.0.chunks.here = size_found z.0.chunks.chunks y.0.chunks.here in
+    let before_less : y.0.chunks.here < length before.draft.chunks.chunks = (let less = h.here.1 in omega arith) in
+    let kind : (here_of y.0.chunks).kind ≡ (slice_index_or z.0.chunks.chunks y.0.chunks.here no_chunk).kind =
+    ap (λ (c : ChunksParts). (slice_index_or c.chunks y.0.chunks.here no_chunk).kind) (sym same) ∙ sym (goes.kinds.kinds y.0.chunks.here before_less) in
+    subst (StandsHere start s before) is
+    (record {
+      stand = stand;
+      stands = refl;
+      chunk = chunk;
+      offset = offset;
+      end = end;
+      goes = goes;
+      counted = λ at operation b code. (
+        end
+            ∙ instruction_sized tokens y.0 z.0 s at operation b (ap (λ (k : ChunkKind). rank k == rank Code) kind ∙ code) labelled.here.1
+            (ap (λ (body : Body). body_of tokens y.0 number s entry body) (sym b) ∙ z.1),
+        λ g. kept_none tokens y.0 s at operation b g,
+      );
+    })

@@ -65,7 +65,7 @@ AreOrdered stands = (j k : ℕ) → j < k → k < length stands → IsBefore (st
 before_same : (a b c d : Stand) → a ≡ c → b ≡ d → IsBefore a b → IsBefore c d
 before_same a b c d p q h = subst (λ (x : Stand). IsBefore x d) p (subst (λ (x : Stand). IsBefore a x) q h)
 
-code_before : (before after : List Chunk) (number : ℕ) → KeepsKinds before after → number < length before → IsCode (slice_index_or after number no_chunk)
+pub code_before : (before after : List Chunk) (number : ℕ) → KeepsKinds before after → number < length before → IsCode (slice_index_or after number no_chunk)
     → IsCode (slice_index_or before number no_chunk)
 code_before before after number keeps less code = ap (λ (k : ChunkKind). rank k == rank kinds.Code) (sym (keeps.kinds number less)) ∙ code
 
@@ -81,12 +81,12 @@ lies_later start before after stand keeps grows h =
     }
 
 -- the statements of a file so far
-record Stretches (first : List Chunk) (reading : ReadingParts) : Type 0 where
-  goes : GoesOn (length first) first reading.draft.chunks
-  lie : AllLie (length first) reading.draft.chunks.chunks reading.stands
-  ordered : AreOrdered reading.stands
+pub record Stretches (first : List Chunk) (reading : ReadingParts) : Type 0 where
+  pub goes : GoesOn (length first) first reading.draft.chunks
+  pub lie : AllLie (length first) reading.draft.chunks.chunks reading.stands
+  pub ordered : AreOrdered reading.stands
 
-step_stretches : (sections : SectionsParts) (tokens : List TokenParts) (first : List Chunk) (number : ℕ) (s : StatementParts) (before after : ReadingParts)
+pub step_stretches : (sections : SectionsParts) (tokens : List TokenParts) (first : List Chunk) (number : ℕ) (s : StatementParts) (before after : ReadingParts)
     → Stretches first before → statement_step sections tokens number s before ≡ Ok after → Stretches first after
 step_stretches sections tokens first number s before after h e =
     let x = stands_here sections tokens (length first) first number s before after h.goes e in
@@ -133,7 +133,7 @@ step_stretches sections tokens first number s before after h e =
       ];
     }
 
-begun_goes : (count : ℕ) (chunks : List Chunk) → All IsWholeChunk chunks
+pub begun_goes : (count : ℕ) (chunks : List Chunk) → All IsWholeChunk chunks
     → GoesOn (length chunks) chunks (record { chunks = chunks ++ opening_chunk kinds.Code ∷ []; own = slice_set (replicate count None) 0 (Some (length chunks)); here = length chunks; before = length chunks })
 begun_goes count chunks whole =
     let fresh : List (Option ℕ) = replicate count None in
@@ -187,7 +187,7 @@ file_stretches sections number file made after whole e =
     (of_file_ok number (each_from (statement_step sections file.tokens) 0 file.statements first) x.0 x.1) in
     (x.0, (let k = x.2 in cc), all)
 
-step_files : (sections : SectionsParts) (number : ℕ) (file : FileParts) (made after : MadeParts) → FilesStretch made → file_put sections number file made ≡ Ok after → FilesStretch after
+pub step_files : (sections : SectionsParts) (number : ℕ) (file : FileParts) (made after : MadeParts) → FilesStretch made → file_put sections number file made ≡ Ok after → FilesStretch after
 unfolding file_ended
 step_files sections number file made after h e =
     let x = file_stretches sections number file made after h.whole e in
@@ -217,8 +217,11 @@ step_files sections number file made after h e =
       ];
     })
 
+pub none_stretch : FilesStretch no_made
+none_stretch = record { whole = All-nil IsWholeChunk; lie = λ k less. absurd (omega arith); ordered = λ k less. absurd (omega arith); apart = λ one other less few. absurd (omega arith) }
+
 pub files_stretch : (sections : SectionsParts) (files : List FileParts) (made : MadeParts) → made_of sections files ≡ Ok made → FilesStretch made
 unfolding made_of
 files_stretch sections files made e =
     each_kept FilesStretch (file_put sections) (λ n f p q k g. step_files sections n f p q k g) 0 files no_made made
-    (record { whole = All-nil IsWholeChunk; lie = λ k less. absurd (omega arith); ordered = λ k less. absurd (omega arith); apart = λ one other less few. absurd (omega arith) }) e
+    none_stretch e

@@ -11,7 +11,7 @@ use Rattle.asm_layout.specs.Layout.{memory_placed}
 use Rattle.asm_chunks.specs.Chunks.{no_chunk}
 use Rattle.asm_promises.proofs.Sizes.{set_or}
 
-two_ranks : (r k : ℕ) → (r == k) ≡ true → (r == 0) ≡ true → 0 < k → ⊥
+pub two_ranks : (r k : ℕ) → (r == k) ≡ true → (r == 0) ≡ true → 0 < k → ⊥
 two_ranks r k other code some =
     let is : r ≡ k = grind (arith, nat_tests) in
     let none : r ≡ 0 = grind (arith, nat_tests) in

@@ -49,6 +49,10 @@ ghost use Rattle.asm_promises.specs.Maps.{IsFileText};
 ghost use Rattle.asm_starts.specs.Starts.{NoteParts};
 ghost use Rattle.asm_instructions.specs.declared.origin.Origin.{Origin};
 ghost use Rattle.asm_code.specs.Beginning.{count_of, origin_of};
+ghost use Rattle.asm_code.specs.Code.{instructions_of};
+ghost use Rattle.asm_expansions.specs.declared.operation.Operation.{Operation};
+ghost use Rattle.asm_statements.specs.declared.statement.Body.TheVariants.{Instruction};
+ghost use Rattle.cheri_model.specs.declared.instr.Instr.{Instr};
 ghost use Rattle.asm_files.specs.Programs.{statement_at};
 ghost use Rattle.asm_layout.specs.declared.chunk.ChunkKind.TheVariants.{Code};
 ghost use Rattle.asm_layout.specs.Placement.{rank};
@@ -92,9 +96,9 @@ pub fn every_instruction_has_its_origin()
 
 /// Each instruction of an image, guard and exit aside, comes from just one statement: no two
 /// statements have an instruction's address among their bytes. A statement has the instructions
-/// from its first one on, as many as its bytes hold, and all are in the image. An instruction's
-/// origin is the statement that has it, or is of a gap that none has; and the map has a line with
-/// this statement's file and line. There are at most 16 files.
+/// from its first one on, as many as its bytes hold, and all are in the image; what it stands for
+/// is as long. An instruction's origin is the statement that has it, or is of a gap that none has;
+/// and the map has a line with this statement's file and line. There are at most 16 files.
 pub fn each_instruction_comes_from_one_statement()
     ensures one { (texts : List (List ℕ)) (harts : HartsParts) (a : AssembledParts)
         → length texts ≤ 16 → assembly_meaning texts harts ≡ Ok a
@@ -114,6 +118,14 @@ pub fn each_instruction_comes_from_one_statement()
         → (rank (standing.kind_of (late_in a) file number) == rank Code) ≡ true
         → k < count_of (standing.stand_of (late_in a) file number)
         → HasInstruction (late_in a) file number s (index_of (late_in a) file number + k) }
+    ensures fits { (texts : List (List ℕ)) (harts : HartsParts) (a : AssembledParts)
+        → length texts ≤ 16 → assembly_meaning texts harts ≡ Ok a
+        → (file number at : ℕ) (s : StatementParts) (operation : Operation) (instrs : List Instr)
+        → statement_at a.program file number ≡ Some s
+        → s.body ≡ Instruction at (Some operation)
+        → (rank (standing.kind_of (late_in a) file number) == rank Code) ≡ true
+        → instructions_of (late_in a) a.origins file number s operation ≡ Ok instrs
+        → length instrs ≡ count_of (standing.stand_of (late_in a) file number) }
     ensures inside { (texts : List (List ℕ)) (harts : HartsParts) (a : AssembledParts)
         → length texts ≤ 16 → assembly_meaning texts harts ≡ Ok a
         → (file number n : ℕ) (s : StatementParts) → HasInstruction (late_in a) file number s n
