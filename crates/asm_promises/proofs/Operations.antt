@@ -1,4 +1,4 @@
--- Operations as they are read: registers below 32, and targets where they go to one.
+-- Operations as they are read: registers below 32, targets where they go to one, and an early number with `li`.
 use Rattle.std.proofs.Common.{◌≡◌, ℕ, ◌+◌, ◌<◌, nat_lt, Bool, true, false, cond, List, [], ◌∷◌, length, Option, Some, None, Result, Ok, Err, All, refl, subst, lit<}
 use Rattle.std.proofs.lemmas.List.Elements.{All-push}
 use Rattle.asm_names.specs.declared.registers.RegisterKind.{RegisterKind}

@@ -22,7 +22,8 @@ late_in a = record { program = a.program; linked = a.linked }
 abbrev pub bytes_of : Stand → ℕ
 bytes_of stand = stand.end - stand.offset
 
--- a statement of code, by its file and its number there, of whose bytes an instruction begins at one
+-- a statement of code, by its file and its number there, at one of whose bytes an instruction
+-- begins
 pub record HasInstruction (late : LateParts) (file number : ℕ) (s : StatementParts) (n : ℕ)
     : Type 0 where
   pub there : statement_at late.program file number ≡ Some s
