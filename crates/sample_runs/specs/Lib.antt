@@ -1,0 +1,3 @@
+pub mod Memories
+pub mod Runners
+pub mod Runs
