@@ -1,0 +1,2 @@
+-- What was asked, from what was read.
+pub mod AskedLemmas

@@ -1,0 +1,79 @@
+//! What a search answers, kept in memory.
+
+ghost use Rattle.std.specs.Prelude.{◌≡◌, IfOk, string_bytes};
+ghost use Rattle.conditions.specs.Items.{list_of};
+ghost use Rattle.states.specs.Searches.{IsSearchable, search_of};
+ghost use Rattle.page_searches.specs.Answered.{AreOutcomes, AreRows, AreVerdicts, IsFound};
+
+use conditions::{Condition, Items};
+use explore_checks::check;
+use explore_properties::Property;
+use found_texts::find;
+use graph_search::NoProgress;
+use outcome_texts::{list_outcomes, show_outcomes};
+use shown_states::{Answer, Format, put_answer};
+use sinks::{MemSink, WriteFault};
+use states::Search;
+use std::alloc::Global;
+
+/// An answer's text.
+fn kept(alloc: Global, answer: &Answer) -> Result<MemSink, WriteFault>
+    ensures { IfOk result (λ said. said.bytes ≡ string_bytes answer.now.text) }
+{
+    let mut sink = MemSink::new(alloc, 0, usize::MAX);
+    put_answer(&mut sink, answer)?;
+    Ok(sink)
+}
+
+/// Each outcome, with an order that leads to it.
+pub fn outcomes(alloc: Global, search: &Search<'_>) -> Result<MemSink, WriteFault>
+    requires { IsSearchable (search_of search.now) }
+    ensures { IfOk result (λ said. AreOutcomes (search_of search.now) said.bytes) }
+{
+    let mut sink = MemSink::new(alloc, 0, usize::MAX);
+    list_outcomes(alloc, search, Format::Json, &mut NoProgress, &mut sink)?;
+    Ok(sink)
+}
+
+/// Each row of what items hold in outcomes.
+pub fn rows(alloc: Global, search: &Search<'_>, items: &Items<'_>) -> Result<MemSink, WriteFault>
+    requires { IsSearchable (search_of search.now) }
+    ensures { IfOk result (λ said. AreRows (search_of search.now, list_of items.now) said.bytes) }
+{
+    let mut sink = MemSink::new(alloc, 0, usize::MAX);
+    show_outcomes(
+        alloc,
+        search,
+        items,
+        Format::Json,
+        &mut NoProgress,
+        &mut sink,
+    )?;
+    Ok(sink)
+}
+
+/// A state in which a condition holds, with an order that leads to it; or that there is none.
+pub fn found(
+    alloc: Global,
+    search: &Search<'_>,
+    condition: &Condition,
+) -> Result<MemSink, WriteFault>
+    requires { IsSearchable (search_of search.now) }
+    ensures { IfOk result (λ said. IsFound (search_of search.now, condition.now) said.bytes) }
+{
+    let told = find(alloc, search, condition, Format::Json, &mut NoProgress)?;
+    kept(alloc, &told.answer)
+}
+
+/// The verdict on each property.
+pub fn verdicts(
+    alloc: Global,
+    search: &Search<'_>,
+    properties: &[Property<'_>],
+) -> Result<MemSink, WriteFault>
+    requires { IsSearchable (search_of search.now) }
+    ensures { IfOk result (λ said. AreVerdicts (search_of search.now, properties.now) said.bytes) }
+{
+    let told = check(alloc, search, properties, Format::Json, &mut NoProgress)?;
+    kept(alloc, &told.answer)
+}
