@@ -331,6 +331,71 @@ cheri_jumped cheri_caps_jump(cheri_cap pcc, cheri_cap through, uint8_t reg, uint
 cheri_jumped cheri_caps_invoke(cheri_cap code, uint8_t c1, cheri_cap data, uint8_t c2);
 
 /*
+ * Why a result has no tag. For each instruction there is a list of conditions, in this project's
+ * order (docs/MODEL.md, "reasons"); the first of them that holds is the reason.
+ */
+
+/* The instructions that make a capability. */
+enum {
+    CHERI_CAPS_OP_MOVE = 1,             /* CMove */
+    CHERI_CAPS_OP_CLEAR_TAG = 2,        /* CClearTag */
+    CHERI_CAPS_OP_SET_ADDRESS = 3,      /* CSetAddr */
+    CHERI_CAPS_OP_INC_OFFSET = 4,       /* CIncOffset */
+    CHERI_CAPS_OP_SET_BOUNDS = 5,       /* CSetBounds */
+    CHERI_CAPS_OP_SET_BOUNDS_EXACT = 6, /* CSetBoundsExact */
+    CHERI_CAPS_OP_AND_PERMS = 7,        /* CAndPerm */
+    CHERI_CAPS_OP_SET_FLAGS = 8,        /* CSetFlags */
+    CHERI_CAPS_OP_SET_HIGH = 9,         /* CSetHigh */
+    CHERI_CAPS_OP_SEAL = 10,            /* CSeal */
+    CHERI_CAPS_OP_UNSEAL = 11,          /* CUnseal */
+    CHERI_CAPS_OP_SEAL_ENTRY = 12,      /* CSealEntry */
+    CHERI_CAPS_OP_BUILD = 13,           /* CBuildCap */
+    CHERI_CAPS_OP_UNSEALED_BY_JUMP = 14 /* what CJALR and CInvoke do to the values that they unseal */
+};
+
+/*
+ * The reasons, each with its number, its name after CHERI_CAPS_WHY_, and its text. The source is
+ * `a`, and the authority is `b`; under BUILD the source is the authority `a`, and the word is `b`.
+ * NOT_ALIGNED is never the first: the bounds of a word are always aligned where they lie in those
+ * of a capability.
+ */
+#define CHERI_CAPS_REASONS(REASON)                                                                 \
+    REASON(0, NONE, "the result keeps its tag")                                                    \
+    REASON(1, CLEARED, "the instruction clears the tag")                                           \
+    REASON(2, UPPER_REPLACED, "the upper half is replaced")                                        \
+    REASON(3, SOURCE_UNTAGGED, "the source is untagged")                                           \
+    REASON(4, SOURCE_SEALED, "the source is sealed")                                               \
+    REASON(5, SOURCE_UNSEALED, "the source is not sealed")                                         \
+    REASON(6, SOURCE_SENTRY, "the source is a sentry")                                             \
+    REASON(7, AUTHORITY_UNTAGGED, "the authority is untagged")                                     \
+    REASON(8, AUTHORITY_SEALED, "the authority is sealed")                                         \
+    REASON(9, NO_EXECUTE, "the source lacks Execute")                                              \
+    REASON(10, NO_SEAL, "the authority lacks Seal")                                                \
+    REASON(11, NO_UNSEAL, "the authority lacks Unseal")                                            \
+    REASON(12, NOT_REPRESENTABLE, "the address is outside the representable region")               \
+    REASON(13, BASE_BELOW, "the new base is below the source's")                                   \
+    REASON(14, END_ABOVE, "the end of the requested range is above the source's top")              \
+    REASON(15, TOP_ABOVE, "the new top is above the source's")                                     \
+    REASON(16, ROUNDED, "the requested range is rounded")                                          \
+    REASON(17, TYPE_OUTSIDE, "the object type is not in the authority's bounds")                   \
+    REASON(18, TYPE_NOT_SEALABLE, "no capability can be sealed with the object type")              \
+    REASON(19, TYPE_DIFFERS, "the authority's address is not the source's object type")            \
+    REASON(20, RESERVED_BITS, "the word has a reserved bit")                                       \
+    REASON(21, BASE_ABOVE_TOP, "the word's base is above its top")                                 \
+    REASON(22, MORE_PERMISSIONS, "the word has a permission that the source lacks")                \
+    REASON(23, NOT_ALIGNED, "the word's bounds are not aligned for their length")                  \
+    REASON(255, NO_OPERATION, "no instruction has this number")
+
+#define CHERI_CAPS_REASON_NAME(number, name, text) CHERI_CAPS_WHY_##name = number,
+enum { CHERI_CAPS_REASONS(CHERI_CAPS_REASON_NAME) };
+#undef CHERI_CAPS_REASON_NAME
+
+/* The reason for which the result of the instruction with the number `op` has no tag, where c1 is
+   `a` and c2 is `b`; 0 where it has one. An integer in c2, or an immediate in its place, is
+   `cheri_caps_of_integer` of it. Instructions without a c2 leave `b` unread. */
+uint8_t cheri_caps_why(uint8_t op, cheri_cap a, cheri_cap b);
+
+/*
  * Arrays: they fill the first min(n, m) places of `out`, answer that count, and leave the rest.
  * Pointers aren't null, also for 0 places, and the arrays don't overlap; nothing checks that.
  */
@@ -363,6 +428,16 @@ static inline void cheri_caps_store(void *to, cheri_cap cap) {
         bytes[i] = (unsigned char)(cap.addr >> 8 * i);
         bytes[i + 8] = (unsigned char)(cap.upper >> 8 * i);
     }
+}
+
+/* The text of a reason. */
+static inline const char *cheri_caps_why_text(uint8_t why) {
+#define CHERI_CAPS_REASON_CASE(number, name, text) case number: return text;
+    switch (why) {
+        CHERI_CAPS_REASONS(CHERI_CAPS_REASON_CASE)
+    }
+#undef CHERI_CAPS_REASON_CASE
+    return "no reason has this number";
 }
 
 #ifdef __SIZEOF_INT128__

@@ -23,9 +23,10 @@ from pathlib import Path
 from typing import Any, FrozenSet, List, NamedTuple, Optional, Sequence, Tuple, Union
 
 __all__ = [
-    "ALL", "CAUSES", "LAST_SEALABLE", "PERMISSIONS", "SENTRY", "UNSEALED", "Capability", "Fields",
-    "Jumped", "MakeError", "Rounded", "Trap", "alignment_mask", "bounds_of", "decode", "fields",
-    "is_capability", "is_representable", "representable_length", "round_bounds", "round_of",
+    "ALL", "CAUSES", "LAST_SEALABLE", "OPERATIONS", "PERMISSIONS", "REASONS", "SENTRY", "UNSEALED",
+    "Capability", "Fields", "Jumped", "MakeError", "Reason", "Rounded", "Trap", "alignment_mask",
+    "bounds_of", "decode", "fields", "is_capability", "is_representable", "representable_length",
+    "round_bounds", "round_of", "why",
 ]
 
 #: The permissions by name, as CGetPerm shows them.
@@ -151,6 +152,7 @@ _check_jump = _function("check_jump", _Trap, _Cap, _u8, _u64)
 _check_invoke = _function("check_invoke", _Trap, _Cap, _u8, _Cap, _u8)
 _jump = _function("jump", _Jumped, _Cap, _Cap, _u8, _u64)
 _invoke = _function("invoke", _Jumped, _Cap, _u8, _Cap, _u8)
+_why = _function("why", _u8, _u8, _Cap, _Cap)
 _bounds_of = _function(
     "bounds_of", ctypes.c_size_t, ctypes.c_void_p, ctypes.c_size_t, ctypes.c_void_p, ctypes.c_size_t
 )
@@ -639,6 +641,80 @@ class Capability:
         perms = "all" if self.perms == ALL else "+".join(names) or "none"
         kind = {UNSEALED: "", SENTRY: " sentry"}.get(self.otype, f" type {self.otype}")
         return f"<Capability {self.address:#x} [{self.base:#x}, {self.top:#x}) {perms}{kind}>"
+
+
+# why a result has no tag
+
+#: The instructions that `why` knows, by their methods' names, with their numbers. "move" is CMove,
+#: and "unsealed_by_jump" what CJALR and CInvoke do to the values that they unseal.
+OPERATIONS = {
+    "move": 1, "clear_tag": 2, "set_address": 3, "inc_offset": 4, "set_bounds": 5,
+    "set_bounds_exact": 6, "and_perms": 7, "set_flags": 8, "set_high": 9, "seal": 10, "unseal": 11,
+    "seal_entry": 12, "build": 13, "unsealed_by_jump": 14,
+}
+
+#: The reasons by their numbers. The source is the first value, and the authority is the second;
+#: under "build" the source is the authority, and the word is the second value.
+REASONS = {
+    1: "the instruction clears the tag",
+    2: "the upper half is replaced",
+    3: "the source is untagged",
+    4: "the source is sealed",
+    5: "the source is not sealed",
+    6: "the source is a sentry",
+    7: "the authority is untagged",
+    8: "the authority is sealed",
+    9: "the source lacks Execute",
+    10: "the authority lacks Seal",
+    11: "the authority lacks Unseal",
+    12: "the address is outside the representable region",
+    13: "the new base is below the source's",
+    14: "the end of the requested range is above the source's top",
+    15: "the new top is above the source's",
+    16: "the requested range is rounded",
+    17: "the object type is not in the authority's bounds",
+    18: "no capability can be sealed with the object type",
+    19: "the authority's address is not the source's object type",
+    20: "the word has a reserved bit",
+    21: "the word's base is above its top",
+    22: "the word has a permission that the source lacks",
+    23: "the word's bounds are not aligned for their length",
+}
+
+
+class Reason(NamedTuple):
+    """Why a result has no tag: the number of the first condition that takes it, and its text."""
+
+    number: int
+    text: str
+
+    def __repr__(self) -> str:
+        return f"<Reason {self.number} {self.text}>"
+
+
+def why(
+    operation: str, first: Capability, second: Union[Capability, int] = 0
+) -> Optional[Reason]:
+    """The first condition that takes the tag of an instruction's result, or None where it has one.
+    `operation` is one of OPERATIONS, and the values are those of c1 and c2.
+
+    >>> sixteen = Capability.make(0x80000000, 16)
+    >>> why("set_bounds", sixteen, 32)
+    <Reason 14 the end of the requested range is above the source's top>
+    >>> why("inc_offset", sixteen, -16)
+    >>> why("seal", sixteen, sixteen)
+    <Reason 18 no capability can be sealed with the object type>
+    """
+    if operation not in OPERATIONS:
+        raise ValueError(f"operation {operation!r} is none of {', '.join(OPERATIONS)}")
+    if isinstance(second, Capability):
+        other = second._cap
+    elif operation == "inc_offset":
+        other = _of_integer(second & _HALF)
+    else:
+        other = _of_integer(_number(second, 64, "operand"))
+    number = _why(OPERATIONS[operation], first._cap, other)
+    return Reason(number, REASONS[number]) if number else None
 
 
 # arrays: a call for each word costs some microseconds, a place of an array some nanoseconds
