@@ -21,6 +21,8 @@ static uint64_t addrs[N], near[N], lens[N];
 /* Code and data, alike sealed; the aligned addresses in the bounds of caps, and what holds all memory. */
 static cheri_cap codes[N], datas[N], pccs[N];
 static uint64_t places[N];
+/* Of caps: near addresses, lengths of parts and of exact parts, their words; and what sealed codes. */
+static cheri_cap nears[N], sizes[N], exacts[N], bare[N], sealers[N];
 static cheri_range everywhere = {0, ~UINT64_C(0)};
 static volatile uint64_t sink;
 
@@ -59,12 +61,41 @@ static void make_jumps(void) {
         cheri_cap at = cheri_caps_set_address(root, random_number() >> 1 & ~UINT64_C(0xffff));
         pccs[i] = cheri_caps_inc_offset(cheri_caps_set_bounds(at, random_size() % 0x100000 + 64), 16);
         codes[i] = cheri_caps_seal(pccs[i], sealer);
+        sealers[i] = sealer;
         datas[i] = cheri_caps_seal(cheri_caps_set_address(plain, random_number()), sealer);
         do {
             caps[i] = cheri_caps_set_bounds(cheri_caps_set_address(root, random_number()), random_size() | 1024);
         } while (!caps[i].tag);
-        places[i] = (cheri_caps_read(caps[i]).base + 31) & ~UINT64_C(15);
+        cheri_parts parts = cheri_caps_read(caps[i]);
+        places[i] = (parts.base + 31) & ~UINT64_C(15);
+        uint64_t inside = random_number() % (parts.len ? parts.len : 1);
+        bare[i] = cheri_caps_clear_tag(caps[i]);
+        nears[i] = cheri_caps_of_integer(parts.base + inside / 2);
+        uint64_t left = parts.base + parts.len - caps[i].addr;
+        sizes[i] = cheri_caps_of_integer(left ? random_number() % left : 0);
+        uint64_t exact = random_number() % 4096;
+        exacts[i] = cheri_caps_of_integer(exact < left ? exact : 0);
     }
+}
+
+/* Whether the two tell reasons alike, and none for what keeps its tag. */
+static int reasons_differ(void) {
+    int differ = 0;
+    for (int i = 0; i < N; i++) {
+        cheri_cap others[] = {nears[i], sizes[i], exacts[i], sealers[i], caps[i ^ 1], bare[i]};
+        for (unsigned op = 0; op <= CHERI_CAPS_OP_UNSEALED_BY_JUMP + 1; op++)
+            for (int k = 0; k < 6; k++) {
+                differ += cheri_caps_why(op, caps[i], others[k]) != conventional_why(op, caps[i], others[k]);
+                differ += cheri_caps_why(op, codes[i], others[k]) != conventional_why(op, codes[i], others[k]);
+            }
+        differ += cheri_caps_why(CHERI_CAPS_OP_SET_ADDRESS, caps[i], nears[i]) != 0;
+        differ += cheri_caps_why(CHERI_CAPS_OP_SET_BOUNDS, caps[i], sizes[i]) != 0;
+        differ += cheri_caps_why(CHERI_CAPS_OP_SET_BOUNDS_EXACT, caps[i], exacts[i]) != 0;
+        differ += cheri_caps_why(CHERI_CAPS_OP_SEAL, caps[i], sealers[i]) != 0;
+        differ += cheri_caps_why(CHERI_CAPS_OP_UNSEAL, codes[i], sealers[i]) != 0;
+        differ += cheri_caps_why(CHERI_CAPS_OP_BUILD, caps[i], bare[i]) != 0;
+    }
+    return differ;
 }
 
 static int checks_differ(void) {
@@ -128,6 +159,14 @@ static uint64_t sum_bytes(const void *from, size_t bytes) {
         printf("%-22s %6.1f %6.1f %5.2f\n", #name, library, usual, library / usual);               \
     } while (0)
 
+/* Why a result has no tag: of results that keep theirs, so that each condition is looked at. */
+#define WHY(name, op, a, b)                                                                        \
+    do {                                                                                           \
+        BEST(library, cheri_caps_why(op, a, b))                                                    \
+        BEST(usual, conventional_why(op, a, b))                                                    \
+        printf("why %-18s %6.1f %6.1f %5.2f\n", name, library, usual, library / usual);            \
+    } while (0)
+
 #define ALONE(name, arguments)                                                                     \
     do {                                                                                           \
         BEST(library, cheri_caps_##name arguments)                                                 \
@@ -174,6 +213,24 @@ int main(int argc, char **argv) {
     BOTH(check_invoke, (codes[i], 1, datas[i], 2));
     BOTH(jump, (pccs[i], pccs[i ^ 1], 1, 4));
     BOTH(invoke, (codes[i], 1, datas[i], 2));
+    if (reasons_differ()) {
+        printf("the reasons differ\n");
+        return 1;
+    }
+    WHY("move", CHERI_CAPS_OP_MOVE, caps[i], caps[i]);
+    WHY("clear_tag", CHERI_CAPS_OP_CLEAR_TAG, caps[i], caps[i]);
+    WHY("set_address", CHERI_CAPS_OP_SET_ADDRESS, caps[i], nears[i]);
+    WHY("inc_offset", CHERI_CAPS_OP_INC_OFFSET, caps[i], exacts[i]);
+    WHY("set_bounds", CHERI_CAPS_OP_SET_BOUNDS, caps[i], sizes[i]);
+    WHY("set_bounds_exact", CHERI_CAPS_OP_SET_BOUNDS_EXACT, caps[i], exacts[i]);
+    WHY("and_perms", CHERI_CAPS_OP_AND_PERMS, caps[i], caps[i]);
+    WHY("set_flags", CHERI_CAPS_OP_SET_FLAGS, caps[i], caps[i]);
+    WHY("set_high", CHERI_CAPS_OP_SET_HIGH, caps[i], caps[i]);
+    WHY("seal", CHERI_CAPS_OP_SEAL, caps[i], sealers[i]);
+    WHY("unseal", CHERI_CAPS_OP_UNSEAL, codes[i], sealers[i]);
+    WHY("seal_entry", CHERI_CAPS_OP_SEAL_ENTRY, caps[i], caps[i]);
+    WHY("build", CHERI_CAPS_OP_BUILD, caps[i], bare[i]);
+    WHY("unsealed_by_jump", CHERI_CAPS_OP_UNSEALED_BY_JUMP, caps[i], caps[i]);
     double best = 1e18;
     for (int run = 0; run < runs; run++) {
         double start = now();

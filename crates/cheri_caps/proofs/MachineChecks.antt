@@ -1,6 +1,6 @@
 -- The checks of C are the machine's, where the ranges are the machine's.
-use Rattle.std.proofs.Common.{◌≡◌, ◌+◌, ◌-◌, ◌*◌, ◌/◌, ◌%◌, ◌≤◌, ◌<◌, ◌==◌, ℕ, arith, Bool, true, false, not, List, [], ◌∷◌, refl, ap, cond}
-use Rattle.std.specs.Prelude.{◌&&◌, Option, nat_le, nat_lt, length}
+use Rattle.std.proofs.Common.{◌≡◌, ◌%◌, ◌==◌, ℕ, arith, Bool, true, false, not, List, [], ◌∷◌, refl, ap}
+use Rattle.std.specs.Prelude.{Option, length}
 use Rattle.std.proofs.lemmas.Bool.Decides.{nat_tests}
 use Rattle.cap_model.specs.values.CapValue.{CapValue}
 use Rattle.cap_model.specs.results.Addresses.{address_of}

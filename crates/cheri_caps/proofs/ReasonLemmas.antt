@@ -1,5 +1,5 @@
 -- The first line of a table of reasons that holds, a line at a time.
-use Rattle.std.proofs.Common.{◌≡◌, ℕ, ◌==◌, Bool, true, false, not, List, [], ◌∷◌, ◌++◌, refl, sym, ap, ◌∙◌}
+use Rattle.std.proofs.Common.{◌≡◌, ℕ, ◌==◌, Bool, true, false, not, List, [], ◌∷◌, refl, sym, ap, ◌∙◌}
 use Rattle.std.specs.Prelude.{◌&&◌, Option, None, Some, is_none}
 use Rattle.cap_model.specs.declared.reason.Reason.{Reason}
 use Rattle.cap_model.specs.declared.reason.Reason.TheVariants as reasons_of

@@ -1,10 +1,10 @@
 -- Structs and the values that they mean.
-use Rattle.std.proofs.Common.{◌≡◌, ℕ, ◌+◌, ◌*◌, ◌/◌, ◌%◌, ◌^◌, ◌&&◌, Bool, true, false, refl, ap, arith, ◌∙◌}
-use Rattle.cap_model.specs.values.Capability.{Capability, word_of}
-use Rattle.cap_model.specs.values.CapValue.{CapValue, valid, raw, bits_of, tag_of, value_at, IsLawfulValue}
+use Rattle.std.proofs.Common.{◌≡◌, ◌/◌, ◌%◌, ◌^◌, refl, ap, arith}
+use Rattle.cap_model.specs.values.Capability.{word_of}
+use Rattle.cap_model.specs.values.CapValue.{CapValue, valid, raw, bits_of, tag_of, IsLawfulValue}
 use Rattle.cap_model.specs.results.EditedWords.{word_of_halves}
 use Rattle.cap_model.proofs.Words.WordsBack.{capability_at_word_of, encoding_of}
-use Rattle.cap_ops.specs.Tagged.{is_encoding, value_from}
+use Rattle.cap_ops.specs.Tagged.{value_from}
 use Rattle.cap_ops.proofs.Encodings.{encoding_passes}
 use Rattle.cheri_caps.specs.Structs.{value_of, struct_of}
 

@@ -1,6 +1,6 @@
 -- The machine's checks with memory and code in any range, and what C gets of a verdict.
-use Rattle.std.specs.Prelude.{ℕ, ◌+◌, ◌*◌, ◌/◌, ◌%◌, ◌^◌, ◌==◌, nat_le, Bool, ◌&&◌, not, List, [], ◌∷◌}
-use Rattle.std.specs.Prelude.{◌++◌, take, Option, None, Some, Result, Ok, Err}
+use Rattle.std.specs.Prelude.{ℕ, ◌+◌, ◌*◌, ◌%◌, ◌^◌, ◌==◌, nat_le, Bool, ◌&&◌, not, List, [], ◌∷◌}
+use Rattle.std.specs.Prelude.{◌++◌, take, Option, Result, Ok, Err}
 use Rattle.std.specs.Prelude.{if◌then◌else◌}
 use Rattle.cap_model.specs.values.CapValue.{CapValue, raw}
 use Rattle.cap_model.specs.results.Addresses.{address_of, inc_offset, set_address}
@@ -13,7 +13,7 @@ use Rattle.cheri_model.specs.declared.trace.TheConstants.Trap as cause
 use Rattle.cheri_model.specs.declared.width.Width.{Width}
 use Rattle.cheri_model.specs.declared.width.Width.TheVariants.{Byte, Half, Word, Double}
 use Rattle.cheri_model.specs.steps.Actions.{even}
-use Rattle.cheri_model.specs.steps.Checks.{CheckLine, check_line, first_failing, size_of}
+use Rattle.cheri_model.specs.steps.Checks.{CheckLine, check_line, size_of}
 use Rattle.cheri_model.specs.steps.Checks.{access_table, fetch_table, jump_table, invoke_table}
 use Rattle.cheri_caps.specs.Structs.{struct_of}
 use Rattle.cheri_caps.specs.declared.structs.CheriRange.{CheriRange}

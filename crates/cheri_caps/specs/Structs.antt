@@ -1,5 +1,5 @@
 -- What the structs of C mean, and which struct a result is.
-use Rattle.std.specs.Prelude.{ℕ, ◌+◌, ◌*◌, ◌/◌, ◌%◌, ◌^◌, Bool, Result, Ok, Err, if◌then◌else◌}
+use Rattle.std.specs.Prelude.{ℕ, ◌/◌, ◌%◌, ◌^◌, Result, Ok, Err, if◌then◌else◌}
 use Rattle.cap_model.specs.bounds.Lengths.{internal_exponent}
 use Rattle.cap_model.specs.bounds.Rounding.{rounding_exponent, rounded_base, rounded_top}
 use Rattle.cap_model.specs.words.RawBounds.{raw_base, raw_top}

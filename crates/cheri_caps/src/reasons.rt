@@ -248,39 +248,15 @@ fn has_more_permissions(w: Cap, v: Cap) -> bool
     has & may != has
 }
 
-/// Whether a word's base is below another's.
-#[inline(always)]
-fn begins_below(w: Cap, v: Cap) -> bool
-    ensures { result ≡ nat_lt (base_of w) (base_of v) }
-{
-    w.base() < v.base()
-}
-
-/// Whether a word's top is above another's.
-#[inline(always)]
-fn ends_above(w: Cap, v: Cap) -> bool
-    ensures { result ≡ nat_lt (top_of v) (top_of w) }
-{
-    let (_, limit) = v.bounds();
-    let (_, top) = w.bounds();
-    limit < top
-}
-
-/// Whether a word's base is above its top.
-#[inline(always)]
-fn is_reversed(w: Cap) -> bool
-    ensures { result ≡ nat_lt (top_of w) (base_of w) }
-{
-    let (base, top) = w.bounds();
-    top < u128::from(base)
-}
-
-/// Why a word `w` can't be rebuilt under `v` whatever bounds a capability can have, if it can't.
+/// Why a word `w` with these bounds can't be rebuilt under `v` whatever bounds a capability can have, if it can't.
 #[inline(always)]
 #[tactic(auto, using(crate::proofs::ReasonLemmas::table_lines), unfolding(cap_model::specs::results::Reasons::reasons))]
-fn contents_reason(v: Cap, w: Cap) -> Option<Reason>
+fn contents_reason(v: Cap, w: Cap, base: u64, top: u128) -> Option<Reason>
+    requires base { base ≡ base_of w }
+    requires top { top ≡ top_of w }
     ensures { result ≡ first_reason (take 7 (reasons CBuildCap v w)) }
 {
+    let (least, limit) = v.bounds();
     if !v.tag() {
         return Some(Reason::SourceUntagged);
     }
@@ -290,13 +266,13 @@ fn contents_reason(v: Cap, w: Cap) -> Option<Reason>
     if fields(w.high()).reserved != 0 {
         return Some(Reason::ReservedBits);
     }
-    if begins_below(w, v) {
+    if base < least {
         return Some(Reason::BaseBelow);
     }
-    if ends_above(w, v) {
+    if limit < top {
         return Some(Reason::TopAbove);
     }
-    if is_reversed(w) {
+    if top < u128::from(base) {
         return Some(Reason::BaseAboveTop);
     }
     if has_more_permissions(w, v) {
@@ -309,17 +285,18 @@ fn contents_reason(v: Cap, w: Cap) -> Option<Reason>
 /// none has. The bounds of such a word are always multiples of their length's alignment, so that
 /// line is left out.
 #[inline(always)]
-fn encoding_reason(v: Cap, w: Cap) -> Option<Reason>
-    requires { first_reason (take 7 (reasons CBuildCap v w)) ≡ None }
+fn encoding_reason(v: Cap, w: Cap, base: u64, top: u128) -> Option<Reason>
+    requires base { base ≡ base_of w }
+    requires top { top ≡ top_of w }
+    requires passed { first_reason (take 7 (reasons CBuildCap v w)) ≡ None }
     ensures { result ≡ first_reason (reasons CBuildCap v w) }
 {
-    // The clauses of the bounds say that both values are lawful.
-    let _source = v.bounds();
-    let _word = w.bounds();
-    if v.build(w).tag() {
-        return None;
+    // Its clause says that both values are lawful.
+    let _tags = (v.tag(), w.tag());
+    match Cap::make(base, top - u128::from(base), w.addr(), w.perm()) {
+        Ok(_) => None,
+        Err(_) => Some(Reason::NotRepresentable),
     }
-    Some(Reason::NotRepresentable)
 }
 
 /// Of CBuildCap, of a source `v` and the word `w` that is rebuilt under it.
@@ -327,8 +304,9 @@ fn encoding_reason(v: Cap, w: Cap) -> Option<Reason>
 pub(crate) fn build_reason(v: Cap, w: Cap) -> Option<Reason>
     ensures { result ≡ first_reason (reasons CBuildCap v w) }
 {
-    match contents_reason(v, w) {
+    let (base, top) = w.bounds();
+    match contents_reason(v, w, base, top) {
         Some(reason) => Some(reason),
-        None => encoding_reason(v, w),
+        None => encoding_reason(v, w, base, top),
     }
 }

@@ -1,5 +1,5 @@
 -- Where the first five lines pass, the others are the verdict.
-use Rattle.std.proofs.Common.{◌≡◌, not, List, [], ◌∷◌, refl, sym, ap, ◌∙◌}
+use Rattle.std.proofs.Common.{not, sym, ap, ◌∙◌}
 use Rattle.cheri_model.specs.steps.Checks.{invoke_table}
 use Rattle.cheri_caps.proofs.VerdictLemmas.{line_passes, passes_as}
 use Rattle.cheri_caps.proofs.jumps.invoke_verdict.Goals as goal
