@@ -140,23 +140,6 @@ impl Nodes {
         self.words.find(word)
     }
 
-    /// Whether this row is there and stands where a search for it begins. It reads one slot, so that
-    /// who asks for many rows waits for memory only once.
-    pub fn is_at_home(&self, row: &[u32]) -> bool
-        ensures { result ≡ true → (i : ℕ) × IsRow self.now i row.now }
-    {
-        let Some(bits) = self.bits else {
-            return self.wide.is_at_home(row);
-        };
-        if row.len() != self.width {
-            return false;
-        }
-        let Some(word) = pack(bits, row) else {
-            return false;
-        };
-        self.words.is_at_home(word)
-    }
-
     /// The number of this row, which becomes the last one where it is not there. Fails only when out
     /// of memory, or of numbers after 2^32 - 1 rows; then nothing changes.
     pub fn insert(&mut self, row: &[u32]) -> Result<u32, AllocError>

@@ -12,7 +12,7 @@ use Rattle.interner.proofs.RowLemmas.{row_at-append, row_at-last, row_ends, row_
 use Rattle.graph_search.specs.declared.edges.Edge.{Edge}
 use Rattle.graph_search.specs.Graphs.{LeadsTo}
 use Rattle.graph_search.specs.Trees.{state_at, edge_at, IsFound, Adds, Fits, IsOrderly}
-use Rattle.graph_search.specs.Searches.{IsSearched, IsSearching, IsExplored, GoesOn, IsCut, Reaches, AreKnown, AreSteps, Follows, place_of}
+use Rattle.graph_search.specs.Searches.{IsSearched, IsSearching, IsExplored, GoesOn, IsCut, Reaches, AreSteps, Follows, place_of}
 use Rattle.graph_search.proofs.SearchLemmas.{moved, added, next_node}
 use Rattle.graph_search.proofs.WitnessLemmas.{finished, stopped}
 
@@ -578,31 +578,6 @@ pub fits_full : (node : List ℕ) (edge : Edge) (limit : ℕ) (nodes : List (Lis
     Fits node edge limit nodes edges nodes edges (is_some number)
 fits_full node edge limit nodes edges full within (Some i) there absent = (inl (i, there, refl, refl), within)
 fits_full node edge limit nodes edges full within None there absent = (absent refl, full, refl, refl)
-
--- a node that is there keeps its place
-kept_place : (leads : Bool) (row : List ℕ) (edge : Edge) (limit : ℕ) (nodes : List (List ℕ)) (edges : List Edge)
-    (nodes' : List (List ℕ)) (edges' : List Edge) (fits : Bool) →
-    Follows leads row edge limit nodes edges nodes' edges' fits →
-    (i : ℕ) (node : List ℕ) → slice_get nodes i ≡ Some node → slice_get nodes' i ≡ Some node
-kept_place false row edge limit nodes edges nodes' edges' fits follows i node here =
-    ap (λ (ns : List (List ℕ)). slice_get ns i) follows.1 ∙ here
-kept_place true row edge limit nodes edges nodes' edges' false follows i node here =
-    ap (λ (ns : List (List ℕ)). slice_get ns i) follows.2 ∙ here
-kept_place true row edge limit nodes edges nodes' edges' true follows i node here = elim follows.0 [
-  | inl there ↦ ap (λ (ns : List (List ℕ)). slice_get ns i) there.2 ∙ here
-  | inr new ↦
-      let below = slice_get_within nodes i node here in
-      ap (λ (ns : List (List ℕ)). slice_get ns i) new.1 ∙ (slice_get-more nodes row i (λ same. omega arith) ∙ here)
-]
-
--- nodes that are known to be there stay
-pub still_known : (known : List Bool) (width : ℕ) (rows : List ℕ) (leads : Bool) (row : List ℕ) (edge : Edge) (limit : ℕ)
-    (nodes : List (List ℕ)) (edges : List Edge) (nodes' : List (List ℕ)) (edges' : List Edge) (fits : Bool) →
-    Follows leads row edge limit nodes edges nodes' edges' fits → AreKnown known width rows nodes →
-    AreKnown known width rows nodes'
-still_known known width rows leads row edge limit nodes edges nodes' edges' fits follows all k is =
-    let there = all k is in
-    (there.0, kept_place leads row edge limit nodes edges nodes' edges' fits follows there.0 (row_at width rows k) there.1)
 
 -- an edge of a node was followed, of which a step was made before
 pub step_taken : {S : Type 0} (next : S → ℕ → Option S) (meaning meaning' : List ℕ → Option S) (limit width width' : ℕ)

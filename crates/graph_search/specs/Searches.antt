@@ -2,7 +2,7 @@
 -- second, and so on, and adds each new state as the last node. So nodes stand in the order of their
 -- witnesses.
 use Rattle.std.specs.Prelude.{◌≡◌, ◌≢◌, ℕ, ◌<◌, ◌≤◌, List, length, Option, Some, None, Bool, true, false, ◌+◌}
-use Rattle.std.specs.Prelude.{reverse, slice_get, slice_index_or}
+use Rattle.std.specs.Prelude.{reverse, slice_index_or}
 use Rattle.graph_search.specs.declared.edges.Edge.{Edge}
 use Rattle.graph_search.specs.Walks.{IsReachable, IsWalk, IsWitness, IsBefore}
 use Rattle.interner.specs.Rows.{row_at}
@@ -105,11 +105,6 @@ abbrev pub AreSteps : {S : Type 0} → (S → ℕ → Option S) → (List ℕ �
     List Bool → List ℕ → Type 0
 AreSteps next meaning width state first leads rows = (k : ℕ) → k < length leads →
     LeadsTo meaning (slice_index_or leads k false) (row_at width rows k) (next state (first + k))
-
--- the nodes of such steps that are known to be there are
-abbrev pub AreKnown : List Bool → ℕ → List ℕ → List (List ℕ) → Type 0
-AreKnown known width rows nodes = (k : ℕ) → slice_index_or known k false ≡ true →
-    (i : ℕ) × (slice_get nodes i ≡ Some (row_at width rows k))
 
 -- The node of such a step was followed; or there is no such edge.
 abbrev pub Follows : Bool → List ℕ → Edge → ℕ → List (List ℕ) → List Edge → List (List ℕ) → List Edge →

@@ -19,7 +19,7 @@ ghost use Rattle.std.specs.Prelude.{
   slice_get,
 };
 ghost use Rattle.interner.specs.Rows.{row_at};
-ghost use Rattle.graph_search.specs.Searches.{AreKnown, AreSteps, Follows};
+ghost use Rattle.graph_search.specs.Searches.{AreSteps, Follows};
 
 use crate::edges::Edge;
 use crate::graphs::Graph;
@@ -36,8 +36,6 @@ pub struct Ahead {
     /// For each label a row, which is the node to which the edge leads, if there is one. There is
     /// room for the rows of all labels.
     pub rows: Vec<u32>,
-    /// For each label, whether the node to which the edge leads is known to be there.
-    pub known: Vec<bool>,
 }
 
 impl Ahead {
@@ -55,7 +53,6 @@ impl Ahead {
             node,
             leads: Vec::new(alloc),
             rows,
-            known: Vec::new(alloc),
         })
     }
 
@@ -107,30 +104,6 @@ impl Ahead {
         Ok(())
     }
 
-    /// Looks which of the nodes to which the steps lead are there, before any of them is added, so that
-    /// a search waits for memory once for all of them. Not all that are there are known then. Fails only
-    /// when out of memory.
-    pub fn look(&mut self, tree: &Tree) -> Result<(), AllocError>
-        requires whole { length self.old.leads.items * tree.now.nodes.width
-            ≤ length self.old.rows.items }
-        ensures known { IfOk result (λ _. AreKnown self.new.known.items tree.now.nodes.width
-            self.new.rows.items tree.now.nodes.rows) }
-        ensures count { IfOk result (λ _.
-            length self.new.known.items ≡ length self.new.leads.items) }
-        ensures same_node { self.new.node.items ≡ self.old.node.items }
-        ensures same_leads { self.new.leads.items ≡ self.old.leads.items }
-        ensures same_rows { self.new.rows.items ≡ self.old.rows.items }
-    {
-        self.known.clear();
-        let width = tree.nodes.width();
-        for place in 0..self.leads.len() {
-            let start = place * width;
-            let known = tree.nodes.is_at_home(&self.rows[start..start + width]);
-            self.known.push(known)?;
-        }
-        Ok(())
-    }
-
     /// Follows the edge of a step: adds the node to which it leads, unless it is there. False where
     /// there are as many nodes as the limit, and it is none of them.
     pub fn follow(
@@ -143,9 +116,6 @@ impl Ahead {
         requires there { place < length self.now.leads.items }
         requires whole { length self.now.leads.items * tree.old.nodes.width
             ≤ length self.now.rows.items }
-        requires known { AreKnown self.now.known.items tree.old.nodes.width self.now.rows.items
-            tree.old.nodes.rows }
-        requires count { length self.now.known.items ≡ length self.now.leads.items }
         requires within { length tree.old.nodes.rows ≤ limit }
         ensures followed { IfOk result (Follows (slice_index_or self.now.leads.items place false)
             (row_at tree.old.nodes.width self.now.rows.items place) edge limit
@@ -153,9 +123,6 @@ impl Ahead {
         ensures same_width { tree.new.nodes.width ≡ tree.old.nodes.width }
     {
         if !self.leads[place] {
-            return Ok(true);
-        }
-        if self.known[place] {
             return Ok(true);
         }
         let width = tree.nodes.width();

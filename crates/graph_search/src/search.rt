@@ -168,8 +168,8 @@ fn expand_all<G: Graph, P: Progress>(
     Ok(None)
 }
 
-/// Follows the edges of one node, from this one on: steps along all of them first, then looks which of
-/// the nodes to which they lead are there, and adds the others, one after another.
+/// Follows the edges of one node, from this one on: steps along all of them first, and then looks for
+/// the nodes to which they lead, one after another.
 fn expand<G: Graph>(
     graph: &mut G,
     tree: &mut Tree,
@@ -197,7 +197,6 @@ fn expand<G: Graph>(
 {
     ahead.read(tree, first.from);
     ahead.step(graph, first.label)?;
-    ahead.look(tree)?;
     for label in first.label..graph.label_count() {
         let edge = Edge {
             from: first.from,

@@ -78,31 +78,6 @@ fn is_named(numbers: &[u32], width: usize, slot: u64, row: &[u32], tag: u32) -> 
     row_at(numbers, width, number_in(slot) as usize) == row
 }
 
-/// Whether the slot at the row's home names it.
-pub fn is_at_home(
-    numbers: &[u32],
-    width: usize,
-    slots: &[u64],
-    home: usize,
-    row: &[u32],
-    tag: u32,
-) -> bool
-    requires tag { tag ≡ tag_of row.now }
-    requires before { (homes count : ℕ) ×
-        IsInterner width numbers.now slots.now homes count }
-    ensures { result ≡ true → (homes count : ℕ) → IsInterner width numbers.now slots.now homes count →
-        (i : ℕ) × (i < count) × (row_at width numbers.now i ≡ row.now) }
-{
-    if home >= slots.len() {
-        return false;
-    }
-    let slot = slots[home];
-    if slot == 0 {
-        return false;
-    }
-    is_named(numbers, width, slot, row, tag)
-}
-
 /// The first place from the row's home on that is open, or whose slot names the row.
 pub fn place_of(
     numbers: &[u32],

@@ -7,7 +7,6 @@ ghost use Rattle.std.specs.Prelude.{
   ◌^◌,
   ◌<◌,
   [],
-  true,
   Some,
   None,
   length,
@@ -21,7 +20,7 @@ ghost use Rattle.interner.specs.Rows.{IsDistinct, IsInterned, IsRow};
 
 use crate::growth::grow;
 use crate::hashes::{home_of, tag_of};
-use crate::slots::{add, is_at_home, number_at, place_of, row_at, slot_of};
+use crate::slots::{add, number_at, place_of, row_at, slot_of};
 use std::alloc::{AllocError, Global};
 use std::marker::Model;
 
@@ -110,17 +109,6 @@ impl Interner {
         let home = home_of(tag, self.homes);
         let place = place_of(self.numbers.as_slice(), self.width, slots, home, row, tag);
         number_at(slots, place)
-    }
-
-    /// Whether this row is there and stands where a search for it begins. It reads one slot, so that
-    /// who asks for many rows waits for memory only once.
-    pub fn is_at_home(&self, row: &[u32]) -> bool
-        ensures { result ≡ true → (i : ℕ) × IsRow self.now i row.now }
-    {
-        let tag = tag_of(row);
-        let home = home_of(tag, self.homes);
-        let slots = self.slots.as_slice();
-        is_at_home(self.numbers.as_slice(), self.width, slots, home, row, tag)
     }
 
     /// The number of this row, which becomes the last one where it is not there. Fails only when out

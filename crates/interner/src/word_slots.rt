@@ -40,23 +40,6 @@ fn is_named(words: &[u64], slot: u64, word: u64, tag: u32) -> bool
     words[number_in(slot) as usize] == word
 }
 
-/// Whether the slot at the word's home names it.
-pub fn is_at_home(words: &[u64], slots: &[u64], home: usize, word: u64, tag: u32) -> bool
-    requires tag { tag ≡ tag_of (word ∷ []) }
-    requires before { (homes : ℕ) ×
-        IsInterner 1 words.now slots.now homes (length words.now) }
-    ensures { result ≡ true → (i : ℕ) × (i < length words.now) × (row_at 1 words.now i ≡ word ∷ []) }
-{
-    if home >= slots.len() {
-        return false;
-    }
-    let slot = slots[home];
-    if slot == 0 {
-        return false;
-    }
-    is_named(words, slot, word, tag)
-}
-
 /// The first place from the word's home on that is open, or whose slot names the word.
 pub fn place_of(words: &[u64], slots: &[u64], home: usize, word: u64, tag: u32) -> usize
     requires tag { tag ≡ tag_of (word ∷ []) }

@@ -8,7 +8,6 @@ ghost use Rattle.std.specs.Prelude.{
   ◌<◌,
   [],
   ◌∷◌,
-  true,
   Some,
   None,
   length,
@@ -22,7 +21,7 @@ ghost use Rattle.interner.specs.Rows.{IsDistinct, IsInterned, IsRow};
 use crate::growth::grow;
 use crate::hashes::{home_of, tag_of_word};
 use crate::slots::{number_at, slot_of};
-use crate::word_slots::{add, is_at_home, place_of};
+use crate::word_slots::{add, place_of};
 use std::alloc::{AllocError, Global};
 use std::marker::Model;
 
@@ -100,22 +99,6 @@ impl Words {
         let home = home_of(tag, self.homes);
         let place = place_of(self.words.as_slice(), slots, home, word, tag);
         number_at(slots, place)
-    }
-
-    /// Whether this word is there and stands where a search for it begins. It reads one slot, so that
-    /// who asks for many words waits for memory only once.
-    pub fn is_at_home(&self, word: u64) -> bool
-        ensures { result ≡ true → (i : ℕ) × IsRow self.now i (word ∷ []) }
-    {
-        let tag = tag_of_word(word);
-        let home = home_of(tag, self.homes);
-        is_at_home(
-            self.words.as_slice(),
-            self.slots.as_slice(),
-            home,
-            word,
-            tag,
-        )
     }
 
     /// The number of this word, which becomes the last one where it is not there. Fails only when

@@ -1,9 +1,7 @@
-use Rattle.std.specs.Prelude.{slice_index_or, ◌-◌}
-use Rattle.interner.specs.Rows.{row_at}
 use Rattle.std.proofs.Common.{◌≡◌, Bool, true, false, refl, arith, sym, ◌∙◌, subst, rules}
 use Rattle.graph_search.specs.declared.edges.Edge.{Edge}
 use Rattle.graph_search.specs.Searches.{GoesOn}
-use Rattle.graph_search.proofs.TreeLemmas.{node_has_meaning, same_search, same_first, step_taken, searching_next, still_known}
+use Rattle.graph_search.proofs.TreeLemmas.{node_has_meaning, same_search, same_first, step_taken, searching_next}
 use Rattle.graph_search.proofs.search.expand.Goals as goal
 
 pub step-requires-clause-meant : goal.step-requires-clause-meant
@@ -18,7 +16,6 @@ loop-label-init g c = record {
   ending = search rules;
   here = refl;
   grown = omega arith;
-  known = c.in_ok-look.ensures.known;
   there = c.requires.there;
   first = same_first (g.G.Graph.next c.args.graph.now) (g.G.Graph.next c.step.new.graph)
       (g.G.Graph.meaning c.args.graph.now) (g.G.Graph.meaning c.step.new.graph) c.args.limit
@@ -41,14 +38,13 @@ returns-then-not-branch-clause-after g c =
     let t = step_taken (g.G.Graph.next c.step.new.graph) (g.G.Graph.meaning c.args.graph.now)
     (g.G.Graph.meaning c.step.new.graph) c.args.limit (g.G.Graph.width c.args.graph.now)
     c.loop-label.tree.nodes.width c.loop-label.tree.nodes.rows c.loop-label.tree.edges.items edge c.args.first.label
-    (g.G.Graph.label_count c.args.graph.now) c.read.new.self.node.items c.look.new.self.leads.items
-    c.look.new.self.rows.items c.follow.new.tree.nodes.rows c.follow.new.tree.edges.items c.in_ok-follow.field-0
+    (g.G.Graph.label_count c.args.graph.now) c.read.new.self.node.items c.step.new.self.leads.items
+    c.step.new.self.rows.items c.follow.new.tree.nodes.rows c.follow.new.tree.edges.items c.in_ok-follow.field-0
     c.loop-label.invariant.before c.loop-label.invariant.there (here ∙ c.read.ensures.node)
     (node_has_meaning (g.G.Graph.next c.args.graph.now) (g.G.Graph.meaning c.args.graph.now) c.args.limit
     c.args.tree.now.nodes.rows c.args.tree.now.edges.items c.args.first.from c.args.first.label c.read.new.self.node.items
-    c.requires.before c.requires.there c.read.ensures.node) c.step.ensures.kept c.in_ok-step.ensures.one_node
-    (λ order. rw c.look.ensures.same_leads (c.in_ok-step.ensures.count order))
-    (λ s means. rw c.look.ensures.same_leads (rw c.look.ensures.same_rows (c.in_ok-step.ensures.steps s means))) (c.loop-label.invariant.same_rows ∙ c.requires.wide) begun (omega arith)
+    c.requires.before c.requires.there c.read.ensures.node) c.step.ensures.kept c.in_ok-step.ensures.one_node c.in_ok-step.ensures.count
+    c.in_ok-step.ensures.steps (c.loop-label.invariant.same_rows ∙ c.requires.wide) begun (omega arith)
     c.in_ok-follow.ensures.followed in
     let off : c.in_ok-follow.field-0 ≡ false = search rules in
     let more = t.3 in
@@ -70,14 +66,13 @@ loop-label-preserved g c =
     let t = step_taken (g.G.Graph.next c.step.new.graph) (g.G.Graph.meaning c.args.graph.now)
     (g.G.Graph.meaning c.step.new.graph) c.args.limit (g.G.Graph.width c.args.graph.now)
     c.loop-label.tree.nodes.width c.loop-label.tree.nodes.rows c.loop-label.tree.edges.items edge c.args.first.label
-    (g.G.Graph.label_count c.args.graph.now) c.read.new.self.node.items c.look.new.self.leads.items
-    c.look.new.self.rows.items c.follow.new.tree.nodes.rows c.follow.new.tree.edges.items c.in_ok-follow.field-0
+    (g.G.Graph.label_count c.args.graph.now) c.read.new.self.node.items c.step.new.self.leads.items
+    c.step.new.self.rows.items c.follow.new.tree.nodes.rows c.follow.new.tree.edges.items c.in_ok-follow.field-0
     c.loop-label.invariant.before c.loop-label.invariant.there (here ∙ c.read.ensures.node)
     (node_has_meaning (g.G.Graph.next c.args.graph.now) (g.G.Graph.meaning c.args.graph.now) c.args.limit
     c.args.tree.now.nodes.rows c.args.tree.now.edges.items c.args.first.from c.args.first.label c.read.new.self.node.items
-    c.requires.before c.requires.there c.read.ensures.node) c.step.ensures.kept c.in_ok-step.ensures.one_node
-    (λ order. rw c.look.ensures.same_leads (c.in_ok-step.ensures.count order))
-    (λ s means. rw c.look.ensures.same_leads (rw c.look.ensures.same_rows (c.in_ok-step.ensures.steps s means))) (c.loop-label.invariant.same_rows ∙ c.requires.wide) begun (omega arith)
+    c.requires.before c.requires.there c.read.ensures.node) c.step.ensures.kept c.in_ok-step.ensures.one_node c.in_ok-step.ensures.count
+    c.in_ok-step.ensures.steps (c.loop-label.invariant.same_rows ∙ c.requires.wide) begun (omega arith)
     c.in_ok-follow.ensures.followed in
     let on : c.in_ok-follow.field-0 ≡ true = search rules in
     let more = t.3 in
@@ -92,11 +87,6 @@ loop-label-preserved g c =
       ending = ending;
       here = t.2 ∙ sym c.read.ensures.node;
       grown = omega arith;
-      known = rw c.follow.ensures.same_width (still_known c.look.new.self.known.items c.loop-label.tree.nodes.width
-          c.look.new.self.rows.items (slice_index_or c.look.new.self.leads.items (c.loop-label.label - c.args.first.label) false)
-          (row_at c.loop-label.tree.nodes.width c.look.new.self.rows.items (c.loop-label.label - c.args.first.label)) edge c.args.limit
-          c.loop-label.tree.nodes.rows c.loop-label.tree.edges.items c.follow.new.tree.nodes.rows c.follow.new.tree.edges.items
-          c.in_ok-follow.field-0 c.in_ok-follow.ensures.followed c.loop-label.invariant.known);
       there = omega arith;
       first = t.1 ∙ c.loop-label.invariant.first;
       before = after;
