@@ -1,0 +1,4 @@
+pub mod Handle
+pub mod Openings
+pub mod Machines
+pub mod Texts
