@@ -112,7 +112,8 @@ async function checkScreens(tab, name, open, pictures) {
 
 /** Nothing leaves the page, and the console stays empty. */
 function checkQuiet(tab, name) {
-  const outside = tab.requests.filter((url) => !/^(file|data):/.test(url));
+  // the script of a worker is a blob of the page's own
+  const outside = tab.requests.filter((url) => !/^(file|data|blob):/.test(url));
   check(`${name}: no request leaves the page`, outside.length === 0, outside);
   check(`${name}: the console stays empty`, tab.complaints.length === 0, tab.complaints);
 }

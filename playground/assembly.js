@@ -2,7 +2,7 @@
  * What the text of the editor means. A listing means itself. Assembly means a listing, and the map of that says which
  * line and label each instruction comes from. So a program has `listing`, and of the listing's lines: `lineOf`, the line
  * of the text; `nameOf`, that in words; `words`, what events say of it. And of the text's lines: `addresses`, and
- * `textsAt`, the instructions of one.
+ * `textsAt`, the instructions of one. And `targets`, what conditions say of places in the code: each name, and the target.
  */
 const assembly = (() => {
   const part = (id) => document.getElementById(id);
@@ -24,6 +24,7 @@ const assembly = (() => {
       listing, addresses: source.addressesOf(listing), words: source.wordsOf(listing),
       lineOf: (line) => line, nameOf: (line) => `line ${line}`,
       textsAt: (line) => [listing.split("\n")[line - 1]],
+      targets: source.labelsOf(listing).map((name) => ({ name, target: name })),
     };
   }
 
@@ -60,17 +61,16 @@ const assembly = (() => {
         return own === null ? `the ${label}` : `line ${own}`;
       },
       textsAt: (line) => at(line).map((one) => one.text),
+      targets: [...instructions.values()].flatMap(({ label }, number) => {
+        const name = /^(.*)\+0$/.exec(label)?.[1];
+        return name ? [{ name, target: `@${number}` }] : [];
+      }),
     };
   }
 
-  /** The index in a line of a column, which counts bytes of UTF-8 from 1 on. */
-  function indexOf(line, column) {
-    return new TextDecoder().decode(new TextEncoder().encode(line).subarray(0, column - 1)).length;
-  }
-
-  /** The part of a line that a fault at a column is about: where it begins, and its length. */
+  /** The part of a line that a fault at a column is about: where it begins, and its length. Columns count from 1 on. */
   function markedAt(line, column) {
-    const at = indexOf(line, column);
+    const at = source.indexOfByte(line, column - 1);
     return { at, length: /^(?:[\w.$%]+|[^]?)/u.exec(line.slice(at))[0].length || 1 };
   }
 

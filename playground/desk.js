@@ -50,6 +50,7 @@ const desk = (() => {
     code.faults(faulty.partsOf(found));
     faulty.showListing(found, code.goTo);
     assembly.showMeant(isGood ? meant : null);
+    desk.onJudged();
     return isGood ? "" : answer.line;
   }
 
@@ -198,7 +199,8 @@ const desk = (() => {
     isLarge: () => listing.value.length >= LARGE_LISTING,
     position: () => position,
     shown: () => shown,
-    /** What is done where a breakpoint is asked for in the editor, or a step is moved in the diagram. */
+    /** What is done where the text was judged, a breakpoint is asked for, or a step is moved in the diagram. */
+    onJudged: () => {},
     onPoint: () => {},
     onMove: () => {},
   };

@@ -93,5 +93,5 @@ const faulty = (() => {
     part("order-fault").replaceChildren(...parts.filter(Boolean));
   }
 
-  return { begin, marked, partsOf, showListing, showOrder };
+  return { begin, markIn, marked, partsOf, showListing, showOrder };
 })();

@@ -1,14 +1,19 @@
 /**
  * The simulator, as calls over texts. It computes nothing itself: a call puts its texts into the
- * module's memory, and reads what is answered.
+ * module's memory, and reads what is answered. A worker has its own, made of this function's text.
  */
-const machine = (() => {
+const machineCalls = () => {
   /** Room for every report: the largest has less than 15,800,000 bytes. */
   const ROOM = 16_777_200;
   /** Room for a line. */
   const LINE_ROOM = 4096;
+  /** Room for an answer about all orders, which would be searched again where it needs more. */
+  const SEARCH_ROOM = 67_108_864;
   const ANSWER_BYTES = 40;
-  const STATUS = { DONE: 0, LISTING: 1, ORDER: 2, STEP: 3, MEMORY: 4, ROOM: 5, NUMBER: 6, ASSEMBLY: 7, MAP: 8, NAME: 9 };
+  const STATUS = {
+    DONE: 0, LISTING: 1, ORDER: 2, STEP: 3, MEMORY: 4, ROOM: 5, NUMBER: 6, ASSEMBLY: 7, MAP: 8, NAME: 9,
+    CONDITION: 10, ITEMS: 11, PROPERTIES: 12,
+  };
   const OUT_OF_MEMORY = { status: STATUS.MEMORY, kind: 0, place: 0, column: 0, text: "", line: "memory" };
 
   const encoder = new TextEncoder();
@@ -16,9 +21,9 @@ const machine = (() => {
   let compiled = null;
   let instance = null;
 
-  /** Takes the module's bytes. */
-  function begin(bytes) {
-    compiled = new WebAssembly.Module(bytes);
+  /** Takes the module: its bytes, or what another machine made of them. */
+  function begin(module) {
+    compiled = module instanceof WebAssembly.Module ? module : new WebAssembly.Module(module);
     instance = null;
   }
 
@@ -97,6 +102,7 @@ const machine = (() => {
 
   return {
     STATUS, begin, has, memoryBytes,
+    compiled: () => compiled,
     check: (listing) => call("cheri_check", [listing], [], LINE_ROOM),
     run: (listing, order) => call("cheri_run", [listing, order]),
     json: (listing, order) => call("cheri_json", [listing, order]),
@@ -107,5 +113,11 @@ const machine = (() => {
     decode: (word) => call("cheri_decode", [word], [], LINE_ROOM),
     assemble: (text) => call("cheri_assemble", [text]),
     map: (text, name) => call("cheri_map", [text, name]),
+    outcomes: (listing, limit) => call("cheri_outcomes", [listing], [limit], SEARCH_ROOM),
+    rows: (listing, items, limit) => call("cheri_outcome_rows", [listing, items], [limit], SEARCH_ROOM),
+    find: (listing, condition, limit) => call("cheri_find", [listing, condition], [limit], SEARCH_ROOM),
+    verdicts: (listing, limit) => call("cheri_verdicts", [listing], [limit], SEARCH_ROOM),
   };
-})();
+};
+
+const machine = machineCalls();

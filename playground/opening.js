@@ -110,6 +110,7 @@ const opening = (() => {
       notice.say("The link can't be read. This is the first example.");
     } else open(lastPiece());
     if (isAsked) tools.ask(fragment);
+    if (linked?.ask) every.askLinked(linked.ask);
     document.documentElement.dataset.ready = "yes";
   }
 

@@ -37,6 +37,9 @@ const orders = (() => {
     return `${hasHeader(kept) ? "" : HEADER}${kept}[${low},${high}]`;
   }
 
+  /** The text of an order as answers about all orders write it: with the header that its sweeps need. */
+  const ofAnswer = (written) => (written.includes("[") ? `${HEADER}${written}` : written);
+
   /** The text in which one operation comes where another is now. */
   function withMoved(text, from, to) {
     const operations = operationsOf(text);
@@ -53,5 +56,5 @@ const orders = (() => {
   /** Whether a file's text is that of an order: a header, or digits of harts alone. */
   const isOrder = (text) => hasHeader(text) || /^[0-7 \n]*[0-7][0-7 \n]*$/.test(text);
 
-  return { firstOf, isOrder, operationsOf, withMoved, withStep, withSweep };
+  return { firstOf, isOrder, ofAnswer, operationsOf, withMoved, withStep, withSweep };
 })();

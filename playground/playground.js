@@ -146,7 +146,7 @@
     machine.begin(await share.unpacked(part("module-data").textContent.trim()));
     help.begin(dataOf("help-data"));
     faulty.begin(dataOf("fault-data"));
-    [notice.begin, question.begin, lines.listen, tools.listen, listenToPosition, listenToWork, listenToHarts]
+    [notice.begin, question.begin, lines.listen, tools.listen, every.listen, listenToPosition, listenToWork, listenToHarts]
       .forEach((work) => work());
     opening.begin(dataOf("gallery-data"));
   }

@@ -46,5 +46,5 @@ const registers = (() => {
       hartPart(hart, number, names, { changed, image, note: notes[number], isFull })));
   }
 
-  return { CAUSES, markOf, show };
+  return { CAUSES, markOf, show, statusWords };
 })();

@@ -1,6 +1,7 @@
 /**
  * Links: `#1.` and the base64url of raw deflate of the listing, a byte 0 and the order; then, each after `&`, `at=` a
- * position, `name=` a name, `asm=1` where assembly is in the place of the listing, and `embed=1`.
+ * position, `name=` a name, `asm=1` where assembly is in the place of the listing, `ask=` a question about every order,
+ * and `embed=1`.
  */
 const share = (() => {
   const VERSION = "1.";
@@ -54,11 +55,12 @@ const share = (() => {
     return `#${VERSION}${data}${words.join("")}`;
   }
 
-  /** What stands after the data: a position and a name, where they can be read; whether it is assembly. */
+  /** What stands after the data: a position and a name, where they can be read; whether it is assembly; a question. */
   function wordsOf(parts) {
     const words = new Map(parts.map((part) => part.split("=")));
     const at = /^\d{1,6}$/.test(words.get("at") ?? "") ? Number(words.get("at")) : undefined;
-    return { at, name: decodeURIComponent(words.get("name") ?? "").slice(0, 60), isAssembly: words.get("asm") === "1" };
+    const textOf = (key) => decodeURIComponent(words.get(key) ?? "");
+    return { at, name: textOf("name").slice(0, 60), isAssembly: words.get("asm") === "1", ask: textOf("ask") };
   }
 
   /** Listing, order, position and name of a fragment, or nothing where it can't be read. */

@@ -47,6 +47,12 @@ const source = (() => {
     });
   }
 
+  /** The names of the labels, in order. */
+  const labelsOf = (text) => text.split("\n").map((line) => LABEL.exec(line)?.[1].slice(0, -1)).filter(Boolean);
+
+  /** The index in a text of a byte of its UTF-8. */
+  const indexOfByte = (text, byte) => new TextDecoder().decode(new TextEncoder().encode(text).subarray(0, byte)).length;
+
   /** What stands for a faulty line where it makes nothing: an instruction that is counted, a label alone, or nothing. */
   function withoutFault(line, instructions) {
     const first = tokensOf(line)[0]?.text ?? "";
@@ -54,5 +60,7 @@ const source = (() => {
     return first.endsWith(":") && first !== line.trim() ? first : "";
   }
 
-  return { addressAt, addressesOf, registersOf, tokensOf, withoutFault, wordsOf };
+  return {
+    addressAt, addressesOf, indexOfByte, labelsOf, registersOf, tokensOf, withoutFault, wordsOf,
+  };
 })();

@@ -31,6 +31,10 @@ const values = (() => {
     return value < 10n ? String(value) : `${value} = ${short(lower)}`;
   }
 
+  /** A value in a few words: a number, or a capability's address and bounds. */
+  const words = (value) => (value.tag ? `${short(value.word.split("_")[1])}: ${boundsWords(value)}`
+    : untaggedWords(value.word));
+
   /** The full form of a tagged value: word, base, top, permissions, type, origin. */
   function fullWords(value, cells) {
     const from = value.from ? `; from ${value.from}` : "";
@@ -41,9 +45,9 @@ const values = (() => {
   function cells(value, image) {
     const drawn = valueCells(value, image);
     if (!value.tag) {
-      const words = cell("word", element("code", {}, untaggedWords(value.word)));
-      words.colSpan = 4;
-      return [drawn[0], words];
+      const whole = cell("word", element("code", {}, untaggedWords(value.word)));
+      whole.colSpan = 4;
+      return [drawn[0], whole];
     }
     const [tag, , bounds, allows, from] = drawn;
     const full = fullWords(value, drawn);
@@ -68,5 +72,5 @@ const values = (() => {
     return element("tr", { role: "row", class: "full", ...attributes }, whole);
   }
 
-  return { COLUMNS, cells, fullRow, short, shorter };
+  return { COLUMNS, cells, fullRow, short, shorter, words };
 })();

@@ -224,6 +224,18 @@ async function openFaulty(tab) {
   }, gallery.find(({ name }) => name === "leak").text);
 }
 
+/** The page with an answer about every order. */
+async function openAnswered(tab) {
+  await open(tab);
+  await tab.ask(async (text) => {
+    const field = document.getElementById("listing");
+    field.value = text;
+    field.dispatchEvent(new InputEvent("input"));
+    await every.ask("check");
+    document.getElementById("every").scrollIntoView();
+  }, gallery.find(({ name }) => name === "broken_lock").text);
+}
+
 /** Each kind of fault of a listing, marked at its line. */
 async function checkFaults(tab) {
   await open(tab);
@@ -403,6 +415,8 @@ withBrowser(async (newTab) => {
   await checkFragments(tab);
   await checkScreens(tab, "playground", () => open(tab), pictures);
   await checkScreens(tab, "playground with faults", () => openFaulty(tab), pictures);
+  await checkScreens(tab, "playground with an answer", () => openAnswered(tab), pictures);
+  await checkTree(tab, "the playground with an answer");
   await checkScreens(tab, "playground with assembly", () => openAssembly(tab, open), pictures);
   await checkAssemblyTree(tab, open);
   await checkAssemblyDownloads(tab, open);

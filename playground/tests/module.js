@@ -1,13 +1,14 @@
 /**
- * module.js PAGE ANSWERS: the module of the built page in node: the cases and the gallery beside the
- * native programs, each position of some, replays, limits, little memory. Prints what failed, and
- * last 'N passed, M failed'.
+ * module.js PAGE ANSWERS EXPLORE: the module of the built page in node: the cases and the gallery beside the
+ * native programs, each position of some, replays, every order, limits, little memory. EXPLORE is cheri_explore, or -
+ * where it is not there. Prints what failed, and last 'N passed, M failed'.
  */
 "use strict";
 const { MACHINE, busyListing, bytesOf, machineOf, readLines, readPage, same, scriptsOf } = require("./common.js");
 const { check, end } = require("../../page/checks.js");
+const { checkSearches } = require("./searched.js");
 
-const [page, answers] = process.argv.slice(2);
+const [page, answers, explore = "-"] = process.argv.slice(2);
 const machine = machineOf(page);
 const { STATUS } = machine;
 const cases = readLines(answers);
@@ -389,6 +390,7 @@ checkHelp();
 checkLooks();
 checkRefusedLooks();
 checkReplay();
+checkSearches(machine, explore);
 checkRoom();
 checkSteadyMemory();
 checkLimits();
