@@ -8,6 +8,7 @@ const every = (() => {
   const MOST_LABELS = 24;
   /** The field that a question has its words from. */
   const FIELDS = { outcomes: "every-items", find: "every-condition" };
+  const LINKED = /^(outcomes|find|check)(?::([^]*))?$/;
 
   /** The question that was asked last: its listing, its words, and when. */
   let asked = null;
@@ -159,7 +160,7 @@ const every = (() => {
 
   /** Asks what a link says: `outcomes`, `find` or `check`, and after a colon items or a condition. */
   function askLinked(words) {
-    const [, name, text = ""] = /^(outcomes|find|check)(?::([^]*))?$/.exec(words) ?? [];
+    const [, name, text = ""] = LINKED.exec(words) ?? [];
     if (!name) return;
     if (FIELDS[name]) part(FIELDS[name]).value = text;
     part("every").scrollIntoView({ block: "start" });
@@ -198,5 +199,5 @@ const every = (() => {
 
   desk.onJudged = follow;
 
-  return { ask, askLinked, listen };
+  return { ask, askLinked, canAsk: (words) => LINKED.test(words), listen };
 })();

@@ -7,7 +7,7 @@ const facts = (() => {
 
   /**
    * The event with the program's own words in place of the canonical ones, labels, spelling and comment, and with the line
-   * of the text; and with short addresses in its reasons and in the range of a sweep.
+   * of the text; and with short addresses in its reasons, of a fetch, and in the range of a sweep.
    */
   function inWords(event, { words, lineOf }) {
     if (!event) return event;
@@ -16,6 +16,7 @@ const facts = (() => {
       told.instruction = words[event.line - 1] || event.instruction;
       told.line = lineOf(event.line) ?? undefined;
     }
+    if (event.pc) told.instruction ??= `fetch at ${values.short(event.pc)}`;
     if (event.why) told.why = shorter(event.why);
     if (event.clears) {
       told.clears = Object.fromEntries(Object.entries(event.clears)

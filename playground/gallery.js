@@ -3,6 +3,8 @@ const gallery = (() => {
   const part = (id) => document.getElementById(id);
   const { element } = draw;
   let examples = [];
+  /** Opens an example in the order of a number. */
+  let open = () => {};
 
   /** What the comments at the head of a listing say. */
   function aboutOf(text) {
@@ -16,7 +18,7 @@ const gallery = (() => {
     return [element("a", { href: `lesson.html#part-${lesson}` }, `Part ${lesson} of the lesson`)];
   }
 
-  function showExample(open) {
+  function showExample() {
     const example = examples[part("example").selectedIndex];
     part("example-about").textContent = aboutOf(example.text) || example.shows;
     part("example-lesson").replaceChildren(...lessonWords(example));
@@ -28,16 +30,25 @@ const gallery = (() => {
     }));
   }
 
-  /** Fills the menu; `open(example, number)` is called with what the person opens. */
-  function begin(list, open) {
+  /** Chooses the example that has a text, where one has: so what is said of an example is of the one that is open. */
+  function choose(text) {
+    const index = examples.findIndex((one) => one.text === text);
+    if (index < 0 || index === part("example").selectedIndex) return;
+    part("example").selectedIndex = index;
+    showExample();
+  }
+
+  /** Fills the menu; `openOne(example, number)` is called with what the person opens. */
+  function begin(list, openOne) {
     examples = list;
+    open = openOne;
     const optionsOf = (of) => of.map(({ name, shows }) => element("option", { value: name }, `${name}: ${shows}`));
     const [listings, files] = [false, true].map((is) => examples.filter(({ isAssembly = false }) => isAssembly === is));
     part("example").replaceChildren(...optionsOf(listings),
       element("optgroup", { label: "Programs in assembly" }, ...optionsOf(files)));
-    part("example").addEventListener("change", () => showExample(open));
-    showExample(open);
+    part("example").addEventListener("change", showExample);
+    showExample();
   }
 
-  return { begin };
+  return { begin, choose };
 })();

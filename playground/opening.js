@@ -16,6 +16,7 @@ const opening = (() => {
     changes.opened(piece);
     points.set(piece.points ?? [], piece.listing);
     works.opened(piece);
+    gallery.choose(piece.listing);
     listing.setSelectionRange(0, 0);
     listing.scrollTop = 0;
     const isShown = desk.runTexts(piece.at);

@@ -10,8 +10,7 @@ const times = (() => {
     const came = view.isMarked(event) ? "\u26a0 " : "";
     const outcome = { trap: `trap ${registers.CAUSES[event.cause]}`, halt: "halt" }[event.outcome]
       ?? (event.clears ? "tag cleared" : null);
-    const words = event.outcome === "sweep" ? `sweep ${event.lo} to ${event.hi}`
-      : event.instruction ?? `fetch at ${values.short(event.pc)}`;
+    const words = event.outcome === "sweep" ? `sweep ${event.lo} to ${event.hi}` : event.instruction;
     const line = event.line === undefined ? "" : `${event.line}: `;
     return element("button", { type: "button", class: view.isMarked(event) ? "box marked" : "box",
       "data-index": index, tabindex: -1, title: `${line}${words}` },

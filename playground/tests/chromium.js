@@ -373,8 +373,8 @@ async function checkDocuments(tab) {
     const read = await Promise.all(links.map(async (link) => [link, await share.read(link)]));
     return read.filter(([link, found]) => {
       if (!found) return !tools.isAsked(link);
-      const end = runs.endOf(found.listing, found.order);
-      return !end.isRun || !(end.at >= (found.at ?? 0)) || found.name === "";
+      const end = runs.endOf(found.isAssembly ? machine.assemble(found.listing).text : found.listing, found.order);
+      return !end.isRun || !(end.at >= (found.at ?? 0)) || found.name === "" || (found.ask && !every.canAsk(found.ask));
     }).map(([link]) => link.slice(0, 60));
   }, links);
   check(`each of ${links.length} links of the lesson opens a listing that runs to its position`, wrong.length === 0

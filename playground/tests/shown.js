@@ -88,6 +88,13 @@ async function checkSource(one, say) {
     const top = (line - 1) * parseFloat(getComputedStyle(area).lineHeight) - area.scrollTop;
     return top >= 0 && top < area.clientHeight;
   });
+  await enter(one, "listing", ".hart 0x10000000 4 0x10000000 execute\naddi c6, c6, 1\necall\n");
+  await enter(one, "order", "00");
+  const trapped = await textOf(one, "words");
+  say("a fetch that traps has a short address", trapped.includes("fetch at 0x10000004") && trapped.includes("trap Length"),
+    trapped);
+  await enter(one, "listing", listing);
+  await enter(one, "order", "000");
   const seen = [];
   for (const id of ["first", "on", "on", "on", "back"]) {
     await click(one, id);

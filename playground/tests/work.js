@@ -168,6 +168,10 @@ async function checkLinks(one, say) {
   const fragment = link.slice(link.indexOf("#"));
   await forget(one);
   await one.open(fragment);
+  const chosen = await one.ask(() => [document.getElementById("example").value,
+    document.querySelector("#example-lesson a")?.getAttribute("href")].join());
+  say("and the menu has the example that it opens, with its part of the lesson", /^leak,lesson\.html#part-3$/.test(chosen),
+    chosen);
   say("a link opens its position and name", (await textOf(one, "place")).startsWith("1 of")
     && await valueOf(one, "work-name") === "leak", [await textOf(one, "place"), await valueOf(one, "work-name")]);
   await one.open("#decode=000c000004188004_0000000080000000");
