@@ -91,6 +91,9 @@ const every = (() => {
   }
 
   function propertyFault({ line: words, place, column }) {
+    if (place === 0 && assembly.isOn()) {
+      return [element("p", {}, "Assembly has no properties: they are lines of a listing. Ask for a condition in their place.")];
+    }
     if (place === 0) {
       return [element("p", {}, "This text has no property. One is a line as ",
         element("code", {}, "#! never two harts in enter..leave"), ", with ",
@@ -134,7 +137,8 @@ const every = (() => {
         name === target ? name : `${name} = ${target}`)));
     part("every-labels-row").hidden = targets.length === 0;
     const count = listing.match(/^[ \t]*#! (?:never|always|sometimes|finally|ends)/gm)?.length ?? 0;
-    part("every-properties").textContent = count === 0 ? "It has none yet: a line #! says one."
+    part("every-properties").textContent = assembly.isOn() ? "Listings alone have them."
+      : count === 0 ? "It has none yet: a line #! says one."
       : `${count === 1 ? "One line" : `${count} lines`} #! of the listing.`;
   }
 

@@ -138,6 +138,21 @@ async function checkEndless(one, say) {
   say("which is opened with its loop once", await valueOf(one, "order") === "0", await valueOf(one, "order"));
 }
 
+/** Of assembly the listing is searched that it means, by the names of its functions. */
+async function checkAssembled(one, say) {
+  await openOver(one, "scores");
+  const labels = await one.ask(() => [...document.querySelectorAll("#every-labels button")].map((one) => one.textContent));
+  say("the functions of assembly are offered as labels", labels.some((label) => /^main = @\d+$/.test(label)), labels);
+  await enter(one, "every-condition", "0 is trapped:Length");
+  const words = await asked(one, "every-find");
+  say("a state of assembly is found", words.startsWith("Found: "), words);
+  await one.ask(() => { document.querySelector("#every-answer [data-order]").click(); });
+  const why = await textOf(one, "words");
+  say("and its order opened, at the line of the assembly", why.includes("trap Length") && why.includes("line 25"), why);
+  const none = await asked(one, "every-check");
+  say("that assembly has no properties is said", none.includes("lines of a listing"), none);
+}
+
 /** A link may ask a question of what it opens. */
 async function checkLinked(one, say) {
   await openOver(one, "broken_lock");
@@ -207,4 +222,4 @@ async function checkOutcomes(one, say) {
     wrong.length === 0 && names.length > 3, wrong);
 }
 
-module.exports = { parts: [checkEnds, checkFound, checkProperties, checkEndless, checkLinked, checkLimits, checkOutcomes] };
+module.exports = { parts: [checkEnds, checkFound, checkProperties, checkEndless, checkAssembled, checkLinked, checkLimits, checkOutcomes] };
