@@ -72,6 +72,7 @@ const every = (() => {
     else {
       part("every-doing").textContent = `Answered after ${seconds} s.`;
       showAnswer(...show(answer.found));
+      if (part("every").contains(document.activeElement)) part("every-answer").scrollIntoView({ block: "nearest" });
     }
   }
 
