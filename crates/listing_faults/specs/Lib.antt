@@ -1,0 +1,3 @@
+-- The faulty lines of a listing.
+pub mod Lines
+pub mod Faults
