@@ -3,3 +3,4 @@ pub mod AnswerLemmas
 pub mod RunLemmas
 pub mod AssemblyLemmas
 pub mod MappedLemmas
+pub mod SearchLemmas

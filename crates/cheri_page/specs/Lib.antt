@@ -5,3 +5,4 @@ pub mod Runs
 pub mod Lines
 pub mod Assembly
 pub mod Mapped
+pub mod Searches

@@ -14,13 +14,16 @@ use std::alloc::{AllocError, Global};
 pub struct Answer {
     /// 0: it is done; 1: the listing was refused, 2: the order; 3: an operation was, and what is
     /// written is of those before it; 4: out of memory; 5: no room; 6: an argument is no number;
-    /// 7: the assembly was refused, 8: the map; 9: the name of a file is no text.
+    /// 7: the assembly was refused, 8: the map; 9: the name of a file is no text; 10: a condition was
+    /// refused, 11: items, 12: the listing's properties; 13: no state may be kept; 14: a condition or
+    /// a list of items is no text.
     pub status: u32,
     /// The fault's number.
     pub kind: u32,
     /// The line, byte or operation of the fault.
     pub place: usize,
-    /// The column of a fault of assembly, in bytes from 1 on, and else 0.
+    /// The column of a fault of assembly, in bytes from 1 on; of a property the byte of its line,
+    /// from 0 on; and else 0.
     pub column: usize,
     /// How many bytes the text has, which are the first of the room; of status 5 how many it needs.
     pub length: usize,

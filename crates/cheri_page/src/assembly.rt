@@ -1,22 +1,21 @@
 //! Calls about a file of assembly.
 #![tactic(auto, using(crate::proofs::AssemblyLemmas::assembles))]
 
-ghost use Rattle.std.specs.Prelude.{◌≡◌, ◌⊎◌, Err, IfErr, IfOk, option_map, string_bytes};
+ghost use Rattle.std.specs.Prelude.{◌≡◌, ◌⊎◌, Err, IfErr, IfOk, string_bytes};
 ghost use Rattle.asm_files.specs.Faults.{IsNoMemory};
 ghost use Rattle.asm_image.specs.Whole.{assembled_parts};
-ghost use Rattle.asm_map_reader.specs.Words.{text_of};
 ghost use Rattle.cheri_page.specs.Answers.{Answers};
 ghost use Rattle.cheri_page.specs.Assembly.{IsListingTold, IsMapOf, IsMapText, IsMapTold};
 ghost use Rattle.cheri_page.specs.Assembly.{meaning_of};
 
 use crate::answer::{Answer, tell};
 use crate::fault::Fault;
+use crate::texts::text_of;
 use asm_files::AssemblyFault;
 use asm_image::{Assembled, assemble, map_lines};
 use asm_maps::write_map;
 use asm_pictures::Harts;
 use std::alloc::{AllocError, Global};
-use std::str;
 
 /// The listing that a file of assembly means, with the harts that it requests.
 #[unsafe(no_mangle)]
@@ -62,17 +61,6 @@ fn map_of_text<'t>(
     Ok(map_of(alloc, &assembled, name)?)
 }
 
-/// Bytes as a name, where they are a text.
-#[tactic(auto, using(asm_map_reader::proofs::TextLemmas::texts))]
-fn name_of(bytes: &[u8]) -> Option<&str>
-    ensures { option_map (λ name. name.now) result ≡ text_of bytes.now }
-{
-    match str::from_utf8(bytes) {
-        Ok(name) => Some(name),
-        Err(_) => None,
-    }
-}
-
 /// The map of a file of assembly, with the harts that it requests; the file has this name, which is
 /// judged first.
 #[unsafe(no_mangle)]
@@ -85,7 +73,7 @@ pub extern "C" fn cheri_map(
 )
     ensures { Answers (IsMapTold assembly.now name.now) out.old out.new answer.new }
 {
-    let Some(name) = name_of(name) else {
+    let Some(name) = text_of(name) else {
         return tell(alloc, b"", Some(Fault::BadName), out, answer);
     };
     match map_of_text(alloc, assembly, name) {

@@ -6,15 +6,17 @@ ghost use Rattle.cheri_page.specs.Faults.{status_of, kind_of, place_of, column_o
 use asm_files::AssemblyFault;
 use asm_tokens::AsmFaultKind;
 use cores::StepFault;
+use explore_properties::PropertyPlace;
 use grammar::fault::ListingFaultKind;
 use listings::ListingFault;
 use number_lines::NumberFault;
 use orders::{OrderFault, OrderFaultKind};
+use page_searches::SearchFault;
 use simulation::SimFault;
 use std::fmt;
 
 /// Why a call gives no more than it does.
-#[derive(Clone, Copy, Debug, PartialEq, Eq)]
+#[derive(Clone, Copy)]
 pub(crate) enum Fault {
     /// An allocation failed.
     NoMemory,
@@ -32,6 +34,16 @@ pub(crate) enum Fault {
     Map(usize),
     /// The name of a file is no text.
     BadName,
+    /// The word of a condition that begins at this byte cannot stand there.
+    Condition(usize),
+    /// The item that begins at this byte is none, or one too many.
+    Item(usize),
+    /// What begins at this place of the listing is no property, or one too many.
+    Property(PropertyPlace),
+    /// No state may be kept.
+    BadLimit,
+    /// A condition or a list of items is no text.
+    BadText,
 }
 
 impl Fault {
@@ -48,6 +60,11 @@ impl Fault {
             Fault::Assembly(_) => 7,
             Fault::Map(_) => 8,
             Fault::BadName => 9,
+            Fault::Condition(_) => 10,
+            Fault::Item(_) => 11,
+            Fault::Property(_) => 12,
+            Fault::BadLimit => 13,
+            Fault::BadText => 14,
         }
     }
 
@@ -60,12 +77,12 @@ impl Fault {
             Fault::Order(refused) => u32::from(refused.kind.number()),
             Fault::Step(_, refused) => u32::from(refused.number()),
             Fault::Assembly(refused) => u32::from(refused.fault.kind.number()),
-            Fault::NoMemory | Fault::BadNumber | Fault::Map(_) | Fault::BadName => 0,
+            _ => 0,
         }
     }
 
-    /// Where it is: a line of the listing, the assembly or the map, a byte of the order or a place of
-    /// an operation, and 0 where it has none.
+    /// Where it is: a line of the listing, the assembly or the map, a byte of the order, the condition
+    /// or the items, or a place of an operation, and 0 where it has none.
     pub(crate) fn place(self) -> usize
         ensures { result ≡ place_of self }
     {
@@ -75,16 +92,20 @@ impl Fault {
             Fault::Step(place, _) => place,
             Fault::Assembly(refused) => refused.fault.place.line,
             Fault::Map(line) => line,
-            Fault::NoMemory | Fault::BadNumber | Fault::BadName => 0,
+            Fault::Condition(byte) | Fault::Item(byte) => byte,
+            Fault::Property(place) => place.line,
+            _ => 0,
         }
     }
 
-    /// Its column in the line of the assembly, and 0 where it has none.
+    /// Its column in the line of the assembly, or the byte of a property's line, and 0 where it has
+    /// none.
     pub(crate) fn column(self) -> usize
         ensures { result ≡ column_of self }
     {
         match self {
             Fault::Assembly(refused) => refused.fault.place.column,
+            Fault::Property(place) => place.byte,
             _ => 0,
         }
     }
@@ -106,6 +127,13 @@ impl fmt::Display for Fault {
             Fault::Assembly(refused) => write!(f, "assembly {refused}"),
             Fault::Map(line) => write!(f, "map line {line}"),
             Fault::BadName => f.write_str("bad name"),
+            Fault::Condition(byte) => write!(f, "bad condition at byte {byte}"),
+            Fault::Item(byte) => write!(f, "bad place at byte {byte}"),
+            Fault::Property(PropertyPlace { line, byte }) => {
+                write!(f, "bad property at line {line} byte {byte}")
+            }
+            Fault::BadLimit => f.write_str("bad limit"),
+            Fault::BadText => f.write_str("bad text"),
         }
     }
 }
@@ -173,6 +201,24 @@ impl From<AssemblyFault> for Fault {
         match refused.fault.kind {
             AsmFaultKind::NoMemory => Fault::NoMemory,
             _ => Fault::Assembly(refused),
+        }
+    }
+}
+
+impl From<SearchFault> for Fault {
+    ghost use Rattle.cheri_page.specs.Faults.{search_fault};
+
+    ghost from_gives = { λ refused fault. fault ≡ search_fault refused };
+
+    #[tactic(auto, unfolding(crate::specs::Faults::search_fault))]
+    fn from(refused: SearchFault) -> Fault {
+        match refused {
+            SearchFault::NoMemory => Fault::NoMemory,
+            SearchFault::Limit => Fault::BadLimit,
+            SearchFault::Listing(fault) => Fault::from(fault),
+            SearchFault::Condition(byte) => Fault::Condition(byte),
+            SearchFault::Item(byte) => Fault::Item(byte),
+            SearchFault::Property(place) => Fault::Property(place),
         }
     }
 }

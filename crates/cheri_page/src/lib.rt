@@ -10,3 +10,5 @@ mod fault;
 mod mapped;
 mod numbers;
 mod runs;
+mod searches;
+mod texts;
