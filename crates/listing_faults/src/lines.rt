@@ -70,7 +70,11 @@ fn stand_in(line: &[u8]) -> &[u8]
 fn line_at<'t>(lines: &[&'t [u8]], place: usize) -> &'t [u8]
     ensures { result.now ≡ slice_index_or (texts lines.now) place [] }
 {
-    if place < lines.len() { lines[place] } else { &[] }
+    if place < lines.len() {
+        lines[place]
+    } else {
+        &[]
+    }
 }
 
 /// Puts a line at a place, if there is one.
