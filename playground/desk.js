@@ -39,7 +39,7 @@ const desk = (() => {
     const { text, answer, isGood } = read();
     if (isGood) return [];
     const isOfLine = answer.status === STATUS.LISTING && answer.place > 0 && text.length < LARGE_LISTING;
-    judged.faults ??= faulty.marked(isOfLine ? runs.faultsOf(text, answer) : [answer], text);
+    judged.faults ??= faulty.marked(isOfLine ? runs.faultsOf(text) : [answer], text);
     return judged.faults;
   }
 

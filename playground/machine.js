@@ -104,6 +104,7 @@ const machineCalls = () => {
     STATUS, begin, has, memoryBytes,
     compiled: () => compiled,
     check: (listing) => call("cheri_check", [listing], [], LINE_ROOM),
+    faults: (listing) => call("cheri_faults", [listing]),
     run: (listing, order) => call("cheri_run", [listing, order]),
     json: (listing, order) => call("cheri_json", [listing, order]),
     explain: (listing, order, from, to) => call("cheri_explain", [listing, order], [from, to]),

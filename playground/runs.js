@@ -5,9 +5,6 @@ const runs = (() => {
   const LAST = 4_294_967_295;
   /** So many events are asked for at once, where one is looked for. */
   const MANY = 5000;
-  /** So many faulty lines are looked for, in so many characters of listings that are asked about. */
-  const MOST_FAULTS = 50;
-  const MOST_ASKED = 400_000;
 
   /** The end of a run: its state, how many operations were done, and the fault that ended it. */
   function endOf(listing, order) {
@@ -47,22 +44,11 @@ const runs = (() => {
     return -1;
   }
 
-  /**
-   * Each faulty line of a listing with the fault that it has where the others stay as they are: they make nothing, but
-   * their labels are there and their instructions are counted. `first` is the answer of `check`. A faulty line is put
-   * out of the way, and the listing asked about again.
-   */
-  function faultsOf(listing, first) {
-    const lines = listing.split("\n");
-    const found = new Map();
-    const most = Math.min(MOST_FAULTS, Math.ceil(MOST_ASKED / listing.length));
-    for (let answer = first; answer.status === STATUS.LISTING && answer.place > 0 && found.size < most;) {
-      const index = answer.place - 1;
-      lines[index] = found.has(answer.place) ? "" : source.withoutFault(lines[index], help.forms());
-      if (!found.has(answer.place)) found.set(answer.place, answer);
-      answer = machine.check(lines.join("\n"));
-    }
-    return [...found.values()].sort((one, other) => one.place - other.place);
+  /** Each faulty line of a listing, in order, with its fault as `check` answers the first. */
+  function faultsOf(listing) {
+    const { text } = machine.faults(listing);
+    return [...text.matchAll(/^listing line (\d+): (\d+) .*$/gm)].map(([line, place, kind]) =>
+      ({ status: STATUS.LISTING, kind: Number(kind), place: Number(place), column: 0, text: "", line }));
   }
 
   return { LAST, MOST_OPERATIONS, endOf, faultsOf, find, firstAt, imageOf, stopOf };

@@ -53,14 +53,5 @@ const source = (() => {
   /** The index in a text of a byte of its UTF-8. */
   const indexOfByte = (text, byte) => new TextDecoder().decode(new TextEncoder().encode(text).subarray(0, byte)).length;
 
-  /** What stands for a faulty line where it makes nothing: an instruction that is counted, a label alone, or nothing. */
-  function withoutFault(line, instructions) {
-    const first = tokensOf(line)[0]?.text ?? "";
-    if (instructions.has(first)) return "ecall";
-    return first.endsWith(":") && first !== line.trim() ? first : "";
-  }
-
-  return {
-    addressAt, addressesOf, indexOfByte, labelsOf, registersOf, tokensOf, withoutFault, wordsOf,
-  };
+  return { addressAt, addressesOf, indexOfByte, labelsOf, registersOf, tokensOf, wordsOf };
 })();

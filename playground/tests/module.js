@@ -65,6 +65,29 @@ function checkAssembly() {
   check("the cases of assembly have each kind of fault", [...Array(14).keys()].every((kind) => kinds.has(kind)), [...kinds]);
 }
 
+/** The faulty lines that the module tells of a listing: the lines of their faults. */
+const faultsOf = (listing) => machine.faults(listing).text.split("\n").slice(0, -1);
+
+/** All faulty lines of a listing: the first as `check` tells it, each in order and once, and none because of another. */
+function checkFaultyLines() {
+  const wrong = cases.filter(({ listing, check: first }) => {
+    const told = faultsOf(bytesOf(listing));
+    const isOfLine = first.status === STATUS.LISTING && first.place > 0;
+    const lines = told.map((line) => Number(/^listing line (\d+): /.exec(line)?.[1]));
+    return told.length > 0 !== isOfLine || (isOfLine && told[0] !== first.line)
+      || lines.some((line, index) => index > 0 && line <= lines[index - 1]);
+  }).map(({ name }) => name);
+  check("the faulty lines of each case begin with the fault that is told", wrong.length === 0, wrong);
+  const hart = ".hart 0x10000000 64 0x10000000 execute";
+  const many = [hart, "frob", "again: nop", "addi c1, c2", "beq c1, c2, again", "again:", "5x:", "j nowhere", ".set c1 int x",
+    "ecall", "\u00e9", "cjal c0, again"].join("\n");
+  check("no line is faulty because of another", same(faultsOf(many), [
+    "listing line 2: 2 Word", "listing line 3: 3 Operand", "listing line 4: 3 Operand", "listing line 6: 6 Twice",
+    "listing line 7: 5 Label", "listing line 8: 2 Word", "listing line 9: 3 Operand", "listing line 11: 1 NotAscii"]),
+  faultsOf(many));
+  check("100 readings of a listing", faultsOf(`${hart}\n${"frob\n".repeat(200)}`).length === 100);
+}
+
 /** What is shown of each good case of assembly: each instruction at its line, with its label. */
 function checkPlaces() {
   const { assembly } = scriptsOf(["playground/source.js", "playground/assembly.js"], ["assembly"]);
@@ -383,6 +406,7 @@ function checkRoom() {
 
 checkCases();
 checkAssembly();
+checkFaultyLines();
 checkPlaces();
 checkAssemblyLimits();
 checkFaults();

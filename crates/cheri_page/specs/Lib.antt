@@ -6,3 +6,4 @@ pub mod Lines
 pub mod Assembly
 pub mod Mapped
 pub mod Searches
+pub mod Faulty

@@ -7,6 +7,7 @@
 mod answer;
 mod assembly;
 mod fault;
+mod faulty;
 mod mapped;
 mod numbers;
 mod runs;
