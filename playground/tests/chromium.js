@@ -416,6 +416,8 @@ withBrowser(async (newTab) => {
   await checkScreens(tab, "playground", () => open(tab), pictures);
   await checkScreens(tab, "playground with faults", () => openFaulty(tab), pictures);
   await checkScreens(tab, "playground with an answer", () => openAnswered(tab), pictures);
+  await tab.screen(1280, 900, false);
+  await openAnswered(tab);
   await checkTree(tab, "the playground with an answer");
   await checkScreens(tab, "playground with assembly", () => openAssembly(tab, open), pictures);
   await checkAssemblyTree(tab, open);
