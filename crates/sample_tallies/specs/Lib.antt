@@ -1,0 +1,5 @@
+pub mod Tables
+pub mod SameStates
+pub mod Tallies
+pub mod Sums
+pub mod Counts

@@ -1,0 +1,14 @@
+//! What many runs in drawn orders gave, counted exactly.
+#![tactic(auto)]
+
+mod counting;
+mod ends;
+pub mod laws;
+mod order;
+mod seen;
+mod tally;
+mod traps;
+
+pub use counting::count_runs;
+pub use seen::{Seen, TrapPlace, TrapSeen};
+pub use tally::Tally;
