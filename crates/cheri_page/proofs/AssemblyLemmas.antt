@@ -5,12 +5,11 @@ use Rattle.canonical.specs.Canon.{canon}
 use Rattle.asm_files.specs.Faults.{IsNoMemory}
 use Rattle.asm_files.specs.declared.fault.AssemblyFault.{AssemblyFault}
 use Rattle.asm_tokens.specs.declared.fault.AsmFault.{AsmFault}
-use Rattle.asm_tokens.specs.declared.fault.AsmFaultKind.{AsmFaultKind}
 use Rattle.asm_image.specs.Whole.{AssembledParts}
 use Rattle.asm_map_reader.specs.Words.{text_of}
 use Rattle.cheri_page.specs.declared.answer.Answer.{Answer}
 use Rattle.cheri_page.specs.declared.fault.Fault.{Fault}
-use Rattle.cheri_page.specs.declared.fault.Fault.TheVariants.{BadName, NoMemory}
+use Rattle.cheri_page.specs.declared.fault.Fault.TheVariants.{BadName}
 use Rattle.cheri_page.specs.Answers.{Told, Answers, IsTold, out_of_memory}
 use Rattle.cheri_page.specs.Faults.{assembly_fault, assembly_fault_of_kind}
 use Rattle.cheri_page.specs.Assembly.{IsListingTold, IsMapText, IsMapTold, IsMeantMap, IsNamedMap, meaning_of, refused, told_of_assembled}

@@ -1,6 +1,6 @@
 -- What is told of a run by a map, from what was read of a listing and of a map.
 use Rattle.std.proofs.Common.{◌≡◌, ℕ, List, [], ◌∷◌, map, refl, ap, sym, subst, ◌∙◌, inl, inr}
-use Rattle.std.specs.Prelude.{◌⊎◌, Result, Ok, Err, Some, None}
+use Rattle.std.specs.Prelude.{◌⊎◌, Result, Ok, Err, Some}
 use Rattle.cheri_model.specs.runs.Image.{ImageParts}
 use Rattle.listings.specs.declared.fault.ListingFault.{ListingFault}
 use Rattle.listings.specs.Faults.{no_memory}
@@ -16,7 +16,7 @@ use Rattle.explanations.specs.declared.selection.Filter.TheVariants as filters
 use Rattle.cheri_page.specs.declared.answer.Answer.{Answer}
 use Rattle.cheri_page.specs.declared.fault.Fault.{Fault}
 use Rattle.cheri_page.specs.declared.fault.Fault.TheVariants.{NoMemory, Map}
-use Rattle.cheri_page.specs.Answers.{Told, Answers, IsTold, out_of_memory}
+use Rattle.cheri_page.specs.Answers.{Told, Answers, IsTold}
 use Rattle.cheri_page.specs.Faults.{listing_fault}
 use Rattle.cheri_page.specs.Runs.{IsRunTold}
 use Rattle.cheri_page.specs.Mapped.{GivesSources, IsMappedTold, IsSourcedRun, counts_of, shown_by, shown_of, sources_meant}

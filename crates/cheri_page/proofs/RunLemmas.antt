@@ -1,5 +1,5 @@
 -- What is told of a run, from what was written of it and how that ended.
-use Rattle.std.proofs.Common.{◌≡◌, ◌∙◌, refl, sym, ap, subst, ℕ, List, [], Option, Result, inl, inr}
+use Rattle.std.proofs.Common.{◌≡◌, ◌∙◌, sym, ap, subst, ℕ, List, [], Option, Result, inl, inr}
 use Rattle.std.specs.Prelude.{Some, Ok, Err, IfOk, IfErr, ◌⊎◌}
 use Rattle.std.specs.Io.KnownBytes.{Appends}
 use Rattle.sinks.specs.Sinks.{Memory}

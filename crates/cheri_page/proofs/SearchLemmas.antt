@@ -1,6 +1,6 @@
 -- What is told of a question, from what was answered to it.
-use Rattle.std.proofs.Common.{◌≡◌, ◌∙◌, sym, ap, subst, ℕ, List, [], Option, Result, inl, inr}
-use Rattle.std.specs.Prelude.{Some, None, Ok, Err, ◌⊎◌}
+use Rattle.std.proofs.Common.{◌≡◌, ◌∙◌, ap, subst, ℕ, List, [], Option, Result, inl, inr}
+use Rattle.std.specs.Prelude.{Some, None, Ok, Err}
 use Rattle.asm_map_reader.specs.Words.{text_of}
 use Rattle.sinks.specs.Sinks.{Memory}
 use Rattle.page_searches.specs.Answered.{Answer as Said, Gives, answer_of}
@@ -10,7 +10,7 @@ use Rattle.cheri_page.specs.declared.answer.Answer.{Answer}
 use Rattle.cheri_page.specs.declared.fault.Fault.{Fault}
 use Rattle.cheri_page.specs.declared.fault.Fault.TheVariants.{BadText}
 use Rattle.cheri_page.specs.Faults.{search_fault}
-use Rattle.cheri_page.specs.Answers.{Told, Answers, IsTold, out_of_memory}
+use Rattle.cheri_page.specs.Answers.{Told, Answers, IsTold}
 use Rattle.cheri_page.specs.Searches.{IsAnswerTold, IsAskedTold, IsFoundTold, IsOutcomesTold, IsRowsTold, IsVerdictsTold, told_of}
 use Rattle.cheri_page.proofs.RunLemmas.{says_more}
 

@@ -9,7 +9,6 @@ use Rattle.grammar.specs.Faults.{listing_fault_number, listing_fault_text}
 use Rattle.grammar.specs.declared.fault.ListingFaultKind.{ListingFaultKind}
 use Rattle.grammar.specs.declared.fault.ListingFaultKind.TheVariants as listing_kinds
 use Rattle.listings.specs.declared.fault.ListingFault.{ListingFault}
-use Rattle.explore_properties.specs.declared.fault.PropertyPlace.{PropertyPlace}
 use Rattle.page_searches.specs.declared.fault.SearchFault.{SearchFault}
 use Rattle.page_searches.specs.declared.fault.SearchFault.TheVariants as searches
 use Rattle.orders.specs.Orders.{order_fault_text}

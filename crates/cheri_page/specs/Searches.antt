@@ -1,5 +1,5 @@
 -- What is told of a question about all orders of a listing.
-use Rattle.std.specs.Prelude.{◌≡◌, ◌⊎◌, ℕ, List, [], Option, Some, None, Result, Ok, Err}
+use Rattle.std.specs.Prelude.{◌≡◌, ◌⊎◌, ℕ, List, [], Option, Some, None, Ok, Err}
 use Rattle.asm_map_reader.specs.Words.{text_of}
 use Rattle.page_searches.specs.Answered.{Answer, IsCheckedAnswer, IsFoundAnswer}
 use Rattle.page_searches.specs.Answered.{IsOutcomesAnswer, IsRowsAnswer}

@@ -1,7 +1,6 @@
-use Rattle.std.proofs.Common.{◌≡◌, ◌≤◌, length, take, arith, ap, ◌∙◌}
+use Rattle.std.proofs.Common.{◌≡◌, take, arith, ap, ◌∙◌}
 use Rattle.std.specs.List.{flat_map}
 use Rattle.std.proofs.lemmas.List.{take_all}
-use Rattle.listing_faults.specs.Faults.{faults_of}
 use Rattle.cheri_page.specs.Faulty.{fault_line, faults_text}
 use Rattle.cheri_page.proofs.faulty.faults_text.Goals as goal
 
