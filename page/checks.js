@@ -49,15 +49,15 @@ function faintTexts() {
   return faint;
 }
 
-/** Roles, names, captions and headers, as a screen reader has them. */
-async function checkTree(tab, name) {
+/** Roles, names, captions and headers, as a screen reader has them, of at least so many tables. */
+async function checkTree(tab, name, fewest = 3) {
   const tree = await tab.tree();
   const controls = ["button", "slider", "checkbox", "link", "textbox", "combobox", "spinbutton"];
   const unnamed = tree.filter(({ role, name }) => controls.includes(role) && !name.trim());
   check(`${name}: every control has a name`, unnamed.length === 0, unnamed);
   const tables = tree.filter(({ role }) => role === "table");
   check(`${name}: every table has a caption`,
-    tables.length >= 3 && tables.every(({ name }) => name.trim()), tables.length);
+    tables.length >= fewest && tables.every(({ name }) => name.trim()), tables.length);
   const roles = new Set(tree.map(({ role }) => role));
   for (const role of ["columnheader", "rowheader", "main", "status", "heading", "slider"]) {
     check(`${name}: there is a ${role}`, roles.has(role));

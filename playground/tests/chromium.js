@@ -418,7 +418,7 @@ withBrowser(async (newTab) => {
   await checkScreens(tab, "playground with an answer", () => openAnswered(tab), pictures);
   await tab.screen(1280, 900, false);
   await openAnswered(tab);
-  await checkTree(tab, "the playground with an answer");
+  await checkTree(tab, "the playground with an answer", 1);
   await checkScreens(tab, "playground with assembly", () => openAssembly(tab, open), pictures);
   await checkAssemblyTree(tab, open);
   await checkAssemblyDownloads(tab, open);
