@@ -3,3 +3,4 @@ pub mod SameStates
 pub mod Tallies
 pub mod Sums
 pub mod Counts
+pub mod Within
