@@ -5,3 +5,4 @@ pub mod TrapLemmas
 pub mod EndLemmas
 pub mod TallyLemmas
 pub mod OrderLemmas
+pub mod WithinLemmas

@@ -4,3 +4,4 @@ pub mod Tallies
 pub mod Sums
 pub mod Counts
 pub mod Within
+pub mod Claims

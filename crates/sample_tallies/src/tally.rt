@@ -27,12 +27,12 @@ use tagged_mem::Ram;
 /// how many runs gave it, and the number of the first.
 #[derive(Drop)]
 pub struct Tally {
-    runs: u64,
-    longest: u32,
-    cut: Option<Seen>,
-    hung: Option<Seen>,
-    traps: Traps,
-    ends: Ends,
+    pub(crate) runs: u64,
+    pub(crate) longest: u32,
+    pub(crate) cut: Option<Seen>,
+    pub(crate) hung: Option<Seen>,
+    pub(crate) traps: Traps,
+    pub(crate) ends: Ends,
 }
 
 impl Model for Tally {
