@@ -1,0 +1,9 @@
+pub mod ItemLemmas
+pub mod ListLemmas
+pub mod CodeLemmas
+pub mod DrawableLemmas
+pub mod FloatLemmas
+pub mod JsonLemmas
+pub mod PropertyLemmas
+pub mod SeeLemmas
+pub mod EndLemmas

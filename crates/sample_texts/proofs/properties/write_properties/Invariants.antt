@@ -1,0 +1,10 @@
+-- those so far are written
+use Rattle.std.proofs.Common.{◌≡◌, ◌++◌, drop, string_bytes}
+use Rattle.report_lines.specs.Texts.{numbered}
+use Rattle.sample_texts.specs.SampleJson.{property_part}
+use Rattle.sample_texts.proofs.properties.write_properties.Given as goal
+
+abbrev pub invariant-loop-place : goal.invariant-loop-place
+invariant-loop-place l =
+    string_bytes l.out ++ numbered (property_part l.format) l.place (drop l.place l.properties)
+      ≡ string_bytes l.initial.out ++ numbered (property_part l.format) 0 l.properties

@@ -1,0 +1,7 @@
+pub mod SampleParts
+pub mod ItemTexts
+pub mod ShownRows
+pub mod PropertyTexts
+pub mod SampleTexts
+pub mod SampleData
+pub mod SampleJson
