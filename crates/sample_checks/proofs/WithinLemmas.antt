@@ -1,8 +1,8 @@
 -- First runs that can be drawn again.
-use Rattle.std.proofs.Common.{◌≡◌, ◌≤◌, ◌+◌, ◌<◌, ℕ, min, zero, suc, Bool, true, false, List, [], ◌∷◌, ◌++◌, All, length, refl, sym, ap, ◌∙◌, subst, arith}
+use Rattle.std.proofs.Common.{◌≡◌, ◌≤◌, ◌+◌, ℕ, zero, suc, Bool, true, false, List, [], ◌∷◌, All, length, refl, subst, arith}
 use Rattle.std.specs.Prelude.{Option, Some, None, fold, map, if◌then◌else◌}
 use Rattle.std.proofs.lemmas.Option.{same_Some}
-use Rattle.std.proofs.lemmas.List.Elements.{All-nil, All-cons, All-head, All-tail, All-append, All-push, All-map, All-weaker}
+use Rattle.std.proofs.lemmas.List.Elements.{All-nil, All-cons, All-head, All-tail, All-append, All-push}
 use Rattle.cheri_model.specs.declared.trace.Status.{Status}
 use Rattle.cheri_model.specs.declared.trace.Status.TheVariants.{Running, Halted, Trapped}
 use Rattle.cheri_model.specs.steps.Hart.{HartState}
@@ -20,7 +20,6 @@ use Rattle.sample_tallies.specs.Tables.{Entry, seen_once, both, either, with_ent
 use Rattle.sample_tallies.specs.SameStates.{same_state, same_place}
 use Rattle.sample_tallies.specs.Tallies.{TallyParts, empty, add, cut_by, hung_by, ended_by, trap_of, traps_from, of_run, one, tally, numbers_from}
 use Rattle.sample_tallies.specs.Within.{is_drawable, IsWithin}
-use Rattle.sample_checks.specs.Checks.{is_drawn}
 
 -- ---- of two
 

@@ -1,6 +1,6 @@
 //! What many runs gave, and what they say of properties.
 
-ghost use Rattle.std.specs.Prelude.{◌≡◌, ◌≤◌, length, map, None, All, IfOk, OnOk};
+ghost use Rattle.std.specs.Prelude.{◌≡◌, ◌≤◌, length, None, All, IfOk, OnOk};
 ghost use Rattle.sample_tallies.specs.Tables.{either};
 ghost use Rattle.sample_tallies.specs.Tallies.{empty, add};
 ghost use Rattle.sample_tallies.specs.Within.{IsWithin};
@@ -90,10 +90,10 @@ impl Checked {
         requires within { IsWithin tally.sum }
         requires drawn { All is_drawn decided.items }
         ensures { result ≡ record {
-            harts = tally.harts;
-            granules = tally.granules;
-            sum = tally.sum;
-            decided = decided.items;
+          harts = tally.harts;
+          granules = tally.granules;
+          sum = tally.sum;
+          decided = decided.items;
         } }
     {
         Checked { tally, decided }

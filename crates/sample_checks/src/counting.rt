@@ -8,7 +8,7 @@ ghost use Rattle.cheri_model.specs.runs.Replay.{is_legal};
 ghost use Rattle.explore_properties.specs.Properties.{PropertyParts};
 ghost use Rattle.sample_tallies.specs.Tallies.{tally, numbers_from};
 ghost use Rattle.sample_checks.specs.Deciding.{decided_after};
-ghost use Rattle.sample_checks.specs.Checks.{seen_if, decided_in, either_each, is_drawn};
+ghost use Rattle.sample_checks.specs.Checks.{seen_if, decided_in, either_each};
 
 use crate::checked::{Checked, either, none_each};
 use crate::machine::Machine;
@@ -77,7 +77,14 @@ fn count_decided(
     for done in 0..count {
         let run = first + done;
         let order = runner.order(alloc, drawing, run)?;
-        see_run(alloc, &mut machine, properties, order.as_slice(), run, &mut decided)?;
+        see_run(
+            alloc,
+            &mut machine,
+            properties,
+            order.as_slice(),
+            run,
+            &mut decided,
+        )?;
     }
     Ok(decided)
 }

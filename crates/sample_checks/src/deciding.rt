@@ -1,9 +1,7 @@
 //! The orders that decide properties.
 
-ghost use Rattle.std.specs.Prelude.{◌≡◌, ◌≤◌, true, Some, None, map, length, All};
+ghost use Rattle.std.specs.Prelude.{◌≡◌, ◌≤◌, Some, None, map, length, All};
 ghost use Rattle.std.specs.Prelude.{IfOk, IfSome, IfNone};
-ghost use Rattle.cheri_model.specs.runs.Replay.{is_legal};
-ghost use Rattle.explore_properties.specs.Properties.{PropertyParts};
 ghost use Rattle.sample_draws.specs.Orders.{drawn_order};
 ghost use Rattle.sample_checks.specs.Deciding.{deciding_part};
 ghost use Rattle.sample_checks.specs.Checks.{is_drawn};
@@ -31,10 +29,10 @@ pub fn deciding_order(
     ensures image { runner.new.image ≡ runner.old.image }
     ensures order { IfOk result (λ part. IfSome part (λ order.
         deciding_part runner.old.image property.now.claim
-            (drawn_order runner.old.image drawing.now run) ≡ Some order.items)) }
+        (drawn_order runner.old.image drawing.now run) ≡ Some order.items)) }
     ensures none { IfOk result (λ part. IfNone part (
         deciding_part runner.old.image property.now.claim
-            (drawn_order runner.old.image drawing.now run) ≡ None)) }
+        (drawn_order runner.old.image drawing.now run) ≡ None)) }
 {
     // Its clause says that sweeps can be taken.
     let _seed = drawing.seed();
@@ -62,7 +60,7 @@ fn told_with(
     ensures image { runner.new.image ≡ runner.old.image }
     ensures told { IfOk result (λ decided. parts_of decided ≡ with_order seen
         (deciding_part runner.old.image property.now.claim
-            (drawn_order runner.old.image drawing.now seen.first))) }
+        (drawn_order runner.old.image drawing.now seen.first))) }
 {
     let order = deciding_order(alloc, runner, drawing, property, seen.first)?;
     match order {

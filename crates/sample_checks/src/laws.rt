@@ -1,6 +1,6 @@
 //! Laws: what runs say of properties adds up, and the first of them decides.
 
-ghost use Rattle.std.specs.Prelude.{◌≡◌, ℕ, List, ◌++◌, Option, Some, IsSome};
+ghost use Rattle.std.specs.Prelude.{◌≡◌, ℕ, List, ◌++◌, Some, IsSome};
 ghost use Rattle.cheri_model.specs.runs.Image.{ImageParts};
 ghost use Rattle.explore_properties.specs.Properties.{PropertyParts};
 ghost use Rattle.sample_draws.specs.Drawings.{DrawingParts};
@@ -14,7 +14,7 @@ pub fn slices_decide_together()
     ensures { (image : ImageParts) (drawing : DrawingParts) (properties : List PropertyParts)
         (numbers more : List ℕ) → decided_in image drawing properties (numbers ++ more)
         ≡ either_each (decided_in image drawing properties numbers)
-            (decided_in image drawing properties more) }
+        (decided_in image drawing properties more) }
 {}
 
 /// The first run that decides a property has a state that does.

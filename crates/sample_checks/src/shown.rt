@@ -53,8 +53,8 @@ impl StateView for Shown<'_> {
 fn is_over(shown: Shown<'_>) -> bool
     requires { length shown.harts.now ≤ MAX_HARTS }
     ensures { result ≡ is_over (record {
-        harts = shown.entry.harts.now;
-        memory = shown.entry.ram.now;
+      harts = shown.entry.harts.now;
+      memory = shown.entry.ram.now;
     }) }
 {
     list_running(shown.harts).as_slice().is_empty()
@@ -65,8 +65,8 @@ fn is_over(shown: Shown<'_>) -> bool
 pub(crate) fn decides_when(shown: Shown<'_>, when: When, condition: &Condition) -> bool
     requires { length shown.harts.now ≤ MAX_HARTS }
     ensures { result ≡ decides_when when condition.now (record {
-        harts = shown.entry.harts.now;
-        memory = shown.entry.ram.now;
+      harts = shown.entry.harts.now;
+      memory = shown.entry.ram.now;
     }) }
 {
     match when {

@@ -1,4 +1,4 @@
-use Rattle.std.proofs.Common.{◌≡◌, ◌≤◌, All, List, sym, subst}
+use Rattle.std.proofs.Common.{All, List, sym, subst}
 use Rattle.std.specs.Prelude.{Option}
 use Rattle.sample_tallies.specs.declared.seen.Seen.{Seen}
 use Rattle.sample_tallies.specs.Tallies.{numbers_from}

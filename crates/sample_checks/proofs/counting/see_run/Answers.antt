@@ -2,7 +2,6 @@ use Rattle.std.proofs.Common.{◌≡◌, ◌<◌, ℕ, List, length, get_or, ref
 use Rattle.std.specs.Prelude.{Option, None, slice_set}
 use Rattle.std.proofs.lemmas.List.{get_or_default}
 use Rattle.cheri_model.specs.runs.Image.{ImageParts}
-use Rattle.explore_properties.specs.Properties.{PropertyParts}
 use Rattle.explore_properties.specs.declared.claims.Claim.{Claim}
 use Rattle.sample_tallies.specs.declared.seen.Seen.{Seen}
 use Rattle.sample_tallies.specs.Tables.{either}

@@ -1,4 +1,4 @@
-use Rattle.std.proofs.Common.{◌≡◌, All, List, sym, subst, ap, ◌∙◌}
+use Rattle.std.proofs.Common.{All, List, sym, subst, ap, ◌∙◌}
 use Rattle.std.specs.Prelude.{Option}
 use Rattle.std.proofs.lemmas.List.{with_items_is}
 use Rattle.sample_tallies.specs.declared.seen.Seen.{Seen}

@@ -1,6 +1,4 @@
-use Rattle.std.proofs.Common.{◌≡◌, List, refl, ap, ◌∙◌}
-use Rattle.cap_model.specs.values.CapValue.{CapValue}
-use Rattle.cheri_model.specs.steps.Hart.{HartState}
+use Rattle.std.proofs.Common.{ap, ◌∙◌}
 use Rattle.cheri_model.specs.runs.Machine.{opening_state}
 use Rattle.sample_runs.specs.Runners.{RunnerParts}
 use Rattle.sample_checks.proofs.MachineLemmas.{is_opening}
