@@ -1,13 +1,10 @@
 -- Rounds, and what their parts give together.
-use Rattle.std.proofs.Common.{◌≡◌, ◌≤◌, ◌<◌, ◌+◌, ◌-◌, ◌*◌, ℕ, min, zero, suc, List, [], ◌∷◌, ◌++◌, length, refl, sym, ap, ◌∙◌, subst, arith}
+use Rattle.std.proofs.Common.{◌≡◌, ◌≤◌, ◌<◌, ◌+◌, ◌-◌, ◌*◌, ℕ, zero, suc, List, [], ◌∷◌, ◌++◌, length, sym, ap, ◌∙◌, subst, arith}
 use Rattle.std.specs.Prelude.{Result, Ok, Err, IfOk}
 use Rattle.std.specs.Result.{IsOkAnd}
 use Rattle.std.proofs.lemmas.Result.{IfOk-weaker}
 use Rattle.std.proofs.Math.Nat.{mul-add, mul-le-mul_right}
 use Rattle.std.proofs.lemmas.List.{append-nil, append_assoc}
-use Rattle.cheri_model.specs.runs.Image.{ImageParts}
-use Rattle.explore_properties.specs.Properties.{PropertyParts}
-use Rattle.sample_draws.specs.Drawings.{DrawingParts}
 use Rattle.sample_tallies.specs.Tallies.{TallyParts, tally, add, numbers_from}
 use Rattle.sample_tallies.proofs.TallyLemmas.{slices_sum}
 use Rattle.sample_checks.specs.Checks.{CheckedParts, decided_in, either_each}

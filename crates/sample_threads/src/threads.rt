@@ -4,8 +4,8 @@ ghost use Rattle.std.specs.Prelude.{◌≡◌, ◌<◌, ◌≤◌, ℕ, ◌+◌,
 ghost use Rattle.std.specs.Prelude.{IfOk};
 ghost use Rattle.std.specs.Result.{IsOkAnd};
 ghost use Rattle.cheri_model.specs.runs.Image.{opening_memory};
-ghost use Rattle.sample_tallies.specs.Tallies.{tally, add, numbers_from};
-ghost use Rattle.sample_checks.specs.Checks.{decided_in, either_each};
+ghost use Rattle.sample_tallies.specs.Tallies.{tally, numbers_from};
+ghost use Rattle.sample_checks.specs.Checks.{decided_in};
 ghost use Rattle.sample_threads.specs.Rounds.{Counts, CountsPart, IsAlike, IsSum, cut_at};
 
 use crate::rounds::{Round, Runs};
@@ -34,7 +34,14 @@ fn count_part(
     let from = round.cut_at(runs.count, part);
     let to = round.cut_at(runs.count, part + 1);
     let first = runs.first + from;
-    count_checked(alloc, runs.image, runs.drawing, runs.properties, first, to - from)
+    count_checked(
+        alloc,
+        runs.image,
+        runs.drawing,
+        runs.properties,
+        first,
+        to - from,
+    )
 }
 
 /// Counts the parts of a round, each in a thread of its own where there is more than one.
@@ -51,9 +58,12 @@ fn count_parts<R: Threads + Sync>(
         IfOk (slice_index_or parts.items i d) (CountsPart runs.now round i)) }
 {
     let count = usize::from(round.parts);
-    thread::map_indices(rt, alloc, count, &move |part| {
-        count_part(alloc, runs, round, part as u64)
-    })
+    thread::map_indices(
+        rt,
+        alloc,
+        count,
+        &move |part| { count_part(alloc, runs, round, part as u64) },
+    )
 }
 
 /// Adds a part, if it could be counted.
@@ -121,7 +131,14 @@ fn no_runs(alloc: Global, runs: &Runs<'_, '_>) -> Result<Checked, AllocError>
     requires { runs.now.first ≤ MAX_RUN + 1 }
     ensures { IfOk result (Counts runs.now 0) }
 {
-    count_checked(alloc, runs.image, runs.drawing, runs.properties, runs.first, 0)
+    count_checked(
+        alloc,
+        runs.image,
+        runs.drawing,
+        runs.properties,
+        runs.first,
+        0,
+    )
 }
 
 /// So many runs, as they are reported.
