@@ -1,21 +1,19 @@
 -- First runs that can be drawn again.
-use Rattle.std.proofs.Common.{◌≡◌, ℕ, zero, suc, ◌+◌, ◌<◌, ◌≤◌, min, Bool, true, false, List, [], ◌∷◌, length, map, get_or, refl, ap, sym, ◌∙◌, subst, arith, inl, inr}
-use Rattle.std.specs.Prelude.{All, Some, fold, slice_get, if◌then◌else◌}
+use Rattle.std.proofs.Common.{◌≡◌, ℕ, zero, suc, ◌≤◌, min, Bool, List, [], ◌∷◌, map, sym, subst, arith, inl, inr}
+use Rattle.std.specs.Prelude.{All, Some, fold, slice_get}
 use Rattle.std.proofs.lemmas.Bool.{cases_Bool}
 use Rattle.std.proofs.lemmas.Option.{slice_get_within, get_or_from_slice_get}
 use Rattle.cheri_model.specs.runs.Machine.{MachineState}
 use Rattle.conditions.specs.declared.parts.Shown.{Shown}
 use Rattle.outcomes.specs.declared.items.ItemValue.{ItemValue}
 use Rattle.sample_draws.specs.declared.drawing.TheConstants.{MAX_RUN}
-use Rattle.sample_tallies.specs.declared.seen.Seen.{Seen}
 use Rattle.sample_tallies.specs.declared.seen.TrapPlace.{TrapPlace}
 use Rattle.sample_tallies.specs.declared.seen.TrapSeen.{TrapSeen}
 use Rattle.sample_tallies.specs.Counts.{entry_of}
 use Rattle.sample_tallies.specs.Sums.{traps_in_order, ends_in_order, is_later_trap, is_later_end}
-use Rattle.sample_tallies.specs.Tables.{Entry, both, placed, with_entry}
+use Rattle.sample_tallies.specs.Tables.{Entry, placed, with_entry}
 use Rattle.sample_tallies.specs.Tallies.{TallyParts}
 use Rattle.sample_tallies.specs.Within.{is_drawable, IsWithin}
-use Rattle.sample_tallies.proofs.TableLemmas.{grown, at_hit, at_miss}
 use Rattle.sample_texts.specs.declared.table.ShownRow.{ShownRow}
 use Rattle.sample_texts.specs.ShownRows.{same_row, row_of, rows_of, shown_rows}
 

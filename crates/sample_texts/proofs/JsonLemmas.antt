@@ -1,13 +1,12 @@
 -- An answer in JSON is its parts.
-use Rattle.std.proofs.Common.{◌≡◌, ℕ, ◌+◌, Bool, true, false, List, [], ◌∷◌, ◌++◌, codes, decimal, map, refl, sym, ap, ◌∙◌, append_assoc}
+use Rattle.std.proofs.Common.{◌≡◌, ℕ, ◌+◌, true, List, [], ◌∷◌, ◌++◌, codes, decimal, map, refl, sym, ap, ◌∙◌, append_assoc}
 use Rattle.std.specs.Prelude.{nat_lt, Option, Some, None}
 use Rattle.serde_json.proofs.OnLiterals.{serde_json_on_literals}
 use Rattle.serde_json.specs.Data.{Data, string, array, object, Members, no_members, member}
 use Rattle.serde_json.specs.View.{items_of}
-use Rattle.serde_json.specs.Written.{comma_if, compact_text, members_text, has_float, members_have_float}
+use Rattle.serde_json.specs.Written.{comma_if, compact_text, members_text}
 use Rattle.cheri_model.specs.runs.Machine.{MachineState}
 use Rattle.conditions.specs.Items.{ItemList}
-use Rattle.outcomes.specs.declared.items.ItemValue.{ItemValue}
 use Rattle.report_lines.specs.EventData.{image_data}
 use Rattle.report_lines.specs.JsonText.{item_text}
 use Rattle.report_lines.specs.Texts.{numbered}
@@ -15,19 +14,16 @@ use Rattle.report_lines.specs.ValueData.{count}
 use Rattle.report_lines.proofs.JsonLists.{list_text}
 use Rattle.reports.specs.Json.{harts_data, memory_data}
 use Rattle.sample_draws.specs.Drawings.{DrawingParts}
-use Rattle.sample_tallies.specs.declared.seen.Seen.{Seen}
 use Rattle.sample_tallies.specs.declared.seen.TrapPlace.{TrapPlace}
 use Rattle.sample_tallies.specs.Sums.{traps_in_order, ends_in_order}
 use Rattle.sample_tallies.specs.Tables.{Entry}
 use Rattle.sample_checks.specs.declared.told.PropertySeen.{PropertySeen}
 use Rattle.sample_texts.specs.declared.spans.Span.{Span}
 use Rattle.sample_texts.specs.PropertyTexts.{property_data}
-use Rattle.sample_texts.specs.SampleData.{depth_member, drawn_data, items_member, list_member, order_data, outcome_data, outcomes_member, properties_member, row_data, runs_data, sample_data, sample_text, shown_member, span_data, sweep_data, trap_data}
+use Rattle.sample_texts.specs.SampleData.{depth_member, drawn_data, items_member, list_member, outcome_data, outcomes_member, properties_member, row_data, runs_data, sample_data, sample_text, shown_member, span_data, sweep_data, trap_data}
 use Rattle.sample_texts.specs.SampleJson.{depth_part, drawn_json, outcome_json, items_json, json_head, numbers_json, outcomes_json, properties_json, sample_json, sample_whole, shown_json, traps_json}
 use Rattle.sample_texts.specs.SampleParts.{Drawn, SampledParts, drawn_of}
-use Rattle.sample_texts.specs.SampleTexts.{sample_lines}
 use Rattle.sample_texts.specs.ShownRows.{shown_rows}
-use Rattle.schedules.specs.declared.ranges.SweepRange.{SweepRange}
 use Rattle.shown_states.specs.StateTexts.{state_members}
 use Rattle.shown_states.specs.declared.form.Format.{Format}
 use Rattle.shown_states.specs.declared.form.Format.TheVariants.{Text, Json}

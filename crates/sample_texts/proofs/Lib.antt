@@ -2,7 +2,8 @@ pub mod ItemLemmas
 pub mod ListLemmas
 pub mod CodeLemmas
 pub mod DrawableLemmas
-pub mod FloatLemmas
+pub mod Floats
+pub mod Unfold
 pub mod JsonLemmas
 pub mod PropertyLemmas
 pub mod SeeLemmas

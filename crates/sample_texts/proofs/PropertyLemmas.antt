@@ -1,6 +1,6 @@
 -- The first property that is violated, one by one.
-use Rattle.std.proofs.Common.{◌≡◌, ℕ, ◌+◌, ◌<◌, ◌≤◌, List, [], ◌∷◌, length, drop, ◌++◌, refl, sym, ◌∙◌, add-one, append-nil, arith, drop-cons}
-use Rattle.std.specs.Prelude.{Bool, true, false, slice_index_or, if◌then◌else◌}
+use Rattle.std.proofs.Common.{◌≡◌, ℕ, ◌+◌, ◌<◌, ◌≤◌, List, [], ◌∷◌, length, drop, ◌++◌, refl, sym, add-one, append-nil, arith, drop-cons}
+use Rattle.std.specs.Prelude.{Bool, true, false, slice_index_or}
 use Rattle.std.proofs.Math.ListN.{drop_of_length-le}
 use Rattle.sample_checks.specs.declared.told.PropertySeen.{PropertySeen}
 use Rattle.sample_texts.specs.PropertyTexts.{is_violated, may_hold, sample_ending}
@@ -40,3 +40,5 @@ pub some_properties : (list : List PropertySeen) (out : List ℕ) → ¬ (length
     → out ++ property_list list ≡ out ++ properties_json list
 some_properties [] out some = absurd (some refl)
 some_properties (told ∷ more) out some = refl
+
+pub ruleset property_members = (no_properties, some_properties)

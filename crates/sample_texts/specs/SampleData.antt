@@ -1,6 +1,6 @@
 -- An answer of `sample` in JSON.
 use Rattle.std.specs.Prelude.{ℕ, List, [], ◌∷◌, map, codes, Option, Some, None}
-use Rattle.serde_json.specs.Data.{Data, Members, string, array, object, Items, no_items, item}
+use Rattle.serde_json.specs.Data.{Data, Members, string, array, object, no_items, item}
 use Rattle.serde_json.specs.Data.{no_members, member}
 use Rattle.serde_json.specs.View.{items_of}
 use Rattle.serde_json.specs.Written.{compact_text}

@@ -1,6 +1,6 @@
 -- An answer of `sample` in the parts in which it is written.
 use Rattle.std.specs.Prelude.{ℕ, nat_lt, List, [], ◌∷◌, codes, decimal, Option, Some, None}
-use Rattle.serde_json.specs.Data.{Data, string}
+use Rattle.serde_json.specs.Data.{string}
 use Rattle.serde_json.specs.Written.{comma_if, compact_text}
 use Rattle.cheri_model.specs.runs.Machine.{MachineState}
 use Rattle.conditions.specs.Items.{ItemList}

@@ -1,5 +1,5 @@
 -- The lines of an answer of `sample`.
-use Rattle.std.specs.Prelude.{ℕ, nat_lt, List, ◌++◌, length, codes, decimal, Option, Some, None}
+use Rattle.std.specs.Prelude.{ℕ, nat_lt, List, length, codes, decimal, Option, Some, None}
 use Rattle.serde_json.specs.Written.{comma_if}
 use Rattle.cheri_model.specs.declared.operation.Op.TheVariants as operation
 use Rattle.cheri_model.specs.runs.Machine.{MachineState}

@@ -74,7 +74,12 @@ pub(crate) fn write_drawn_line(
     ensures { OnOk result (string_bytes out.new
         ≡ string_bytes out.old ++ drawn_line drawing.now) }
 {
-    write!(out, "drawn seed={} length={} depth=", drawing.seed(), drawing.length())?;
+    write!(
+        out,
+        "drawn seed={} length={} depth=",
+        drawing.seed(),
+        drawing.length()
+    )?;
     write_depth(out, drawing.depth())?;
     write_sweeps(alloc, Format::Text, out, drawing.sweeps())?;
     out.push_str("\n")?;

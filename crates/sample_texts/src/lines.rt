@@ -12,8 +12,8 @@ ghost use Rattle.sample_texts.specs.SampleTexts.{runs_line, sample_lines, trap_l
 
 use crate::drawn::write_drawn_line;
 use crate::ends::write_outcomes;
-use crate::redrawn::Orders;
 use crate::properties::write_properties;
+use crate::redrawn::Orders;
 use crate::rows::write_rows;
 use crate::sampled::Sampled;
 use crate::spans::{Span, write_spans};

@@ -20,8 +20,8 @@ ghost use Rattle.serde_json.specs.Written.{compact_text};
 
 use crate::drawn::write_drawn_json;
 use crate::ends::write_outcomes;
-use crate::redrawn::Orders;
 use crate::properties::write_properties;
+use crate::redrawn::Orders;
 use crate::rows::write_rows;
 use crate::sampled::Sampled;
 use crate::spans::{Span, write_spans};
@@ -52,12 +52,8 @@ fn runs_json(orders: &mut Orders<'_>, seen: Option<Seen>) -> Result<Value, NoMem
 }
 
 /// Appends the object of runs of which there may be none.
-#[tactic(auto, using(crate::proofs::FloatLemmas::runs_no_float))]
-fn write_runs(
-    out: &mut String,
-    orders: &mut Orders<'_>,
-    seen: Option<Seen>,
-) -> Result<(), NoMemory>
+#[tactic(auto, using(crate::proofs::Floats::floatless))]
+fn write_runs(out: &mut String, orders: &mut Orders<'_>, seen: Option<Seen>) -> Result<(), NoMemory>
     requires { (s : Seen) → seen ≡ Some s → is_drawable s }
     ensures written { OnOk result (string_bytes out.new
         ≡ string_bytes out.old ++ compact_text (runs_data orders.old seen)) }
@@ -77,11 +73,7 @@ fn write_image(alloc: Global, out: &mut String, image: &Image) -> Result<(), NoM
 }
 
 /// Appends the members up to the image.
-fn write_head(
-    out: &mut String,
-    orders: &mut Orders<'_>,
-    tally: &Tally,
-) -> Result<(), NoMemory>
+fn write_head(out: &mut String, orders: &mut Orders<'_>, tally: &Tally) -> Result<(), NoMemory>
     requires { IsTold orders.old.image tally.now }
     ensures written { OnOk result (string_bytes out.new
         ≡ string_bytes out.old ++ json_head orders.old tally.now.sum) }
@@ -120,11 +112,7 @@ fn write_names(alloc: Global, out: &mut String, names: &[&str]) -> Result<(), No
 }
 
 /// Appends the member of the items, where items are shown.
-fn write_items(
-    alloc: Global,
-    out: &mut String,
-    items: Option<&Items<'_>>,
-) -> Result<(), NoMemory>
+fn write_items(alloc: Global, out: &mut String, items: Option<&Items<'_>>) -> Result<(), NoMemory>
     ensures { OnOk result (string_bytes out.new
         ≡ string_bytes out.old ++ items_json (shown_items items.entry)) }
 {
@@ -200,7 +188,7 @@ fn write_property_list(
 }
 
 /// Appends the member of the properties, where there are any.
-#[tactic(auto, using(crate::proofs::PropertyLemmas::some_properties, crate::proofs::PropertyLemmas::no_properties))]
+#[tactic(auto, using(crate::proofs::PropertyLemmas::property_members))]
 fn write_properties_member(
     alloc: Global,
     out: &mut String,

@@ -119,11 +119,7 @@ fn unseen_json(alloc: Global, property: &Property<'_>) -> Result<Value, NoMemory
 }
 
 /// A property that holds.
-fn held_json(
-    alloc: Global,
-    property: &Property<'_>,
-    decided: &Decided,
-) -> Result<Value, NoMemory>
+fn held_json(alloc: Global, property: &Property<'_>, decided: &Decided) -> Result<Value, NoMemory>
     ensures { IfOk result (λ v. data_of v ≡ held_data property.now decided.now) }
 {
     let order = order_text(alloc, decided.order.as_slice())?;
@@ -170,7 +166,7 @@ fn property_json(alloc: Global, told: &PropertySeen<'_, '_>) -> Result<Value, No
 }
 
 /// Appends a property, by its place.
-#[tactic(auto, using(crate::proofs::FloatLemmas::property_no_float), unfolding(report_lines::specs::JsonText::item_text))]
+#[tactic(auto, using(crate::proofs::Floats::floatless), unfolding(crate::proofs::Unfold::items))]
 fn write_property(
     alloc: Global,
     format: Format,

@@ -32,11 +32,7 @@ impl<'d> Model for Orders<'d> {
 
 impl<'d> Orders<'d> {
     /// Those of runs of an image. Fails only when out of memory, as all calls here.
-    pub fn open(
-        alloc: Global,
-        image: &Image,
-        drawing: &'d Drawing,
-    ) -> Result<Orders<'d>, NoMemory>
+    pub fn open(alloc: Global, image: &Image, drawing: &'d Drawing) -> Result<Orders<'d>, NoMemory>
         ensures image { IfOk result (λ orders. orders.image ≡ image.now) }
         ensures drawing { IfOk result (λ orders. orders.drawing ≡ drawing.now) }
     {

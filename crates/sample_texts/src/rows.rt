@@ -77,7 +77,11 @@ fn write_line(
         ++ row_line orders.old (map (λ name. name.now) names.now) place (shown_part row.now)) }
     ensures same { orders.new ≡ orders.old }
 {
-    write!(out, "{place} runs={} first={}", row.seen.runs, row.seen.first)?;
+    write!(
+        out,
+        "{place} runs={} first={}",
+        row.seen.runs, row.seen.first
+    )?;
     write_items(out, names, row.values.as_slice())?;
     out.push_str(" order=")?;
     orders.write(out, row.seen.first)?;
@@ -106,11 +110,7 @@ fn items_json(alloc: Global, names: &[&str], values: &[ItemValue]) -> Result<Val
 
 /// A row with the order of its first run.
 #[tactic(auto, unfolding(crate::specs::SampleData::row_data))]
-fn row_json(
-    orders: &mut Orders<'_>,
-    names: &[&str],
-    row: &ShownRow,
-) -> Result<Value, NoMemory>
+fn row_json(orders: &mut Orders<'_>, names: &[&str], row: &ShownRow) -> Result<Value, NoMemory>
     requires { is_drawable row.now.seen }
     ensures value { IfOk result (λ v. data_of v
         ≡ row_data orders.old (map (λ name. name.now) names.now) (shown_part row.now)) }
@@ -123,7 +123,7 @@ fn row_json(
 }
 
 /// Appends the object of a row, by its place.
-#[tactic(auto, using(crate::proofs::FloatLemmas::row_no_float), unfolding(report_lines::specs::JsonText::item_text))]
+#[tactic(auto, using(crate::proofs::Floats::floatless), unfolding(crate::proofs::Unfold::items))]
 fn write_object(
     out: &mut String,
     orders: &mut Orders<'_>,

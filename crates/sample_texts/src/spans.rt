@@ -31,11 +31,7 @@ fn write_span(format: Format, out: &mut String, place: usize, span: Span) -> Res
 }
 
 /// Appends spans.
-pub(crate) fn write_spans(
-    format: Format,
-    out: &mut String,
-    spans: &[Span],
-) -> Result<(), NoMemory>
+pub(crate) fn write_spans(format: Format, out: &mut String, spans: &[Span]) -> Result<(), NoMemory>
     ensures { OnOk result (string_bytes out.new
         ≡ string_bytes out.old ++ numbered (span_part format) 0 spans.now) }
 {

@@ -53,7 +53,7 @@ fn trap_json(orders: &mut Orders<'_>, trap: TrapSeen) -> Result<Value, NoMemory>
 }
 
 /// Appends the object of a trap, by its place in a list.
-#[tactic(auto, using(crate::proofs::FloatLemmas::trap_no_float), unfolding(report_lines::specs::JsonText::item_text))]
+#[tactic(auto, using(crate::proofs::Floats::floatless), unfolding(crate::proofs::Unfold::items))]
 fn write_object(
     out: &mut String,
     orders: &mut Orders<'_>,

@@ -1,4 +1,4 @@
-use Rattle.std.proofs.Common.{◌≡◌, ℕ, List, ◌++◌, map, refl, ap, sym, ◌∙◌}
+use Rattle.std.proofs.Common.{refl}
 use Rattle.report_lines.proofs.Items.{numbered_step, numbered_end}
 use Rattle.sample_texts.specs.SampleJson.{sweep_part}
 use Rattle.sample_texts.proofs.drawn.write_sweeps.Goals as goal

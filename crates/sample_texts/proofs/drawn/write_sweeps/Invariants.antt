@@ -7,4 +7,4 @@ use Rattle.sample_texts.proofs.drawn.write_sweeps.Given as goal
 abbrev pub invariant-loop-place : goal.invariant-loop-place
 invariant-loop-place l =
     string_bytes l.out ++ numbered (sweep_part l.format) l.place (drop l.place l.sweeps)
-      ≡ string_bytes l.initial.out ++ numbered (sweep_part l.format) 0 l.sweeps
+    ≡ string_bytes l.initial.out ++ numbered (sweep_part l.format) 0 l.sweeps

@@ -1,4 +1,4 @@
-use Rattle.std.proofs.Common.{refl, sym, ap, ◌∙◌, subst}
+use Rattle.std.proofs.Common.{refl, sym, subst}
 use Rattle.std.specs.Prelude.{Option, IsSome}
 use Rattle.cheri_model.specs.runs.Machine.{MachineState}
 use Rattle.sample_tallies.proofs.EndLemmas.{end_at, loaded_size}

@@ -1,4 +1,4 @@
-use Rattle.std.proofs.Common.{List, ℕ, ◌++◌, codes, decimal, nat_lt, string_bytes}
+use Rattle.std.proofs.Common.{◌++◌, codes, decimal, nat_lt, string_bytes}
 use Rattle.serde_json.specs.Data.{string}
 use Rattle.serde_json.specs.Written.{comma_if, compact_text}
 use Rattle.shown_states.specs.StateTexts.{state_members}

@@ -1,4 +1,4 @@
-use Rattle.std.proofs.Common.{◌≡◌, length, ◌∙◌, append_assoc}
+use Rattle.std.proofs.Common.{◌≡◌, length, append_assoc}
 use Rattle.sample_tallies.specs.Sums.{ends_in_order}
 use Rattle.sample_texts.proofs.EndLemmas.{picked_long}
 use Rattle.sample_texts.proofs.lines.write_outcome_lines.Goals as goal

@@ -1,4 +1,4 @@
-use Rattle.std.proofs.Common.{◌≡◌, ℕ, List, ◌++◌, map, refl, ap, sym, ◌∙◌}
+use Rattle.std.proofs.Common.{refl}
 use Rattle.sample_texts.proofs.ListLemmas.{mapped_step, mapped_end}
 use Rattle.serde_json.specs.Data.{string}
 use Rattle.report_lines.specs.JsonText.{item_text}

@@ -1,11 +1,10 @@
-use Rattle.std.proofs.Common.{List, ◌≡◌, length, ap, sym, ◌∙◌, append_assoc, subst}
+use Rattle.std.proofs.Common.{List, ◌≡◌, ap, sym, ◌∙◌, append_assoc, subst}
 use Rattle.std.specs.Prelude.{All}
-use Rattle.std.proofs.lemmas.List.{length-map}
 use Rattle.conditions.specs.declared.parts.Shown.{Shown}
 use Rattle.sample_tallies.specs.Sums.{ends_in_order}
 use Rattle.sample_tallies.specs.Within.{is_drawable}
 use Rattle.sample_texts.specs.declared.table.ShownRow.{ShownRow}
-use Rattle.sample_texts.specs.ShownRows.{rows_of, shown_part, shown_rows}
+use Rattle.sample_texts.specs.ShownRows.{rows_of, shown_rows}
 use Rattle.sample_texts.proofs.members.write_row_list.Goals as goal
 
 pub write_rows-requires : goal.write_rows-requires

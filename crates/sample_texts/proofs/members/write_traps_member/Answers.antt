@@ -1,8 +1,5 @@
-use Rattle.std.proofs.Common.{List, length, append_assoc, ap, sym, ◌≡◌, ◌∙◌, subst}
+use Rattle.std.proofs.Common.{List, append_assoc, sym, subst}
 use Rattle.std.specs.Prelude.{All}
-use Rattle.std.proofs.lemmas.List.{length-map}
-use Rattle.sample_tallies.specs.Counts.{entry_of}
-use Rattle.sample_tallies.specs.Sums.{traps_in_order}
 use Rattle.sample_tallies.specs.Within.{is_drawable}
 use Rattle.sample_tallies.specs.declared.seen.TrapSeen.{TrapSeen}
 use Rattle.sample_texts.specs.SampleJson.{traps_json}

@@ -1,4 +1,3 @@
-use Rattle.std.proofs.Common.{◌≡◌, ℕ, List, ◌++◌, map, ap, sym, ◌∙◌}
 use Rattle.report_lines.proofs.Items.{numbered_step, numbered_end}
 use Rattle.sample_texts.specs.SampleJson.{property_part}
 use Rattle.sample_texts.proofs.properties.write_properties.Goals as goal

@@ -7,4 +7,4 @@ use Rattle.sample_texts.proofs.properties.write_properties.Given as goal
 abbrev pub invariant-loop-place : goal.invariant-loop-place
 invariant-loop-place l =
     string_bytes l.out ++ numbered (property_part l.format) l.place (drop l.place l.properties)
-      ≡ string_bytes l.initial.out ++ numbered (property_part l.format) 0 l.properties
+    ≡ string_bytes l.initial.out ++ numbered (property_part l.format) 0 l.properties

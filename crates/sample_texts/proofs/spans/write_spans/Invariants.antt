@@ -7,4 +7,4 @@ use Rattle.sample_texts.proofs.spans.write_spans.Given as goal
 abbrev pub invariant-loop-place : goal.invariant-loop-place
 invariant-loop-place l =
     string_bytes l.out ++ numbered (span_part l.format) l.place (drop l.place l.spans)
-      ≡ string_bytes l.initial.out ++ numbered (span_part l.format) 0 l.spans
+    ≡ string_bytes l.initial.out ++ numbered (span_part l.format) 0 l.spans

@@ -1,4 +1,4 @@
-use Rattle.std.proofs.Common.{◌≡◌, ℕ, ◌*◌, ◌<◌, ◌≤◌, List, length, ap, ◌∙◌, subst, arith}
+use Rattle.std.proofs.Common.{◌≡◌, ℕ, ◌<◌, ◌≤◌, List, length, ap, ◌∙◌, subst, arith}
 use Rattle.interner.specs.Rows.{IsInterned}
 use Rattle.outcomes.specs.Items.{codes_of}
 use Rattle.outcomes.specs.declared.items.ItemValue.{ItemValue}

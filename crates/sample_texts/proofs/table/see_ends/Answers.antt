@@ -1,4 +1,4 @@
-use Rattle.std.proofs.Common.{ℕ, ◌*◌, List, length, map, ap, sym, ◌∙◌}
+use Rattle.std.proofs.Common.{ℕ, ◌*◌, length, map, ap, sym, ◌∙◌}
 use Rattle.outcomes.specs.Items.{codes_of, values_of}
 use Rattle.sample_tallies.specs.Sums.{ends_in_order}
 use Rattle.sample_tallies.proofs.OrderLemmas.{picked_at}

@@ -1,6 +1,6 @@
 -- No value of an answer has a float.
 use Rattle.std.proofs.Common.{◌≡◌, ℕ, Bool, true, false, List, refl}
-use Rattle.std.specs.Prelude.{Option, Some, None, if◌then◌else◌}
+use Rattle.std.specs.Prelude.{Option, Some, None}
 use Rattle.serde_json.specs.Data.{no_members}
 use Rattle.serde_json.specs.Written.{has_float}
 use Rattle.outcomes.specs.declared.items.ItemValue.{ItemValue}
@@ -35,3 +35,5 @@ answer_no_float property false (Some decided) = refl
 pub property_no_float : (told : PropertySeen) → has_float (property_data told) ≡ false
 unfolding property_data
 property_no_float told = answer_no_float told.property.now (may_hold told.property.now.claim) told.decided
+
+pub ruleset floatless = (trap_no_float, runs_no_float, row_no_float, property_no_float)
