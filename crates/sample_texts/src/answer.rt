@@ -20,7 +20,7 @@ fn write_answer(
     format: Format,
     out: &mut String,
     orders: &mut Orders<'_>,
-    sampled: Sampled<'_>,
+    sampled: Sampled<'_, '_>,
 ) -> Result<(), NoMemory>
     requires told { IsTold orders.old.image sampled.tally.now }
     requires drawn { orders.old ≡ drawn_of (sampled_of sampled) }
@@ -35,7 +35,11 @@ fn write_answer(
 
 /// What is told of runs in drawn orders. Fails only when out of memory or of numbers, or where the
 /// runs of a row of values reach 2^64.
-pub fn sample_text(alloc: Global, format: Format, sampled: Sampled<'_>) -> Result<String, NoMemory>
+pub fn sample_text(
+    alloc: Global,
+    format: Format,
+    sampled: Sampled<'_, '_>,
+) -> Result<String, NoMemory>
     requires harts { sampled.tally.now.harts ≡ length sampled.image.now.harts }
     requires granules { sampled.tally.now.granules ≡ length
         (opening_memory sampled.image.now.ram sampled.image.now.granules) }

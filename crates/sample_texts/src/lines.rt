@@ -152,7 +152,7 @@ fn write_ends_lines(
 pub(crate) fn write_text(
     out: &mut String,
     orders: &mut Orders<'_>,
-    sampled: Sampled<'_>,
+    sampled: Sampled<'_, '_>,
 ) -> Result<(), NoMemory>
     requires told { IsTold orders.old.image sampled.tally.now }
     requires drawn { orders.old ≡ drawn_of (sampled_of sampled) }

@@ -264,7 +264,7 @@ fn write_traps_member(
 pub(crate) fn write_json(
     out: &mut String,
     orders: &mut Orders<'_>,
-    sampled: Sampled<'_>,
+    sampled: Sampled<'_, '_>,
 ) -> Result<(), NoMemory>
     requires told { IsTold orders.old.image sampled.tally.now }
     requires drawn { orders.old ≡ drawn_of (sampled_of sampled) }
