@@ -205,8 +205,9 @@ row_wide store harts rows seen number row ends is =
     (ends.rows_mean number row within) in
     end.width
 
-abbrev pub ends_with : (harts granules : ℕ) → List (Entry MachineState) → EndsParts
-ends_with harts granules table = record { harts = harts; granules = granules; table = table }
+abbrev pub ends_with : (harts granules : ℕ) → Option (List CapValue) → List (Entry MachineState) → EndsParts
+ends_with harts granules opening table =
+    record { harts = harts; granules = granules; opening = opening; table = table }
 
 -- after a row was seen, or refused
 pub ends_after : {R E : Type 0} (result : Result R E) (a b : Stored) (harts : ℕ) (rows rows' : Rows) (row : List ℕ)

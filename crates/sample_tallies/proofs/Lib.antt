@@ -6,3 +6,6 @@ pub mod EndLemmas
 pub mod TallyLemmas
 pub mod OrderLemmas
 pub mod WithinLemmas
+pub mod KnownLemmas
+pub mod ChangedLemmas
+pub mod NumberingLemmas

@@ -21,7 +21,7 @@ pub record IsSame {A : Type 0} (same : A → A → Bool) : Type 0 where
 numbers : (m n : ℕ) → (m == n) ≡ true → m ≡ n
 numbers m n h = eqb-true m n h
 
-both_parts : (a b : Bool) → (a && b) ≡ true → (a ≡ true) × (b ≡ true)
+pub both_parts : (a b : Bool) → (a && b) ≡ true → (a ≡ true) × (b ≡ true)
 both_parts true true h = (refl, refl)
 both_parts true false h = absurd (cc)
 both_parts false b h = absurd (cc)
@@ -73,7 +73,7 @@ one_trap trap other h =
     let made : trap_with trap.cause trap.reg ≡ trap_with other.cause other.reg = cc in
     made
 
-one_status : (s t : Status) → same_status s t ≡ true → s ≡ t
+pub one_status : (s t : Status) → same_status s t ≡ true → s ≡ t
 unfolding same_status
 one_status Running Running h = refl
 one_status Halted Halted h = refl

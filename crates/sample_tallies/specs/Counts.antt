@@ -1,6 +1,7 @@
 -- What a tally keeps. An end is a row of numbers, and a store says which state that is.
 use Rattle.std.specs.Prelude.{◌≡◌, ◌≢◌, ℕ, ◌+◌, List, [], ◌∷◌, ◌++◌, length, All, Some, unwrap_or}
-use Rattle.std.specs.Prelude.{IsSome, ◌⊎◌, slice_get, slice_set}
+use Rattle.std.specs.Prelude.{Option, IsSome, ◌⊎◌, slice_get, slice_set}
+use Rattle.cap_model.specs.values.CapValue.{CapValue}
 use Rattle.cheri_model.specs.runs.Machine.{MachineState}
 use Rattle.interner.specs.Rows.{Rows, IsRow, with_row}
 use Rattle.state_store.specs.Stores.{Stored, state_of}
@@ -10,16 +11,19 @@ use Rattle.sample_tallies.specs.declared.seen.TrapPlace.{TrapPlace}
 use Rattle.sample_tallies.specs.Tables.{Entry, both}
 use Rattle.sample_tallies.specs.Tallies.{TallyParts}
 
--- a tally of runs of a machine with so many harts and granules
+-- A tally of runs of a machine with so many harts and granules, and the memory with which those
+-- that were counted by running opened, once one has ended.
 pub record Counted : Type 0 where
   pub harts : ℕ
   pub granules : ℕ
+  pub opening : Option (List CapValue)
   pub sum : TallyParts
 
 -- the ends alone
 pub record EndsParts : Type 0 where
   pub harts : ℕ
   pub granules : ℕ
+  pub opening : Option (List CapValue)
   pub table : List (Entry MachineState)
 
 -- a trap as an entry of a table

@@ -5,3 +5,4 @@ pub mod Sums
 pub mod Counts
 pub mod Within
 pub mod Claims
+pub mod Known

@@ -1,6 +1,6 @@
 //! Tallies of what is claimed: made elsewhere, and told by numbers.
 
-ghost use Rattle.std.specs.Prelude.{◌≡◌, ◌≤◌, length, OnOk};
+ghost use Rattle.std.specs.Prelude.{◌≡◌, ◌≤◌, None, length, OnOk};
 ghost use Rattle.sample_tallies.specs.Claims.{claimed, with_trap, with_end};
 ghost use Rattle.sample_tallies.specs.Counts.{entry_of};
 
@@ -34,6 +34,7 @@ impl Tally {
         ensures sum { result.sum ≡ claimed claims }
         ensures harts { result.harts ≡ harts }
         ensures granules { result.granules ≡ granules }
+        ensures opening { result.opening ≡ None }
     {
         Tally {
             runs: claims.runs,
@@ -50,6 +51,7 @@ impl Tally {
         ensures sum { OnOk result (self.new.sum ≡ with_trap self.old.sum (entry_of trap)) }
         ensures same_harts { self.new.harts ≡ self.old.harts }
         ensures same_granules { self.new.granules ≡ self.old.granules }
+        ensures same_opening { self.new.opening ≡ self.old.opening }
     {
         self.traps.see(trap)
     }
@@ -69,6 +71,7 @@ impl Tally {
             (record { key = record { harts = harts.now; memory = ram.now }; seen = seen })) }
         ensures same_harts { self.new.harts ≡ self.old.harts }
         ensures same_granules { self.new.granules ≡ self.old.granules }
+        ensures same_opening { self.new.opening ≡ self.old.opening }
     {
         self.ends.see(alloc, harts, ram, seen)
     }

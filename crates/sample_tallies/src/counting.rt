@@ -34,9 +34,10 @@ pub fn count_runs(
     for done in 0..count {
         let number = first + done;
         let run = runner.run(alloc, drawing, number)?;
+        let memory = runner.memory();
         // Its clause says that memory has as many granules as at first.
-        let _opening = runner.memory().opening();
-        counted.note(alloc, number, run, runner.harts(), runner.memory().ram())?;
+        let _opening = memory.opening();
+        counted.note(alloc, number, run, runner.harts(), memory)?;
     }
     Ok(counted)
 }

@@ -1,22 +1,24 @@
 //! The states in which runs ended.
 
-ghost use Rattle.std.specs.Prelude.{◌≡◌, ◌<◌, ◌+◌, ◌^◌, ◌≤◌, ℕ, [], ◌∷◌};
-ghost use Rattle.std.specs.Prelude.{Some, length, IsSome, IfOk, OnOk, OnErr, slice_get};
+ghost use Rattle.std.specs.Prelude.{◌≡◌, ◌<◌, ◌+◌, ◌^◌, ◌≤◌, ℕ, List, [], ◌∷◌};
+ghost use Rattle.std.specs.Prelude.{Some, None, length, IfSome, IfOk, OnOk, OnErr, slice_get};
+ghost use Rattle.cap_model.specs.values.CapValue.{CapValue};
 ghost use Rattle.cheri_model.specs.runs.Machine.{MachineState};
 ghost use Rattle.interner.specs.Rows.{IsRow, IsDistinct};
-ghost use Rattle.state_store.specs.Stores.{state_of, Keeps};
+ghost use Rattle.state_store.specs.Stores.{state_of, memory_at, Keeps};
 ghost use Rattle.sample_tallies.specs.Tables.{Entry, with_entry, with_entries};
 ghost use Rattle.sample_tallies.specs.SameStates.{same_state};
 ghost use Rattle.sample_tallies.specs.Tallies.{ended_by};
 ghost use Rattle.sample_tallies.specs.Counts.{IsSeen};
 
+use crate::numbering::Numbering;
 use crate::seen::Seen;
 use cheri_model::MAX_HARTS;
 use hart::Hart;
 use interner::Interner;
-use sample_runs::RunEnd;
+use sample_runs::{RunEnd, RunMemory};
 use shown_states::Loaded;
-use state_store::{State, Store};
+use state_store::State;
 use std::alloc::{AllocError, Global};
 use std::marker::Model;
 use tagged_mem::Ram;
@@ -25,11 +27,13 @@ use tagged_mem::Ram;
 #[derive(Drop)]
 pub struct Ends {
     harts: usize,
-    store: Store,
+    numbering: Numbering,
     /// For each state the numbers of its memory and of its harts.
     rows: Interner,
     /// For each of them the runs.
     seen: Vec<Seen>,
+    /// A row to work in.
+    blank: Vec<u32>,
 }
 
 impl Model for Ends {
@@ -41,34 +45,36 @@ impl Model for Ends {
 
     ghost view = { λ e. record {
       harts = e.harts;
-      granules = e.store.granules;
-      table = table_of (map (meant e.store) e.rows.rows) e.seen.items;
+      granules = e.numbering.store.granules;
+      opening = e.numbering.opening;
+      table = table_of (map (meant e.numbering.store) e.rows.rows) e.seen.items;
     } };
 
-    ghost invariant = { λ e. AreEnds e.store e.harts e.rows e.seen.items };
+    ghost invariant = { λ e. AreEnds e.numbering.store e.harts e.rows e.seen.items };
 }
 
-/// The row of a state. Fails only when out of memory, or of numbers.
-fn row_of(
-    alloc: Global,
-    store: &mut Store,
+/// Writes the row of a state whose memory has this number. Fails only when out of memory, or of
+/// numbers.
+fn put_row(
+    numbering: &mut Numbering,
+    row: &mut Vec<u32>,
+    memory: u32,
     harts: &[Hart],
-    ram: &Ram,
-) -> Result<Vec<u32>, AllocError>
-    requires { length ram.now ≡ store.old.granules }
-    ensures state { IfOk result (λ row. state_of store.new row.items
-        ≡ Some (record { harts = harts.now; memory = ram.now })) }
-    ensures width { IfOk result (λ row. length row.items ≡ length harts.now + 1) }
-    ensures kept { Keeps store.old store.new }
+) -> Result<(), AllocError>
+    ensures state { OnOk result ((m : List CapValue) →
+        memory_at numbering.old.store memory ≡ Some m →
+        state_of numbering.new.store row.new.items
+        ≡ Some (record { harts = harts.now; memory = m })) }
+    ensures kept { Keeps numbering.old.store numbering.new.store }
+    ensures opening { numbering.new.opening ≡ numbering.old.opening }
 {
-    let mut row = Vec::new(alloc);
-    let memory = store.number_memory(alloc, ram)?;
+    row.clear();
     row.push(memory)?;
     for hart in harts {
-        let number = store.number_hart(hart)?;
+        let number = numbering.number_hart(hart)?;
         row.push(number)?;
     }
-    Ok(row)
+    Ok(())
 }
 
 /// Adds what was seen of a row. Fails only when out of memory or of numbers, or where a count
@@ -108,13 +114,15 @@ impl Ends {
     /// None, of a machine with so many harts and granules.
     pub fn new(alloc: Global, harts: usize, granules: usize) -> Ends
         requires { harts ≤ MAX_HARTS }
-        ensures { result ≡ record { harts = harts; granules = granules; table = [] } }
+        ensures { result
+            ≡ record { harts = harts; granules = granules; opening = None; table = [] } }
     {
         Ends {
             harts,
-            store: Store::new(alloc, granules),
+            numbering: Numbering::new(alloc, granules),
             rows: Interner::new(alloc, harts + 1),
             seen: Vec::new(alloc),
+            blank: Vec::new(alloc),
         }
     }
 
@@ -138,7 +146,7 @@ impl Ends {
             unreachable!()
         };
         State {
-            store: &self.store,
+            store: self.numbering.store(),
             row,
         }
     }
@@ -167,11 +175,37 @@ impl Ends {
             (record { key = record { harts = harts.now; memory = ram.now }; seen = seen })) }
         ensures same_harts { self.new.harts ≡ self.old.harts }
         ensures same_granules { self.new.granules ≡ self.old.granules }
+        ensures same_opening { self.new.opening ≡ self.old.opening }
     {
-        let row = row_of(alloc, &mut self.store, harts, ram)?;
+        let memory = self.numbering.number_memory(alloc, ram)?;
+        put_row(&mut self.numbering, &mut self.blank, memory, harts)?;
         // Their clauses say that no state is two rows, and no row is there twice.
-        let _counts = (self.store.granules(), self.rows.len());
-        see_row(&mut self.rows, &mut self.seen, row.as_slice(), seen)
+        let _counts = (self.numbering.store().granules(), self.rows.len());
+        see_row(&mut self.rows, &mut self.seen, self.blank.as_slice(), seen)
+    }
+
+    /// The same of a run that ended in this state, whose memory opened as those before.
+    fn see_left(
+        &mut self,
+        alloc: Global,
+        harts: &[Hart],
+        memory: &RunMemory,
+        seen: Seen,
+    ) -> Result<(), AllocError>
+        requires harts { length harts.now ≡ self.old.harts }
+        requires granules { length memory.now.now ≡ self.old.granules }
+        requires opening { IfSome self.old.opening (λ o. o ≡ memory.now.opening) }
+        ensures table { OnOk result (self.new.table ≡ with_entry same_state self.old.table
+            (record { key = record { harts = harts.now; memory = memory.now.now }; seen = seen })) }
+        ensures same_harts { self.new.harts ≡ self.old.harts }
+        ensures same_granules { self.new.granules ≡ self.old.granules }
+        ensures opening { IfSome self.new.opening (λ o. o ≡ memory.now.opening) }
+    {
+        let number = self.numbering.number_left(alloc, memory)?;
+        put_row(&mut self.numbering, &mut self.blank, number, harts)?;
+        // Their clauses say that no state is two rows, and no row is there twice.
+        let _counts = (self.numbering.store().granules(), self.rows.len());
+        see_row(&mut self.rows, &mut self.seen, self.blank.as_slice(), seen)
     }
 
     /// Adds the end of a run that came to this state, where it ended.
@@ -180,18 +214,20 @@ impl Ends {
         alloc: Global,
         end: RunEnd,
         harts: &[Hart],
-        ram: &Ram,
+        memory: &RunMemory,
         seen: Seen,
     ) -> Result<(), AllocError>
         requires harts { length harts.now ≡ self.old.harts }
-        requires granules { length ram.now ≡ self.old.granules }
+        requires granules { length memory.now.now ≡ self.old.granules }
+        requires opening { IfSome self.old.opening (λ o. o ≡ memory.now.opening) }
         ensures table { OnOk result (self.new.table ≡ with_entries same_state self.old.table
-            (ended_by end (record { harts = harts.now; memory = ram.now }) seen)) }
+            (ended_by end (record { harts = harts.now; memory = memory.now.now }) seen)) }
         ensures same_harts { self.new.harts ≡ self.old.harts }
         ensures same_granules { self.new.granules ≡ self.old.granules }
+        ensures opening { IfSome self.new.opening (λ o. o ≡ memory.now.opening) }
     {
         match end {
-            RunEnd::Ended => self.see(alloc, harts, ram, seen),
+            RunEnd::Ended => self.see_left(alloc, harts, memory, seen),
             RunEnd::Hung => Ok(()),
             RunEnd::Cut => Ok(()),
         }
@@ -212,6 +248,7 @@ impl Ends {
             (self.new.table ≡ with_entries same_state self.old.table others.now.table) }
         ensures same_harts { self.new.harts ≡ self.old.harts }
         ensures same_granules { self.new.granules ≡ self.old.granules }
+        ensures same_opening { self.new.opening ≡ self.old.opening }
         ensures blank_harts { length blank.new.harts ≡ self.old.harts }
         ensures blank_granules { length blank.new.memory ≡ self.old.granules }
     {

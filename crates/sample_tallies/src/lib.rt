@@ -1,11 +1,14 @@
 //! What many runs in drawn orders gave, counted exactly.
 #![tactic(auto)]
 
+mod changed;
 mod claims;
 mod counting;
 mod ends;
 pub mod laws;
+mod numbering;
 mod order;
+mod same;
 mod seen;
 mod tally;
 mod traps;

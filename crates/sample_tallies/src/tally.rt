@@ -1,7 +1,7 @@
 //! What many runs gave.
 
-ghost use Rattle.std.specs.Prelude.{◌≡◌, ◌<◌, ◌≤◌, ◌+◌, ℕ, List, Some};
-ghost use Rattle.std.specs.Prelude.{length, map, IfOk, OnOk, All, slice_get};
+ghost use Rattle.std.specs.Prelude.{◌≡◌, ◌<◌, ◌≤◌, ◌+◌, ℕ, List, Some, None};
+ghost use Rattle.std.specs.Prelude.{length, map, IfOk, IfSome, OnOk, All, slice_get};
 ghost use Rattle.cheri_model.specs.runs.Machine.{MachineState};
 ghost use Rattle.state_store.specs.Stores.{state_of};
 ghost use Rattle.sample_tallies.specs.Tables.{Entry};
@@ -15,12 +15,11 @@ use crate::seen::{Seen, TrapSeen, either};
 use crate::traps::Traps;
 use cheri_model::MAX_HARTS;
 use hart::Hart;
-use sample_runs::{Run, RunEnd};
+use sample_runs::{Run, RunEnd, RunMemory};
 use shown_states::Loaded;
 use state_store::State;
 use std::alloc::{AllocError, Global};
 use std::marker::Model;
-use tagged_mem::Ram;
 
 /// What many runs of one machine gave: how many they are, the length of the longest, which were cut
 /// or hung, which traps their last states have, and in which states they ended. Of each of these,
@@ -43,6 +42,7 @@ impl Model for Tally {
     ghost view = { λ t. record {
       harts = t.ends.harts;
       granules = t.ends.granules;
+      opening = t.ends.opening;
       sum = record {
         runs = t.runs;
         longest = t.longest;
@@ -83,6 +83,7 @@ impl Tally {
         ensures sum { result.sum ≡ empty }
         ensures harts { result.harts ≡ harts }
         ensures granules { result.granules ≡ granules }
+        ensures opening { result.opening ≡ None }
     {
         Tally {
             runs: 0,
@@ -168,22 +169,26 @@ impl Tally {
         sorted_ends(alloc, &self.ends)
     }
 
-    /// Adds a run that came to this state. Fails only when out of memory or of numbers, or where a
-    /// count reaches 2^64. What a tally says after an `Err` is not known.
+    /// Adds a run that came to this state. The memories of all runs that are added so opened as one.
+    /// Fails only when out of memory or of numbers, or where a count reaches 2^64. What a tally says
+    /// after an `Err` is not known.
     pub fn note(
         &mut self,
         alloc: Global,
         number: u64,
         run: Run,
         harts: &[Hart],
-        ram: &Ram,
+        memory: &RunMemory,
     ) -> Result<(), AllocError>
         requires harts { length harts.now ≡ self.old.harts }
-        requires granules { length ram.now ≡ self.old.granules }
+        requires granules { length memory.now.now ≡ self.old.granules }
+        requires opening { IfSome self.old.opening (λ o. o ≡ memory.now.opening) }
         ensures sum { OnOk result (self.new.sum ≡ add self.old.sum
-            (of_run number run.end run.length (record { harts = harts.now; memory = ram.now }))) }
+            (of_run number run.end run.length
+            (record { harts = harts.now; memory = memory.now.now }))) }
         ensures same_harts { self.new.harts ≡ self.old.harts }
         ensures same_granules { self.new.granules ≡ self.old.granules }
+        ensures opening { IfSome self.new.opening (λ o. o ≡ memory.now.opening) }
     {
         let seen = Seen::once(number);
         let Some(runs) = self.runs.checked_add(1) else {
@@ -194,7 +199,7 @@ impl Tally {
         self.cut = either(self.cut, cut_by(run.end, seen))?;
         self.hung = either(self.hung, hung_by(run.end, seen))?;
         self.traps.see_harts(harts, seen)?;
-        self.ends.see_run(alloc, run.end, harts, ram, seen)?;
+        self.ends.see_run(alloc, run.end, harts, memory, seen)?;
         Ok(())
     }
 
@@ -213,6 +218,7 @@ impl Tally {
         ensures sum { OnOk result (self.new.sum ≡ add self.old.sum other.now.sum) }
         ensures same_harts { self.new.harts ≡ self.old.harts }
         ensures same_granules { self.new.granules ≡ self.old.granules }
+        ensures same_opening { self.new.opening ≡ self.old.opening }
         ensures blank_harts { length blank.new.harts ≡ self.old.harts }
         ensures blank_granules { length blank.new.memory ≡ self.old.granules }
     {

@@ -72,6 +72,7 @@ loop-number-preserved c =
           c.loop-number.invariant.table;
       harts = c.in_ok-see.ensures.same_harts ∙ c.loop-number.invariant.harts;
       granules = c.in_ok-see.ensures.same_granules ∙ c.loop-number.invariant.granules;
+      opening = c.in_ok-see.ensures.same_opening ∙ c.loop-number.invariant.opening;
       blank_harts = size.0 ∙ c.requires.harts;
       blank_granules = size.1 ∙ c.requires.granules;
     }

@@ -10,6 +10,7 @@ invariant-loop-number l = record {
       ≡ with_entries same_state l.fn.self.table l.others.table;
   harts : l.self.harts ≡ l.fn.self.harts;
   granules : l.self.granules ≡ l.fn.self.granules;
+  opening : l.self.opening ≡ l.fn.self.opening;
   blank_harts : length l.blank.harts ≡ l.fn.self.harts;
   blank_granules : length l.blank.memory ≡ l.fn.self.granules;
 }

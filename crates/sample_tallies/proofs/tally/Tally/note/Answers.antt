@@ -10,7 +10,7 @@ use Rattle.sample_tallies.proofs.tally.Tally.note.Goals as goal
 pub returns-clause-sum : goal.returns-clause-sum
 returns-clause-sum c =
     let t = c.self.inside in
-    let state : MachineState = record { harts = c.args.harts.now; memory = c.args.ram.now } in
+    let state : MachineState = record { harts = c.args.harts.now; memory = c.args.memory.now.now } in
     let runs : c.in-Some.runs ≡ t.runs + 1 = search rules in
     let longest : c.max-self-inside.result ≡ max t.longest c.args.run.length = search rules in
     noted (with_parts t.runs t.longest t.cut t.hung t.traps t.ends.table)

@@ -1,0 +1,6 @@
+-- the registers so far are the same
+use Rattle.sample_tallies.proofs.KnownLemmas.{Agree}
+use Rattle.sample_tallies.proofs.same.are_same_registers.Given as goal
+
+abbrev pub invariant-loop-number : goal.invariant-loop-number
+invariant-loop-number l = Agree l.a.regs l.b.regs l.number
