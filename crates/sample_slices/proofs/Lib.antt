@@ -1,0 +1,9 @@
+pub mod StepLemmas
+pub mod SweepLemmas
+pub mod TextLemmas
+pub mod LineLemmas
+pub mod CountLemmas
+pub mod NumberLemmas
+pub mod Unfold
+pub mod ClaimLemmas
+pub mod CheckedLemmas

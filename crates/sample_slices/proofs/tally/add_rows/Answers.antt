@@ -1,0 +1,27 @@
+use Rattle.std.proofs.Common.{◌∙◌}
+use Rattle.std.proofs.lemmas.Result.{err_from_is_err_and}
+use Rattle.sample_slices.specs.Claimed.{end_step}
+use Rattle.sample_slices.proofs.StepLemmas.{step_refused, step_stops, step_taken, steps_end}
+use Rattle.sample_slices.proofs.tally.add_rows.Goals as goal
+
+pub loop-item-preserved : goal.loop-item-preserved
+loop-item-preserved c = record {
+  so_far =
+      step_taken (end_step c.args.again.now) c.args.list.now c.loop-item.item-index _ c.item-item.result _ _ c.loop-item-test.true
+      c.item-item.is _ (rw c.loop-item.invariant.same at c.in_ok-add_end.ensures.sum) c.loop-item.invariant.so_far;
+  told = rw c.loop-item.invariant.same at c.in_ok-add_end.ensures.told;
+  same = c.add_end.ensures.same ∙ c.loop-item.invariant.same;
+}
+
+pub returns-in_err-add_end-clause-sum : goal.returns-in_err-add_end-clause-sum
+returns-in_err-add_end-clause-sum c =
+    let p = err_from_is_err_and c.from_residual.result c.from_residual.ensures.1 in
+    rw (p.1, p.2) (step_stops c.in_err-add_end.field-0.0 _ _ _ _
+    (rw c.loop-item.invariant.same at c.in_err-add_end.ensures.sum)
+    (λ none. step_refused (end_step c.args.again.now) c.args.list.now c.loop-item.item-index _ c.item-item.result _ _
+    c.loop-item-test.true c.item-item.is none c.loop-item.invariant.so_far))
+
+pub returns-clause-sum : goal.returns-clause-sum
+returns-clause-sum c =
+    steps_end (end_step c.args.again.now) c.args.list.now c.loop-item.item-index _ _ c.loop-item-test.false
+    c.loop-item.invariant.so_far
