@@ -1,4 +1,4 @@
-"""schemas.py SCHEMAS FOLDER: FOLDER has a folder for each kind of answer (report, explanation, outcomes), with pairs
+"""schemas.py SCHEMAS FOLDER: FOLDER has a folder for each kind of answer (report, explanation, outcomes, sample), with pairs
 NAME.json and NAME.KIND of one answer each. Every JSON answer must keep the schema SCHEMAS/KIND.json and say the same as the text,
 every broken one must be refused. The last line is 'N passed, M failed'."""
 import copy
@@ -139,6 +139,36 @@ def outcomes_text(answer):
     return "\n".join(lines) + "\nend\n"
 
 
+def seen_text(seen, middle=""):
+    return f"runs={seen['runs']}" + (f" first={seen['first']}{middle} order={seen['order']}" if seen["runs"] else "")
+
+
+def sample_text(answer):
+    """The text that a JSON answer of sample stands for."""
+    drawn = answer["drawn"]
+    lines = [f"cheri-sim sample {answer['explore']}", image_text(answer["image"])]
+    lines.append(f"drawn seed={drawn['seed']} length={drawn['length']} depth={drawn.get('depth', '-')}"
+                 + "".join(f" sweep={sweep}" for sweep in drawn["sweeps"]))
+    numbers = ",".join(f"{first}..{last}" for first, last in answer["numbers"])
+    lines.append(f"runs {answer['runs']} numbers={numbers} longest={answer['longest']}")
+    lines += [f"{name} {seen_text(answer[name])}" for name in ("cut", "hung")]
+    lines.append(f"traps {len(answer['traps'])}")
+    lines += [f"trap hart={trap['hart']} cause={trap['cause']} {seen_text(trap)}" for trap in answer["traps"]]
+    if "shown" in answer:
+        lines.append(f"shown {len(answer['shown'])}")
+        for number, row in enumerate(answer["shown"]):
+            values = "".join(f" {item}={row['values'][item]}" for item in answer["items"])
+            lines.append(f"{number} {seen_text(row, values)}")
+    else:
+        lines.append(f"outcomes {len(answer['outcomes'])}")
+        for number, outcome in enumerate(answer["outcomes"]):
+            lines += [f"outcome {number} {seen_text(outcome)}", *state_lines(outcome)]
+    for one in answer.get("properties", []):
+        run = "".join(f" {name}={one[name]}" for name in ("runs", "first", "order") if name in one)
+        lines.append(f"line {one['line']} {one['answer']}{run} | {one['property']}")
+    return "\n".join(lines) + "\nend\n"
+
+
 def each_once(text):
     """The text with the items of its rows in byte order and each once, as JSON has them."""
     def row(line):
@@ -158,6 +188,8 @@ KINDS = {
     "outcomes": (outcomes_text, (), ("lock", "lost_update.shown", "leak.found", "lock.none", "leak.authority",
                                "lock.checked"),
                  lambda answer: {**answer, "explore": 2}),
+    "sample": (sample_text, ("depth", "properties"), ("lost_update", "missed_wakeup.shown", "use_after_free.checked", "traps_02"),
+               lambda answer: {**answer, "explore": 2}),
 }
 # objects whose members are named by places
 MAPS = ("regs", "mem", "reads", "finds", "leaves", "sets", "clears", "values")

@@ -12,7 +12,7 @@ fn main(rt: HostRuntime) -> ExitCode {
     let terminal = if err.is_terminal() { Some(&rt) } else { None };
     let status = match args_given(&rt) {
         Ok(args) => perform(
-            rt.alloc(),
+            &rt,
             args.as_slice(),
             &mut SystemFiles(&rt),
             terminal,

@@ -2,7 +2,8 @@
 use Rattle.std.specs.Prelude.{Some, codes}
 use Rattle.clap.specs.Words.{App, Rule, Text, new_app, new_rule, with_rule, with_subcommand}
 use Rattle.clap.specs.declared.builder.action.ArgAction.TheVariants.{Append}
-use Rattle.command_line.specs.Arguments.{flag, required_word, single_option, wanting_subcommand}
+use Rattle.command_line.specs.Arguments.{flag, required_option, required_word}
+use Rattle.command_line.specs.Arguments.{single_option, wanting_subcommand}
 
 -- an option with a value, which a command may have many times
 abbrev pub repeated_option : Text → Rule
@@ -42,11 +43,38 @@ check_command =
     with_options (with_rule (with_rule (with_rule (new_app (codes "check"))
     (required_word (codes "listing"))) (flag (codes "explain"))) (single_option (codes "map")))
 
+-- `sample LISTING --orders N [--seed S] [--from I] [--length K] [--depth D] [--show ITEM[,ITEM]..]
+-- [--sweep LO,HI].. [--check] [--jobs J] [--json]`
+abbrev pub with_drawing_options : App → App
+with_drawing_options app =
+    with_rule (with_rule (with_rule (with_rule (with_rule app (required_option (codes "orders")))
+    (single_option (codes "seed"))) (single_option (codes "from")))
+    (single_option (codes "length"))) (single_option (codes "depth"))
+
+abbrev pub with_sampling_options : App → App
+with_sampling_options app =
+    with_rule (with_rule (with_rule (with_rule (with_rule app (single_option (codes "show")))
+    (repeated_option (codes "sweep"))) (flag (codes "check"))) (single_option (codes "jobs")))
+    (flag (codes "json"))
+
+abbrev pub sample_command : App
+sample_command =
+    with_sampling_options (with_drawing_options (with_rule (new_app (codes "sample"))
+    (required_word (codes "listing"))))
+
+-- `merge LISTING FILE [--jobs J] [--json]`
+abbrev pub merge_command : App
+merge_command =
+    with_rule (with_rule (with_rule (with_rule (new_app (codes "merge"))
+    (required_word (codes "listing"))) (required_word (codes "slices")))
+    (single_option (codes "jobs"))) (flag (codes "json"))
+
 -- the program, which wants one of these
 abbrev pub explore_alone : App
 explore_alone = wanting_subcommand (new_app (codes "cheri_explore"))
 
 abbrev pub explore_program : App
 explore_program =
-    with_subcommand (with_subcommand (with_subcommand (with_subcommand explore_alone
-    outcomes_command.top) find_command.top) authority_command.top) check_command.top
+    with_subcommand (with_subcommand (with_subcommand (with_subcommand (with_subcommand
+    (with_subcommand explore_alone outcomes_command.top) find_command.top) authority_command.top)
+    check_command.top) sample_command.top) merge_command.top

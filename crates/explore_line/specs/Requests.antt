@@ -1,5 +1,5 @@
 -- What the arguments of a command line of `cheri_explore` ask for.
-use Rattle.std.specs.Prelude.{ℕ, Bool, false, List, Option}
+use Rattle.std.specs.Prelude.{ℕ, ◌≤◌, Bool, false, List, length, Option}
 use Rattle.std.specs.Prelude.{Some, None, option_and_then, option_map, codes, if◌then◌else◌}
 use Rattle.std.specs.Borrow.{Bor}
 use Rattle.std.specs.Str.{bytes_eq}
@@ -9,21 +9,27 @@ use Rattle.command_line.specs.Numbers.{number_or}
 use Rattle.command_line.specs.declared.found.Format.{Format}
 use Rattle.command_line.specs.declared.found.Format.TheVariants as forms
 use Rattle.explore_line.specs.Commands.{explore_program}
+use Rattle.explore_line.specs.Samples.{IsJobs, IsSampleBounded, MergeAsked, SampleAsked}
+use Rattle.explore_line.specs.Samples.{merge_asked_by, merge_asked_of}
+use Rattle.explore_line.specs.Samples.{sample_asked_by, sample_asked_of}
 use Rattle.explore_line.specs.Sweeps.{sweeps_in}
 use Rattle.explore_sweeps.specs.declared.Sweep.{Sweep}
+use Rattle.explore_sweeps.specs.declared.TheConstants.{MAX_SWEEPS}
 use Rattle.explore_line.specs.declared.requests.TheConstants.{GREATEST_STATES, USUAL_STATES}
 use Rattle.explore_line.specs.declared.requests.Question.{Question}
 use Rattle.explore_line.specs.declared.requests.Question.TheVariants as questions
 use Rattle.explore_line.specs.declared.requests.ExploreRequest.{ExploreRequest}
+use Rattle.explore_line.specs.declared.requests.Request.{Request}
+use Rattle.explore_line.specs.declared.requests.Request.TheVariants as requests
 
--- a request by the texts of its arguments
+-- requests by the texts of their arguments
 pub data AskedQuestion : Type 0 where
   Outcomes : Option Text → AskedQuestion
   Find : Text → AskedQuestion
   Authority : AskedQuestion
   Check : AskedQuestion
 
-pub record ExploreAsked : Type 0 where
+pub record SearchAsked : Type 0 where
   pub listing : Text
   pub map : Option Text
   pub sweeps : List Sweep
@@ -32,6 +38,11 @@ pub record ExploreAsked : Type 0 where
   pub form : Format
   pub explained : Bool
   pub question : AskedQuestion
+
+pub data ExploreAsked : Type 0 where
+  Search : SearchAsked → ExploreAsked
+  Sample : SampleAsked → ExploreAsked
+  Merge : MergeAsked → ExploreAsked
 
 abbrev pub question_asked_by : Question → AskedQuestion
 question_asked_by (questions.Outcomes show) = Outcomes (option_map (λ items. items.now) show)
@@ -42,8 +53,8 @@ question_asked_by questions.Check = Check
 abbrev pub name_of : Bor Text → Text
 name_of name = name.now
 
-abbrev pub explore_asked_by : ExploreRequest → ExploreAsked
-explore_asked_by request = record {
+abbrev pub search_asked_by : ExploreRequest → SearchAsked
+search_asked_by request = record {
   listing = request.listing.now;
   map = option_map name_of request.map;
   sweeps = request.sweeps.items;
@@ -53,6 +64,18 @@ explore_asked_by request = record {
   explained = request.explained;
   question = question_asked_by request.question;
 }
+
+abbrev pub asked_by : Request → ExploreAsked
+asked_by (requests.Search request) = Search (search_asked_by request)
+asked_by (requests.Sample request) = Sample (sample_asked_by request)
+asked_by (requests.Merge request) = Merge (merge_asked_by request)
+
+-- the limits that a request keeps
+abbrev pub IsBounded : Request → Type 0
+IsBounded (requests.Search request) =
+    (length request.sweeps.items ≤ MAX_SWEEPS) × (1 ≤ request.states)
+IsBounded (requests.Sample request) = IsSampleBounded request
+IsBounded (requests.Merge request) = IsJobs request.jobs
 
 -- what the command of this name asks
 unfoldable pub question_of : Text → List Row → Option AskedQuestion
@@ -68,9 +91,9 @@ abbrev pub explained_in : Format → Bool → Option Bool
 explained_in forms.Text explained = Some explained
 explained_in forms.Json explained = if explained then None else Some false
 
--- what the command of this name asks for with these arguments
-unfoldable pub explore_asked_of : Text → List Row → Option ExploreAsked
-explore_asked_of name rows = do
+-- what a search of this name asks for with these arguments
+unfoldable pub search_asked_of : Text → List Row → Option SearchAsked
+search_asked_of name rows = do
   question ← question_of name rows
   listing ← first_of (codes "listing") rows
   states ← number_or USUAL_STATES 1 GREATEST_STATES (first_of (codes "states") rows)
@@ -87,6 +110,13 @@ explore_asked_of name rows = do
     explained = explained;
     question = question;
   })
+
+-- what the command of this name asks for with these arguments
+unfoldable pub explore_asked_of : Text → List Row → Option ExploreAsked
+explore_asked_of name rows =
+    if bytes_eq name (codes "sample") then option_map Sample (sample_asked_of rows)
+    else if bytes_eq name (codes "merge") then option_map Merge (merge_asked_of rows)
+    else option_map Search (search_asked_of name rows)
 
 -- what the arguments of a command line ask for, the first of which is the program's name
 unfoldable pub explore_asked : List Text → Option ExploreAsked

@@ -2,7 +2,8 @@
 //! them by.
 
 ghost use Rattle.std.specs.Prelude.{◌≡◌, Some, None, true, false, [], ◌∷◌, codes};
-ghost use Rattle.explore_line.specs.Requests.{Authority, Check, Find, Outcomes, explore_asked};
+ghost use Rattle.explore_line.specs.Requests.{Authority, Check, Find, Outcomes, Search};
+ghost use Rattle.explore_line.specs.Requests.{explore_asked};
 ghost use Rattle.explore_line.specs.declared.requests.TheConstants.{GREATEST_STATES, USUAL_STATES};
 ghost use Rattle.explore_sweeps.specs.declared.TheConstants.{MAX_SWEEPS};
 
@@ -19,7 +20,7 @@ pub fn limits()
 pub fn known_explore_lines()
     ensures outcomes { explore_asked (codes "cheri_explore" ∷ codes "outcomes"
         ∷ codes "first.lst" ∷ [])
-        ≡ Some (record {
+        ≡ Some (Search (record {
           listing = codes "first.lst";
           map = None;
           sweeps = [];
@@ -28,10 +29,10 @@ pub fn known_explore_lines()
           form = Format.Text;
           explained = false;
           question = Outcomes None;
-        }) }
+        })) }
     ensures shown { explore_asked (codes "cheri_explore" ∷ codes "outcomes" ∷ codes "first.lst"
         ∷ codes "--show" ∷ codes "0.c7,mem8[0x10]" ∷ [])
-        ≡ Some (record {
+        ≡ Some (Search (record {
           listing = codes "first.lst";
           map = None;
           sweeps = [];
@@ -40,10 +41,10 @@ pub fn known_explore_lines()
           form = Format.Text;
           explained = false;
           question = Outcomes (Some (codes "0.c7,mem8[0x10]"));
-        }) }
+        })) }
     ensures shown_nothing { explore_asked (codes "cheri_explore" ∷ codes "outcomes"
         ∷ codes "--show=" ∷ codes "first.lst" ∷ [])
-        ≡ Some (record {
+        ≡ Some (Search (record {
           listing = codes "first.lst";
           map = None;
           sweeps = [];
@@ -52,10 +53,10 @@ pub fn known_explore_lines()
           form = Format.Text;
           explained = false;
           question = Outcomes (Some []);
-        }) }
+        })) }
     ensures find { explore_asked (codes "cheri_explore" ∷ codes "find" ∷ codes "first.lst"
         ∷ codes "0 is halted" ∷ codes "--json" ∷ [])
-        ≡ Some (record {
+        ≡ Some (Search (record {
           listing = codes "first.lst";
           map = None;
           sweeps = [];
@@ -64,10 +65,10 @@ pub fn known_explore_lines()
           form = Format.Json;
           explained = false;
           question = Find (codes "0 is halted");
-        }) }
+        })) }
     ensures authority { explore_asked (codes "cheri_explore" ∷ codes "authority"
         ∷ codes "--states=010" ∷ codes "first.lst" ∷ [])
-        ≡ Some (record {
+        ≡ Some (Search (record {
           listing = codes "first.lst";
           map = None;
           sweeps = [];
@@ -76,10 +77,10 @@ pub fn known_explore_lines()
           form = Format.Text;
           explained = false;
           question = Authority;
-        }) }
+        })) }
     ensures steps { explore_asked (codes "cheri_explore" ∷ codes "find" ∷ codes "first.lst"
         ∷ codes "--steps" ∷ codes "0 is halted" ∷ [])
-        ≡ Some (record {
+        ≡ Some (Search (record {
           listing = codes "first.lst";
           map = None;
           sweeps = [];
@@ -88,10 +89,10 @@ pub fn known_explore_lines()
           form = Format.Text;
           explained = false;
           question = Find (codes "0 is halted");
-        }) }
+        })) }
     ensures swept { explore_asked (codes "cheri_explore" ∷ codes "authority" ∷ codes "first.lst"
         ∷ codes "--sweep" ∷ codes "16,0x20" ∷ codes "--sweep=0,0x10000000000000000" ∷ [])
-        ≡ Some (record {
+        ≡ Some (Search (record {
           listing = codes "first.lst";
           map = None;
           sweeps = record { lo = 16; hi = 32 }
@@ -101,10 +102,10 @@ pub fn known_explore_lines()
           form = Format.Text;
           explained = false;
           question = Authority;
-        }) }
+        })) }
     ensures empty_sweep { explore_asked (codes "cheri_explore" ∷ codes "outcomes"
         ∷ codes "first.lst" ∷ codes "--sweep" ∷ codes "7,7" ∷ [])
-        ≡ Some (record {
+        ≡ Some (Search (record {
           listing = codes "first.lst";
           map = None;
           sweeps = record { lo = 7; hi = 7 } ∷ [];
@@ -113,10 +114,10 @@ pub fn known_explore_lines()
           form = Format.Text;
           explained = false;
           question = Outcomes None;
-        }) }
+        })) }
     ensures most_states { explore_asked (codes "cheri_explore" ∷ codes "outcomes"
         ∷ codes "first.lst" ∷ codes "--states" ∷ codes "100000000" ∷ [])
-        ≡ Some (record {
+        ≡ Some (Search (record {
           listing = codes "first.lst";
           map = None;
           sweeps = [];
@@ -125,7 +126,7 @@ pub fn known_explore_lines()
           form = Format.Text;
           explained = false;
           question = Outcomes None;
-        }) }
+        })) }
     ensures too_many_states { explore_asked (codes "cheri_explore" ∷ codes "outcomes"
         ∷ codes "first.lst" ∷ codes "--states" ∷ codes "100000001" ∷ [])
         ≡ None }
@@ -176,7 +177,7 @@ pub fn known_explore_lines()
         ≡ None }
     ensures check { explore_asked (codes "cheri_explore" ∷ codes "check" ∷ codes "first.lst"
         ∷ codes "--steps" ∷ codes "--json" ∷ codes "--states=7" ∷ [])
-        ≡ Some (record {
+        ≡ Some (Search (record {
           listing = codes "first.lst";
           map = None;
           sweeps = [];
@@ -185,10 +186,10 @@ pub fn known_explore_lines()
           form = Format.Json;
           explained = false;
           question = Check;
-        }) }
+        })) }
     ensures check_explained { explore_asked (codes "cheri_explore" ∷ codes "check"
         ∷ codes "first.lst" ∷ codes "--explain" ∷ [])
-        ≡ Some (record {
+        ≡ Some (Search (record {
           listing = codes "first.lst";
           map = None;
           sweeps = [];
@@ -197,10 +198,10 @@ pub fn known_explore_lines()
           form = Format.Text;
           explained = true;
           question = Check;
-        }) }
+        })) }
     ensures find_explained { explore_asked (codes "cheri_explore" ∷ codes "find"
         ∷ codes "--explain" ∷ codes "first.lst" ∷ codes "0 is halted" ∷ [])
-        ≡ Some (record {
+        ≡ Some (Search (record {
           listing = codes "first.lst";
           map = None;
           sweeps = [];
@@ -209,10 +210,10 @@ pub fn known_explore_lines()
           form = Format.Text;
           explained = true;
           question = Find (codes "0 is halted");
-        }) }
+        })) }
     ensures find_mapped { explore_asked (codes "cheri_explore" ∷ codes "find"
         ∷ codes "first.lst" ∷ codes "--map" ∷ codes "first.map" ∷ codes "0 at main" ∷ [])
-        ≡ Some (record {
+        ≡ Some (Search (record {
           listing = codes "first.lst";
           map = Some (codes "first.map");
           sweeps = [];
@@ -221,10 +222,10 @@ pub fn known_explore_lines()
           form = Format.Text;
           explained = false;
           question = Find (codes "0 at main");
-        }) }
+        })) }
     ensures check_mapped { explore_asked (codes "cheri_explore" ∷ codes "check"
         ∷ codes "--map=first.map" ∷ codes "first.lst" ∷ codes "--json" ∷ [])
-        ≡ Some (record {
+        ≡ Some (Search (record {
           listing = codes "first.lst";
           map = Some (codes "first.map");
           sweeps = [];
@@ -233,7 +234,7 @@ pub fn known_explore_lines()
           form = Format.Json;
           explained = false;
           question = Check;
-        }) }
+        })) }
     ensures mapped_twice { explore_asked (codes "cheri_explore" ∷ codes "check"
         ∷ codes "first.lst" ∷ codes "--map=first.map" ∷ codes "--map=first.map" ∷ [])
         ≡ None }

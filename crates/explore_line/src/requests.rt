@@ -1,5 +1,5 @@
 //! The command line of `cheri_explore`.
-#![tactic(auto, unfolding(crate::specs::Requests::question_of, crate::specs::Requests::explore_asked_of))]
+#![tactic(auto, unfolding(crate::specs::Requests::question_of, crate::specs::Requests::search_asked_of, crate::specs::Requests::explore_asked_of))]
 
 ghost use Rattle.std.specs.Prelude.{◌≡◌, ◌≤◌, Err, IfOk, IfSome};
 ghost use Rattle.std.specs.Prelude.{None, Some, codes, length, option_and_then, option_map};
@@ -7,14 +7,18 @@ ghost use Rattle.clap.specs.Words.{first_of, found_of, rows_of, subcommand_rows_
 ghost use Rattle.command_line.specs.Found.{form_of, is_given};
 ghost use Rattle.command_line.specs.Numbers.{number_or};
 ghost use Rattle.explore_line.specs.Requests.{
-  explore_asked_by,
-  explore_asked_of,
+  asked_by,
   explained_in,
+  explore_asked_of,
   question_asked_by,
   question_of,
+  search_asked_by,
+  search_asked_of,
+  IsBounded,
 };
 ghost use Rattle.explore_sweeps.specs.declared.TheConstants.{MAX_SWEEPS};
 
+use crate::samples::{MergeRequest, SampleRequest, merge_of, sample_of};
 use crate::sweeps::sweeps_found;
 use clap::ArgMatches;
 use command_line::found::{flag_found, form_found, value_found};
@@ -57,6 +61,17 @@ pub struct ExploreRequest<'a> {
     pub form: Format,
     pub explained: bool,
     pub question: Question<'a>,
+}
+
+/// What a command line asks for.
+#[derive(Debug, Drop)]
+pub enum Request<'a> {
+    /// To search all states: `outcomes`, `find`, `authority` and `check`.
+    Search(ExploreRequest<'a>),
+    /// To run in orders that are drawn by chance.
+    Sample(SampleRequest<'a>),
+    /// To add up answers of `sample`.
+    Merge(MergeRequest<'a>),
 }
 
 /// What the command of this name asks.
@@ -111,17 +126,17 @@ fn explained_found(found: &ArgMatches<'_>) -> Option<bool>
     explained_in(form_found(found), flag_found(found, "explain"))
 }
 
-/// What the command of this name asks for with the arguments that were found.
-fn explore_of<'a>(
+/// What a search of this name asks for with the arguments that were found.
+fn search_of<'a>(
     alloc: Global,
     name: &str,
     found: &ArgMatches<'a>,
 ) -> Result<ExploreRequest<'a>, CommandFault>
     ensures asked { IfOk result (λ request.
-        explore_asked_of name.now (rows_of (found_of found.now))
-        ≡ Some (explore_asked_by request)) }
+        search_asked_of name.now (rows_of (found_of found.now))
+        ≡ Some (search_asked_by request)) }
     ensures usage { result ≡ Err CommandFault.Usage
-        → explore_asked_of name.now (rows_of (found_of found.now)) ≡ None }
+        → search_asked_of name.now (rows_of (found_of found.now)) ≡ None }
     ensures few { IfOk result (λ request. length request.sweeps.items ≤ MAX_SWEEPS) }
     ensures some { IfOk result (λ request. 1 ≤ request.states) }
 {
@@ -143,20 +158,41 @@ fn explore_of<'a>(
     })
 }
 
+/// What the command of this name asks for with the arguments that were found.
+fn request_of<'a>(
+    alloc: Global,
+    name: &str,
+    found: &ArgMatches<'a>,
+) -> Result<Request<'a>, CommandFault>
+    ensures asked { IfOk result (λ request.
+        explore_asked_of name.now (rows_of (found_of found.now)) ≡ Some (asked_by request)) }
+    ensures usage { result ≡ Err CommandFault.Usage
+        → explore_asked_of name.now (rows_of (found_of found.now)) ≡ None }
+    ensures bounds { IfOk result IsBounded }
+{
+    match name {
+        "sample" => Ok(Request::Sample(sample_of(alloc, found)?)),
+        "merge" => {
+            let request = merge_of(found).ok_or(CommandFault::Usage)?;
+            Ok(Request::Merge(request))
+        }
+        _ => Ok(Request::Search(search_of(alloc, name, found)?)),
+    }
+}
+
 /// What the command that was met asks for.
 pub(crate) fn explore_met<'a>(
     alloc: Global,
     matches: &ArgMatches<'a>,
-) -> Result<ExploreRequest<'a>, CommandFault>
+) -> Result<Request<'a>, CommandFault>
     ensures asked { IfOk result (λ request.
         option_and_then (λ found. explore_asked_of found.0 found.1) (subcommand_rows_of matches.now)
-        ≡ Some (explore_asked_by request)) }
+        ≡ Some (asked_by request)) }
     ensures usage { result ≡ Err CommandFault.Usage
         → option_and_then (λ found. explore_asked_of found.0 found.1)
         (subcommand_rows_of matches.now) ≡ None }
-    ensures few { IfOk result (λ request. length request.sweeps.items ≤ MAX_SWEEPS) }
-    ensures some { IfOk result (λ request. 1 ≤ request.states) }
+    ensures bounds { IfOk result IsBounded }
 {
     let (name, found) = matches.subcommand().ok_or(CommandFault::Usage)?;
-    explore_of(alloc, name, found)
+    request_of(alloc, name, found)
 }

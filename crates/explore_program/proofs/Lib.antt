@@ -1,3 +1,4 @@
 pub mod ListingLemmas
 pub mod QuestionLemmas
+pub mod SampleLemmas
 pub mod ProgramLemmas

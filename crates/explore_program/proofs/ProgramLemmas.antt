@@ -3,11 +3,11 @@ use Rattle.std.proofs.Common.{◌≡◌, ℕ, List, map, false, Option, Some, No
 use Rattle.std.specs.Prelude.{◌⊎◌, IfErr, IfOk, IfSome, option_map}
 use Rattle.asm_map_reader.specs.Sources.{SourceParts}
 use Rattle.cheri_model.specs.runs.Image.{ImageParts}
-use Rattle.explore_line.specs.Requests.{ExploreAsked, AskedQuestion}
+use Rattle.explore_line.specs.Requests.{ExploreAsked, SearchAsked, AskedQuestion}
 use Rattle.schedules.specs.declared.ranges.SweepRange.{SweepRange}
 use Rattle.shown_states.specs.declared.form.Format.{Format}
 use Rattle.states.specs.Searches.{SearchParts}
-use Rattle.explore_program.specs.Questions.{IsSaidTo, range_of}
+use Rattle.explore_program.specs.Questions.{IsSaidTo, format_of, range_of}
 use Rattle.inputs.specs.Files.{KnownFiles}
 use Rattle.grammar.specs.Labels.{LabelParts, labels_of}
 use Rattle.inputs.specs.Files.{AreBytesOf}
@@ -29,31 +29,31 @@ use Rattle.sinks.specs.Sinks.{TakesPrefix}
 use Rattle.shown_states.specs.declared.form.Ending.{Ending}
 use Rattle.explore_program.specs.Faults.{Fault, failure_of, fault_text, is_refusal, own_failure, own_text, status_of}
 use Rattle.explore_program.specs.Listings.{ListedParts, MappedParts, IsMapUnread, mapped_image_of, of_listing, of_map, of_sources, sources_meant}
-use Rattle.explore_program.specs.Program.{Concludes, Ends, IsAnswer, IsMapAnswer, IsRequestAnswer, IsTextsAnswer, OfMapped, format_of, is_violation, search_asked}
+use Rattle.explore_program.specs.Program.{Concludes, Ends, IsAnswer, IsMapAnswer, IsRequestAnswer, IsSearched, IsTextsAnswer, OfMapped, is_violation, search_asked}
 use Rattle.explore_program.specs.declared.faults.OwnFault.TheVariants.{Map, Violated}
 use Rattle.shown_states.specs.Endings as endings
 use Rattle.shown_states.specs.declared.form.Ending.TheVariants as kinds
 
 -- a listing that was not read
-pub listing_unread : (files : KnownFiles) (asked : ExploreAsked) (refused : InputFault) (old new : Option (List ℕ))
+pub listing_unread : (files : KnownFiles) (asked : SearchAsked) (refused : InputFault) (old new : Option (List ℕ))
     → IsListingUnread (files asked.listing) refused → new ≡ old
-    → FailsBy (failure_of (Input refused)) (IsAnswer files (Some asked)) (Input refused) old new
+    → FailsBy (failure_of (Input refused)) (IsSearched files asked) (Input refused) old new
 listing_unread files asked faults.NoMemory old new is same = inl same
 listing_unread files asked faults.CannotReadListing old new is same =
-    input_fails (λ f. Input f) failure_of false (reported own_failure false) old new (IsAnswer files (Some asked)) faults.CannotReadListing
+    input_fails (λ f. Input f) failure_of false (reported own_failure false) old new (IsSearched files asked) faults.CannotReadListing
     (inl (is, refl)) same
 listing_unread files asked faults.CannotReadOrder old new is same = absurd is
 listing_unread files asked (faults.Listing listed) old new is same = absurd is
 listing_unread files asked (faults.Order ordered) old new is same = absurd is
 
 -- a listing that was read
-pub of_listing_file : (files : KnownFiles) (asked : ExploreAsked) (text : List ℕ) → AreBytesOf (files asked.listing) text
-    → (answer : Answer Ending Fault) → IsMapAnswer (option_map files asked.map) text asked answer → IsAnswer files (Some asked) answer
+pub of_listing_file : (files : KnownFiles) (asked : SearchAsked) (text : List ℕ) → AreBytesOf (files asked.listing) text
+    → (answer : Answer Ending Fault) → IsMapAnswer (option_map files asked.map) text asked answer → IsSearched files asked answer
 of_listing_file files asked text are answer so = inr (text, are, so)
 
 -- ---- a map
 
-module _ (file : Option (List ℕ)) (text : List ℕ) (asked : ExploreAsked) where
+module _ (file : Option (List ℕ)) (text : List ℕ) (asked : SearchAsked) where
   -- a map that was read answers for its file
   pub of_map_file : (map : List ℕ) → AreBytesOf file map → (answer : Answer Ending Fault) → IsTextsAnswer text (Some map) asked answer
       → IsMapAnswer (Some file) text asked answer
@@ -93,7 +93,7 @@ early_texts map (Err refused) fault is =
     let same : Input refused ≡ fault = cc in
     subst (λ (f : Fault). IsEarly (failure_of f)) same ((reported own_failure false).early refused)
 
-module _ (text : List ℕ) (map : Option (List ℕ)) (asked : ExploreAsked) where
+module _ (text : List ℕ) (map : Option (List ℕ)) (asked : SearchAsked) where
   -- what is so of the meaning of both texts
   abbrev IsMeantAnswer : Answer Ending Fault → Result MappedParts Fault → Type 0
   IsMeantAnswer answer meaning =
@@ -120,7 +120,7 @@ module _ (text : List ℕ) (map : Option (List ℕ)) (asked : ExploreAsked) wher
       (subst (λ (s : Sources). IsRequestAnswer (labels_of text) (record { text = text; sources = s }) mapped.image asked answer) same said)
 
 -- what is answered to the question is answered to the request
-module _ (asked : ExploreAsked) (image : ImageParts) (question : AskedQuestion) (labels : LabelParts) (listed : ListedParts)
+module _ (asked : SearchAsked) (image : ImageParts) (question : AskedQuestion) (labels : LabelParts) (listed : ListedParts)
     (sweeps : List SweepRange) (format : Format) (question_is : question ≡ asked.question)
     (sweeps_are : sweeps ≡ map range_of asked.sweeps) (format_is : format ≡ format_of asked.form) where
   -- the search, with these sweeps
@@ -149,7 +149,7 @@ module _ (asked : ExploreAsked) (image : ImageParts) (question : AskedQuestion) 
       of_question old new result fails
 
 -- the same, of labels that are these
-module _ (asked : ExploreAsked) (listed : ListedParts) (image : ImageParts) (labels known : LabelParts) (are : labels ≡ known) where
+module _ (asked : SearchAsked) (listed : ListedParts) (image : ImageParts) (labels known : LabelParts) (are : labels ≡ known) where
   pub known_printed : {E : Type 0} (result : Result Ending E) (old new : Option (List ℕ))
       → IfOk result (λ ending. HasWhole (IsRequestAnswer labels listed image asked) ending old new)
       → IfOk result (λ ending. HasWhole (IsRequestAnswer known listed image asked) ending old new)

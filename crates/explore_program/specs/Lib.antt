@@ -3,4 +3,6 @@ pub mod Progress
 pub mod Faults
 pub mod Listings
 pub mod Questions
+pub mod Samples
+pub mod Merges
 pub mod Program

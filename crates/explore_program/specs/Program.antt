@@ -1,12 +1,11 @@
 -- What the program answers to its command line, and how it ends.
 use Rattle.std.specs.Prelude.{◌≡◌, ℕ, ◌⊎◌, Bool, true, false, List}
 use Rattle.std.specs.Prelude.{map, codes, Option, Some, None, option_map, Result, Ok, Err}
-use Rattle.std.specs.Prelude.{String}
+use Rattle.std.specs.Prelude.{String, string_bytes}
+use Rattle.std.specs.Io.KnownBytes.{Appends}
 use Rattle.std.specs.Global.{Global}
 use Rattle.cheri_model.specs.runs.Image.{ImageParts}
-use Rattle.explore_line.specs.Requests.{ExploreAsked}
-use Rattle.command_line.specs.declared.found.Format as found
-use Rattle.command_line.specs.declared.found.Format.TheVariants as forms
+use Rattle.explore_line.specs.Requests.{ExploreAsked, Merge, Sample, Search, SearchAsked}
 use Rattle.inputs.specs.Arguments.{command_args}
 use Rattle.inputs.specs.Files.{KnownFiles}
 use Rattle.grammar.specs.Labels.{LabelParts, labels_of}
@@ -16,26 +15,25 @@ use Rattle.printing.specs.Endings.{Answer, EndsBy, FailsBy, HasWhole}
 use Rattle.shown_states.specs.Endings as endings
 use Rattle.shown_states.specs.declared.form.Ending.{Ending}
 use Rattle.shown_states.specs.declared.form.Ending.TheVariants as kinds
-use Rattle.shown_states.specs.declared.form.Format.{Format}
-use Rattle.shown_states.specs.declared.form.Format.TheVariants.{Text, Json}
 use Rattle.program_io.specs.Endings.{IsTold}
-use Rattle.program_io.specs.declared.fault.Fault.TheVariants.{Usage, Input, Own}
+use Rattle.program_io.specs.Faults.{no_memory}
+use Rattle.program_io.specs.declared.fault.Fault.TheVariants.{Usage, Input, CannotWrite, Own}
+use Rattle.shown_states.specs.declared.answer.Answer.{Answer as Whole}
+use Rattle.sinks.specs.Sinks.{TakesPrefix}
 use Rattle.states.specs.Searches.{SearchParts}
 use Rattle.explore_program.specs.Faults.{Fault, failure_of, fault_text, status_of}
 use Rattle.explore_program.specs.declared.faults.OwnFault.TheVariants.{CannotReadMap, Violated}
 use Rattle.explore_program.specs.Listings.{ListedParts, MappedParts, mapped_image_of}
-use Rattle.explore_program.specs.Questions.{IsSaidTo, range_of}
+use Rattle.explore_program.specs.Merges.{IsMerged}
+use Rattle.explore_program.specs.Questions.{IsSaidTo, format_of, range_of}
+use Rattle.explore_program.specs.Samples.{IsSampled}
 
 -- the command line of the arguments that are given after the program's name
 abbrev pub command_line : List (String Global) → List (List ℕ)
 command_line args = command_args (codes "cheri_explore") args
 
-abbrev pub format_of : found.Format → Format
-format_of forms.Text = Text
-format_of forms.Json = Json
-
 -- the search of an image that is asked for
-abbrev pub search_asked : ImageParts → ExploreAsked → SearchParts
+abbrev pub search_asked : ImageParts → SearchAsked → SearchParts
 search_asked image asked = record {
   image = image;
   sweeps = map range_of asked.sweeps;
@@ -45,7 +43,7 @@ search_asked image asked = record {
 
 -- the answers to a request about the listing that has this text, this map, these labels and this
 -- image
-abbrev pub IsRequestAnswer : LabelParts → ListedParts → ImageParts → ExploreAsked
+abbrev pub IsRequestAnswer : LabelParts → ListedParts → ImageParts → SearchAsked
     → Answer Ending Fault → Type 0
 IsRequestAnswer labels listed image asked answer =
     IsSaidTo asked.question labels listed (search_asked image asked) (format_of asked.form)
@@ -58,26 +56,42 @@ OfMapped (Ok mapped) refused IsSo answer = IsSo mapped
 OfMapped (Err fault) refused IsSo answer = answer ≡ refused fault
 
 -- the answers to a request about the texts of a listing and of its map, if there is one
-abbrev pub IsTextsAnswer : List ℕ → Option (List ℕ) → ExploreAsked → Answer Ending Fault → Type 0
+abbrev pub IsTextsAnswer : List ℕ → Option (List ℕ) → SearchAsked → Answer Ending Fault → Type 0
 IsTextsAnswer text map asked answer =
     OfMapped (mapped_image_of text map) (λ fault. Err fault)
     (λ mapped. IsRequestAnswer (labels_of text)
     (record { text = text; sources = mapped.sources }) mapped.image asked answer) answer
 
 -- by the map of a file, if one is named
-abbrev pub IsMapAnswer : Option (Option (List ℕ)) → List ℕ → ExploreAsked → Answer Ending Fault
+abbrev pub IsMapAnswer : Option (Option (List ℕ)) → List ℕ → SearchAsked → Answer Ending Fault
     → Type 0
 IsMapAnswer None text asked answer = IsTextsAnswer text None asked answer
 IsMapAnswer (Some file) text asked answer =
     OfFile file (Err (Own CannotReadMap)) (λ map. IsTextsAnswer text (Some map) asked answer) answer
 
--- The answers to a request; `usage` where the arguments ask for nothing. All files are read before
--- one is judged.
-abbrev pub IsAnswer : KnownFiles → Option ExploreAsked → Answer Ending Fault → Type 0
-IsAnswer files None answer = answer ≡ Err Usage
-IsAnswer files (Some asked) answer =
+-- The answers to a search. All files are read before one is judged.
+abbrev pub IsSearched : KnownFiles → SearchAsked → Answer Ending Fault → Type 0
+IsSearched files asked answer =
     OfFile (files asked.listing) (Err (Input CannotReadListing))
     (λ text. IsMapAnswer (option_map files asked.map) text asked answer) answer
+
+-- the answers to a request; `usage` where the arguments ask for nothing
+abbrev pub IsAnswer : KnownFiles → Option ExploreAsked → Answer Ending Fault → Type 0
+IsAnswer files None answer = answer ≡ Err Usage
+IsAnswer files (Some (Search asked)) answer = IsSearched files asked answer
+IsAnswer files (Some (Sample asked)) answer = IsSampled files asked answer
+IsAnswer files (Some (Merge asked)) answer = IsMerged files asked answer
+
+-- What was made of an answer was put, and it ends so: a writer got the whole text; or nothing, or a
+-- prefix of it where it failed; or nothing where the answer is a fault.
+abbrev pub IsPut : Result Whole Fault → Result Ending Fault → Option (List ℕ) → Option (List ℕ)
+    → Type 0
+IsPut (Ok made) (Ok ending) old new =
+    (ending ≡ made.ending) × Appends old new (string_bytes made.text)
+IsPut (Ok made) (Err fault) old new =
+    ((fault ≡ no_memory) × (new ≡ old))
+    ⊎ ((fault ≡ CannotWrite) × TakesPrefix old new (string_bytes made.text))
+IsPut (Err fault) ended old new = (ended ≡ Err fault) × (new ≡ old)
 
 -- a property is violated
 abbrev pub is_violation : Ending → Bool

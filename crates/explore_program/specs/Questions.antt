@@ -10,6 +10,8 @@ use Rattle.explore_line.specs.Requests.{AskedQuestion, Find, Outcomes, Authority
 use Rattle.explore_properties.specs.Properties.{PropertiesParts}
 use Rattle.explore_properties.specs.Reading.{properties_of}
 use Rattle.explore_sweeps.specs.declared.Sweep.{Sweep}
+use Rattle.command_line.specs.declared.found.Format as found
+use Rattle.command_line.specs.declared.found.Format.TheVariants as forms
 use Rattle.condition_texts.specs.Conditions.{condition_of}
 use Rattle.condition_texts.specs.declared.fault.TextFault.TheVariants.{Condition, Place}
 use Rattle.condition_texts.specs.Items.{items_of}
@@ -21,9 +23,14 @@ use Rattle.printing.specs.Endings.{Answer}
 use Rattle.schedules.specs.declared.ranges.SweepRange.{SweepRange}
 use Rattle.shown_states.specs.declared.form.Ending.{Ending}
 use Rattle.shown_states.specs.declared.form.Format.{Format}
+use Rattle.shown_states.specs.declared.form.Format.TheVariants.{Text, Json}
 use Rattle.states.specs.Searches.{SearchParts}
 use Rattle.explore_program.specs.Faults.{Fault, property_fault, text_fault}
 use Rattle.explore_program.specs.Listings.{ListedParts}
+
+abbrev pub format_of : found.Format → Format
+format_of forms.Text = Text
+format_of forms.Json = Json
 
 -- the range of a sweep
 abbrev pub range_of : Sweep → SweepRange

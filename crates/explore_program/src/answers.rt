@@ -15,8 +15,9 @@ ghost use Rattle.explore_program.specs.Questions.{IsSaid, IsSaidTo, IsShownSaid}
 use crate::faults::{Fault, property_fault, text_fault};
 use crate::listing::Listed;
 use crate::questions::{
-    Authority, Check, Explaining, Find, Outcomes, SearchQuestion, ShownOutcomes, ranges_of,
+    Authority, Check, Explaining, Find, Outcomes, SearchQuestion, ShownOutcomes,
 };
+use crate::ranges::ranges_of;
 use condition_texts::{read_condition, read_items};
 use explore_line::Question;
 use explore_properties::read_properties;

@@ -1,13 +1,14 @@
 //! The faults that only this program has.
 
 ghost use Rattle.std.specs.Prelude.{◌≡◌};
-ghost use Rattle.explore_program.specs.Faults.{is_refusal, own_text};
-ghost use Rattle.explore_program.specs.Faults.{refused_properties, text_fault};
+ghost use Rattle.explore_program.specs.Faults.{is_refusal, kind_text, own_text};
+ghost use Rattle.explore_program.specs.Faults.{refused_properties, refused_slices, text_fault};
 
 use condition_texts::TextFault;
 use explore_properties::{PropertyFault, PropertyPlace};
 use inputs::InputFault;
 use program_io::ProgramFault;
+use sample_slices::{SliceError, SliceFault, SliceKind};
 use std::fmt;
 
 /// Why the program answers nothing, or not all.
@@ -26,8 +27,23 @@ pub enum OwnFault {
     CannotReadMap,
     /// The map's line of this number is none of a map of this program.
     Map(usize),
+    /// The file of slices cannot be read.
+    CannotReadSlices,
+    /// A line is no slice of the listing, or doesn't go with those before it.
+    Slice(SliceFault),
     /// The property on the line of this number is violated; the answer was printed whole.
     Violated(usize),
+}
+
+/// The number and the name of what is wrong with a slice.
+fn kind_text(kind: SliceKind) -> &'static str
+    ensures { result.now ≡ kind_text kind }
+{
+    match kind {
+        SliceKind::Form => "1 Form",
+        SliceKind::Other => "2 Other",
+        SliceKind::Twice => "3 Twice",
+    }
 }
 
 impl fmt::Display for OwnFault {
@@ -44,6 +60,10 @@ impl fmt::Display for OwnFault {
             }
             OwnFault::CannotReadMap => f.write_str("cannot read map"),
             OwnFault::Map(line) => write!(f, "map line {line}"),
+            OwnFault::CannotReadSlices => f.write_str("cannot read slices"),
+            OwnFault::Slice(SliceFault { line, kind }) => {
+                write!(f, "slice line {line}: {}", kind_text(kind))
+            }
             OwnFault::Violated(line) => write!(f, "property line {line}: violated"),
         }
     }
@@ -55,8 +75,9 @@ impl ProgramFault for OwnFault {
     fn is_refusal(self) -> bool {
         match self {
             OwnFault::BadCondition(_) | OwnFault::BadPlace(_) => true,
-            OwnFault::BadProperty(_) | OwnFault::Violated(_) | OwnFault::Map(_) => true,
-            OwnFault::CannotReadMap => false,
+            OwnFault::BadProperty(_) | OwnFault::Violated(_) => true,
+            OwnFault::Map(_) | OwnFault::Slice(_) => true,
+            OwnFault::CannotReadMap | OwnFault::CannotReadSlices => false,
         }
     }
 }
@@ -79,5 +100,15 @@ pub fn property_fault(refused: PropertyFault) -> Fault
     match refused {
         PropertyFault::Place(place) => Fault::Own(OwnFault::BadProperty(place)),
         PropertyFault::NoMemory => Fault::Input(InputFault::NoMemory),
+    }
+}
+
+/// Why slices were refused.
+pub fn slice_fault(refused: SliceError) -> Fault
+    ensures { result ≡ refused_slices refused }
+{
+    match refused {
+        SliceError::Slice(fault) => Fault::Own(OwnFault::Slice(fault)),
+        SliceError::NoMemory => Fault::Input(InputFault::NoMemory),
     }
 }

@@ -4,11 +4,14 @@
 mod answers;
 mod faults;
 mod listing;
+mod merging;
 mod program;
 mod progress;
 mod questions;
+mod ranges;
+mod sampling;
 
 pub use faults::{Fault, OwnFault};
 pub use program::perform;
 pub use program_io::report_fault;
-pub use progress::TerminalProgress;
+pub use progress::{Counted, TerminalProgress};

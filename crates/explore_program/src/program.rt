@@ -1,7 +1,9 @@
 //! The program: answers one question, or reports why it cannot.
 
 ghost use Rattle.std.specs.Prelude.{◌≡◌, ◌≤◌, length, None, Ok, Some, IfOk, IfErr, option_map};
-ghost use Rattle.explore_line.specs.Requests.{explore_asked, explore_asked_by};
+ghost use Rattle.explore_line.specs.Requests.{asked_by, explore_asked, search_asked_by};
+ghost use Rattle.explore_line.specs.Requests.{IsBounded, Sample};
+ghost use Rattle.explore_line.specs.Samples.{sample_asked_by, IsSampleBounded};
 ghost use Rattle.grammar.specs.LabelMap.{label_parts};
 ghost use Rattle.grammar.specs.Labels.{labels_of};
 ghost use Rattle.listings.specs.Meaning.{listing_meaning};
@@ -9,38 +11,32 @@ ghost use Rattle.printing.specs.Endings.{HasWhole, FailsBy};
 ghost use Rattle.explore_program.specs.Faults.{failure_of};
 ghost use Rattle.explore_program.specs.Listings.{bytes_in, listed_of};
 ghost use Rattle.explore_program.specs.Program.{Concludes, Ends, IsAnswer, IsMapAnswer};
-ghost use Rattle.explore_program.specs.Program.{IsRequestAnswer, IsTextsAnswer};
-ghost use Rattle.explore_program.specs.Program.{command_line, format_of};
+ghost use Rattle.explore_program.specs.Program.{IsPut, IsRequestAnswer, IsTextsAnswer};
+ghost use Rattle.explore_program.specs.Program.{command_line, IsSearched};
 
 use crate::answers::{Asking, answer_question};
 use crate::faults::{Fault, OwnFault};
 use crate::listing::{Listed, read_map_text, read_mapped_image};
-use crate::progress::TerminalProgress;
-use crate::questions::ranges_of;
+use crate::merging::merge;
+use crate::progress::{Counted, TerminalProgress};
+use crate::questions::format_of;
+use crate::ranges::ranges_of;
+use crate::sampling::sample;
 use cheri_model::Image;
-use explore_line::{ExploreRequest, explore_request};
+use explore_line::{ExploreRequest, Request, SampleRequest, explore_request};
 use grammar::labels::Labels;
 use graph_search::{NoProgress, Progress};
 use inputs::{Files, command_args, read_listing_text};
 use listing_labels::labels_of;
 use printing::give_back;
 use program_io::{finish, report_fault};
-use shown_states::{Ending, Format};
+use shown_states::{Answer, Ending, put_answer};
 use sinks::{Sink, ToWrite};
 use states::{MAX_SWEEPS, Search};
-use std::alloc::Global;
+use std::alloc::{AllocGlobal, Global};
 use std::io::Write;
+use std::thread::Threads;
 use std::time::Clock;
-
-/// How an answer that is asked for in this format is written.
-fn format_of(asked: command_line::Format) -> Format
-    ensures { result ≡ format_of asked }
-{
-    match asked {
-        command_line::Format::Text => Format::Text,
-        command_line::Format::Json => Format::Json,
-    }
-}
 
 /// A good listing, and its image.
 #[derive(Clone, Copy)]
@@ -63,11 +59,11 @@ fn answer_labelled<S: Sink, P: Progress>(
     requires few { length request.now.sweeps.items ≤ MAX_SWEEPS }
     ensures printed { IfOk result (λ ending. HasWhole
         (IsRequestAnswer (label_parts labels.now) (listed_of listing.entry.listed)
-        listing.entry.image.now (explore_asked_by request.now)) ending
+        listing.entry.image.now (search_asked_by request.now)) ending
         (S.written sink.old) (S.written sink.new)) }
     ensures failed { IfErr result (λ fault. FailsBy (failure_of fault)
         (IsRequestAnswer (label_parts labels.now) (listed_of listing.entry.listed)
-        listing.entry.image.now (explore_asked_by request.now)) fault
+        listing.entry.image.now (search_asked_by request.now)) fault
         (S.written sink.old) (S.written sink.new)) }
     ensures identity { S.identity sink.new ≡ S.identity sink.old }
 {
@@ -103,11 +99,11 @@ fn answer_listed<S: Sink, P: Progress>(
     requires few { length request.now.sweeps.items ≤ MAX_SWEEPS }
     ensures printed { IfOk result (λ ending. HasWhole
         (IsRequestAnswer (labels_of listed.entry.text.now) (listed_of listed.entry) image.now
-        (explore_asked_by request.now)) ending
+        (search_asked_by request.now)) ending
         (S.written sink.old) (S.written sink.new)) }
     ensures failed { IfErr result (λ fault. FailsBy (failure_of fault)
         (IsRequestAnswer (labels_of listed.entry.text.now) (listed_of listed.entry) image.now
-        (explore_asked_by request.now)) fault
+        (search_asked_by request.now)) fault
         (S.written sink.old) (S.written sink.new)) }
     ensures identity { S.identity sink.new ≡ S.identity sink.old }
 {
@@ -129,11 +125,11 @@ fn answer_texts<S: Sink, P: Progress>(
     requires few { length request.now.sweeps.items ≤ MAX_SWEEPS }
     ensures printed { IfOk result (λ ending. HasWhole
         (IsTextsAnswer listing.now (option_map bytes_in map.entry)
-        (explore_asked_by request.now)) ending
+        (search_asked_by request.now)) ending
         (S.written sink.old) (S.written sink.new)) }
     ensures failed { IfErr result (λ fault. FailsBy (failure_of fault)
         (IsTextsAnswer listing.now (option_map bytes_in map.entry)
-        (explore_asked_by request.now)) fault
+        (search_asked_by request.now)) fault
         (S.written sink.old) (S.written sink.new)) }
     ensures identity { S.identity sink.new ≡ S.identity sink.old }
 {
@@ -158,12 +154,12 @@ fn answer_mapped<F: Files, S: Sink, P: Progress>(
     requires some { 1 ≤ request.now.states }
     requires few { length request.now.sweeps.items ≤ MAX_SWEEPS }
     ensures printed { IfOk result (λ ending. HasWhole
-        (IsMapAnswer (option_map (F.bytes_of files.old) (explore_asked_by request.now).map)
-        listing.now (explore_asked_by request.now)) ending
+        (IsMapAnswer (option_map (F.bytes_of files.old) (search_asked_by request.now).map)
+        listing.now (search_asked_by request.now)) ending
         (S.written sink.old) (S.written sink.new)) }
     ensures failed { IfErr result (λ fault. FailsBy (failure_of fault)
-        (IsMapAnswer (option_map (F.bytes_of files.old) (explore_asked_by request.now).map)
-        listing.now (explore_asked_by request.now)) fault
+        (IsMapAnswer (option_map (F.bytes_of files.old) (search_asked_by request.now).map)
+        listing.now (search_asked_by request.now)) fault
         (S.written sink.old) (S.written sink.new)) }
     ensures identity { S.identity sink.new ≡ S.identity sink.old }
 {
@@ -177,8 +173,8 @@ fn answer_mapped<F: Files, S: Sink, P: Progress>(
     }
 }
 
-/// Answers a request. All files are read before one is judged.
-fn answer_request<F: Files, S: Sink, P: Progress>(
+/// Answers a search. All files are read before one is judged.
+fn answer_search<F: Files, S: Sink, P: Progress>(
     alloc: Global,
     request: &ExploreRequest<'_>,
     files: &mut F,
@@ -188,10 +184,10 @@ fn answer_request<F: Files, S: Sink, P: Progress>(
     requires some { 1 ≤ request.now.states }
     requires few { length request.now.sweeps.items ≤ MAX_SWEEPS }
     ensures printed { IfOk result (λ ending. HasWhole
-        (IsAnswer (F.bytes_of files.old) (Some (explore_asked_by request.now))) ending
+        (IsSearched (F.bytes_of files.old) (search_asked_by request.now)) ending
         (S.written sink.old) (S.written sink.new)) }
     ensures failed { IfErr result (λ fault. FailsBy (failure_of fault)
-        (IsAnswer (F.bytes_of files.old) (Some (explore_asked_by request.now))) fault
+        (IsSearched (F.bytes_of files.old) (search_asked_by request.now)) fault
         (S.written sink.old) (S.written sink.new)) }
     ensures identity { S.identity sink.new ≡ S.identity sink.old }
 {
@@ -199,31 +195,88 @@ fn answer_request<F: Files, S: Sink, P: Progress>(
     answer_mapped(alloc, request, text.as_slice(), files, progress, sink)
 }
 
-/// Answers what the arguments ask for. The command line is judged first.
-fn answer<F: Files, S: Sink, P: Progress>(
+/// Puts what was made of an answer, or fails by its fault.
+fn put_made<S: Sink>(sink: &mut S, made: Result<Answer, Fault>) -> Result<Ending, Fault>
+    ensures put { IsPut made result (S.written sink.old) (S.written sink.new) }
+    ensures identity { S.identity sink.new ≡ S.identity sink.old }
+{
+    let answer = made?;
+    let ending = put_answer(sink, &answer)?;
+    Ok(ending)
+}
+
+/// Answers a request.
+fn answer_request<F: Files, S: Sink, R: Threads + Sync, P: Progress>(
+    rt: &R,
     alloc: Global,
-    args: &[String],
+    request: &Request<'_>,
     files: &mut F,
     progress: &mut P,
     sink: &mut S,
 ) -> Result<Ending, Fault>
+    requires { IsBounded request.now }
     ensures printed { IfOk result (λ ending. HasWhole
-        (IsAnswer (F.bytes_of files.old) (explore_asked (command_line args.now))) ending
+        (IsAnswer (F.bytes_of files.old) (Some (asked_by request.now))) ending
         (S.written sink.old) (S.written sink.new)) }
     ensures failed { IfErr result (λ fault. FailsBy (failure_of fault)
-        (IsAnswer (F.bytes_of files.old) (explore_asked (command_line args.now))) fault
+        (IsAnswer (F.bytes_of files.old) (Some (asked_by request.now))) fault
         (S.written sink.old) (S.written sink.new)) }
     ensures identity { S.identity sink.new ≡ S.identity sink.old }
 {
-    let args = command_args(alloc, "cheri_explore", args)?;
-    let request = explore_request(alloc, args.as_slice())?;
-    answer_request(alloc, &request, files, progress, sink)
+    match request {
+        Request::Search(request) => answer_search(alloc, request, files, progress, sink),
+        Request::Sample(request) => {
+            let made = sample(rt, alloc, request, files, progress);
+            put_made(sink, made)
+        }
+        Request::Merge(request) => {
+            let made = merge(alloc, request, files);
+            put_made(sink, made)
+        }
+    }
 }
 
-/// Answers what the arguments ask for. In a terminal, which is given by its clock, a long search is
-/// reported on `err`; elsewhere nothing is.
-fn answer_at<F: Files, S: Sink, E: Write, C: Clock>(
-    alloc: Global,
+/// What is counted as a request is answered.
+fn counted_for(request: &Request<'_>) -> Counted {
+    match request {
+        Request::Search(_) => Counted::States,
+        Request::Sample(_) | Request::Merge(_) => Counted::Runs,
+    }
+}
+
+/// Answers a request. In a terminal, which is given by its clock, how far it is is reported on
+/// `err`, where this takes long; elsewhere nothing is.
+fn answer_at<F: Files, S: Sink, R: AllocGlobal + Threads + Sync, E: Write, C: Clock>(
+    rt: &R,
+    request: &Request<'_>,
+    files: &mut F,
+    terminal: Option<&C>,
+    sink: &mut S,
+    err: &mut E,
+) -> Result<Ending, Fault>
+    requires { IsBounded request.now }
+    ensures printed { IfOk result (λ ending. HasWhole
+        (IsAnswer (F.bytes_of files.old) (Some (asked_by request.now))) ending
+        (S.written sink.old) (S.written sink.new)) }
+    ensures failed { IfErr result (λ fault. FailsBy (failure_of fault)
+        (IsAnswer (F.bytes_of files.old) (Some (asked_by request.now))) fault
+        (S.written sink.old) (S.written sink.new)) }
+    ensures silent { terminal.entry ≡ None → E.contents err.new ≡ E.contents err.old }
+    ensures identity { S.identity sink.new ≡ S.identity sink.old }
+{
+    let alloc = rt.alloc();
+    match terminal {
+        Some(clock) => {
+            let mut progress = TerminalProgress::new(clock, err, counted_for(request));
+            answer_request(rt, alloc, request, files, &mut progress, sink)
+        }
+        None => answer_request(rt, alloc, request, files, &mut NoProgress, sink),
+    }
+}
+
+/// Answers what the arguments ask for. The command line is judged first.
+fn answer<F: Files, S: Sink, R: AllocGlobal + Threads + Sync, E: Write, C: Clock>(
+    rt: &R,
     args: &[String],
     files: &mut F,
     terminal: Option<&C>,
@@ -239,13 +292,9 @@ fn answer_at<F: Files, S: Sink, E: Write, C: Clock>(
     ensures silent { terminal.entry ≡ None → E.contents err.new ≡ E.contents err.old }
     ensures identity { S.identity sink.new ≡ S.identity sink.old }
 {
-    match terminal {
-        Some(clock) => {
-            let mut progress = TerminalProgress::new(clock, err);
-            answer(alloc, args, files, &mut progress, sink)
-        }
-        None => answer(alloc, args, files, &mut NoProgress, sink),
-    }
+    let args = command_args(rt.alloc(), "cheri_explore", args)?;
+    let request = explore_request(rt.alloc(), args.as_slice())?;
+    answer_at(rt, &request, files, terminal, sink, err)
 }
 
 /// The exit status of a command that ended so: that of its ending, or of a violation or a fault,
@@ -268,9 +317,10 @@ fn conclude<E: Write>(err: &mut E, ended: Result<Ending, Fault>) -> u8
 /// nothing. Else `err` got the line of a fault, whether it took it or not: 1 where a text was
 /// refused, or where the whole answer tells of a property that is violated, 2 where the command
 /// line was, and 3 for every other fault. Where `err` is a terminal, `terminal` is the clock by
-/// which lines of how far a long search is come there before.
-pub fn perform<F: Files, O: Write, E: Write, C: Clock>(
-    alloc: Global,
+/// which lines of how far a long search or a sample is come there before. Only `sample` starts
+/// threads.
+pub fn perform<F: Files, R: AllocGlobal + Threads + Sync, O: Write, E: Write, C: Clock>(
+    rt: &R,
     args: &[String],
     files: &mut F,
     terminal: Option<&C>,
@@ -282,7 +332,7 @@ pub fn perform<F: Files, O: Write, E: Write, C: Clock>(
         (E.contents err.old) (E.contents err.new) }
 {
     let mut sink = ToWrite::new(out);
-    let answered = answer_at(alloc, args, files, terminal, &mut sink, err);
+    let answered = answer(rt, args, files, terminal, &mut sink, err);
     let ended = finish(&mut sink, answered);
     give_back(sink);
     conclude(err, ended)

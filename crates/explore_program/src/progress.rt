@@ -1,7 +1,8 @@
 //! Reports of long searches.
 
 ghost use Rattle.std.specs.Prelude.{◌≡◌, ◌⊎◌, Some, IfSome};
-ghost use Rattle.explore_program.specs.Progress.{progress_text, IsDue, IsQuiet, IsTold};
+ghost use Rattle.explore_program.specs.Progress.{counted_word, progress_text};
+ghost use Rattle.explore_program.specs.Progress.{IsDue, IsQuiet, IsTold};
 
 use graph_search::Progress;
 use printing::write_line;
@@ -9,37 +10,65 @@ use std::fmt;
 use std::io::Write;
 use std::time::{Clock, Instant};
 
-/// How many seconds a search says nothing after a report, and before the first one.
-pub const SILENCE: u64 = 1;
+/// What is counted of a search, or of a sample.
+#[derive(Clone, Copy, Debug, PartialEq, Eq)]
+pub enum Counted {
+    States,
+    Runs,
+}
 
-/// How many states were found.
-#[derive(Clone, Copy)]
-struct StatesFound(u32);
-
-impl fmt::Display for StatesFound {
-    ghost output = { λ s. Some (progress_text s.0) };
-
-    fn fmt<W: fmt::Write>(&self, f: &mut fmt::Formatter<W>) -> fmt::Result {
-        write!(f, "states {}", self.0)
+impl Counted {
+    /// The word for it.
+    fn word(self) -> &'static str
+        ensures { result.now ≡ counted_word self }
+    {
+        match self {
+            Counted::States => "states",
+            Counted::Runs => "runs",
+        }
     }
 }
 
-/// Reports on a terminal how many states were found, at most once a second. Where the clock fails,
-/// it reports nothing.
+/// How many seconds a search says nothing after a report, and before the first one.
+pub const SILENCE: u64 = 1;
+
+/// How many there are so far.
+#[derive(Clone, Copy)]
+struct Found {
+    counted: Counted,
+    count: u32,
+}
+
+impl fmt::Display for Found {
+    ghost output = { λ s. Some (progress_text s.counted s.count) };
+
+    fn fmt<W: fmt::Write>(&self, f: &mut fmt::Formatter<W>) -> fmt::Result {
+        write!(f, "{} {}", self.counted.word(), self.count)
+    }
+}
+
+/// Reports on a terminal how many states were found, or runs made, at most once a second. Where the
+/// clock fails, it reports nothing.
 #[derive(Drop)]
 pub struct TerminalProgress<'a, C, E> {
     clock: &'a C,
     err: E,
+    counted: Counted,
     last: Option<Instant>,
 }
 
 impl<'a, C: Clock, E: Write> TerminalProgress<'a, C, E> {
     /// Reports on `err`, which is a terminal: for the first time a second from now.
-    pub fn new(clock: &'a C, err: E) -> TerminalProgress<'a, C, E>
+    pub fn new(clock: &'a C, err: E, counted: Counted) -> TerminalProgress<'a, C, E>
         ensures { result.err ≡ err }
     {
         let last = Instant::now(clock).ok();
-        TerminalProgress { clock, err, last }
+        TerminalProgress {
+            clock,
+            err,
+            counted,
+            last,
+        }
     }
 
     /// The time, where a report is due.
@@ -60,14 +89,20 @@ impl<C: Clock, E: Write> Progress for TerminalProgress<'_, C, E> {
     fn report(&mut self, found: u32)
         ensures { IsQuiet self.old.last self.new.last
             (E.contents self.old.err) (E.contents self.new.err)
-            ⊎ IsTold found self.old.last self.new.last
+            ⊎ IsTold self.old.counted found self.old.last self.new.last
             (E.contents self.old.err) (E.contents self.new.err) }
     {
         match self.due() {
             None => {}
             Some(now) => {
                 self.last = Some(now);
-                let _ = write_line(&mut self.err, StatesFound(found));
+                let _ = write_line(
+                    &mut self.err,
+                    Found {
+                        counted: self.counted,
+                        count: found,
+                    },
+                );
             }
         }
     }

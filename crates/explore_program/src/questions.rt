@@ -1,6 +1,6 @@
 //! The questions, each of the states that the image of a listing reaches.
 
-ghost use Rattle.std.specs.Prelude.{◌≡◌, ◌+◌, ℕ, List, Ok, IfOk, IfErr, true, map, string_bytes};
+ghost use Rattle.std.specs.Prelude.{◌≡◌, ◌+◌, ℕ, List, Ok, IfOk, IfErr, true, string_bytes};
 ghost use Rattle.std.specs.Io.KnownBytes.{Appends};
 ghost use Rattle.authority_texts.specs.Answers.{IsAuthorityAnswer};
 ghost use Rattle.conditions.specs.Items.{list_of};
@@ -12,7 +12,7 @@ ghost use Rattle.outcome_texts.specs.Answers.{IsListedAnswer, IsShownAnswer};
 ghost use Rattle.shown_states.specs.Endings.{failures_of, IsUnwritten, IsWritten};
 ghost use Rattle.shown_states.specs.declared.form.Ending.{Ending};
 ghost use Rattle.explore_program.specs.Listings.{listed_of};
-ghost use Rattle.explore_program.specs.Questions.{explained_text, IsExplained, range_of};
+ghost use Rattle.explore_program.specs.Questions.{explained_text, format_of, IsExplained};
 ghost use Rattle.states.specs.Searches.{IsSearchable, search_of};
 
 use crate::listing::Listed;
@@ -21,29 +21,23 @@ use cheri_model::{Image, NoMemory};
 use conditions::{Condition, Items};
 use explained_orders::explain_orders;
 use explore_checks::check;
-use explore_line::Sweep;
 use explore_properties::Property;
 use found_texts::{Told, find};
 use graph_search::Progress;
 use outcome_texts::{list_outcomes, show_outcomes};
-use schedules::SweepRange;
 use shown_states::{Ending, Format, put_answer};
 use sinks::{MemSink, Sink, WriteFault, put_whole};
 use states::Search;
 use std::alloc::Global;
 
-/// The ranges of sweeps.
-pub fn ranges_of(alloc: Global, sweeps: &[Sweep]) -> Result<Vec<SweepRange>, NoMemory>
-    ensures { IfOk result (λ ranges. ranges.items ≡ map range_of sweeps.now) }
+/// How an answer that is asked for in this format is written.
+pub fn format_of(asked: command_line::Format) -> Format
+    ensures { result ≡ format_of asked }
 {
-    let mut ranges = Vec::with_capacity(alloc, sweeps.len())?;
-    for sweep in sweeps {
-        ranges.push(SweepRange {
-            lo: sweep.lo,
-            hi: sweep.hi,
-        })?;
+    match asked {
+        command_line::Format::Text => Format::Text,
+        command_line::Format::Json => Format::Json,
     }
-    Ok(ranges)
 }
 
 /// A question about the states that a search keeps.

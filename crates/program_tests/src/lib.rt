@@ -15,3 +15,5 @@ mod faults;
 mod questions;
 #[cfg(test)]
 mod races;
+#[cfg(test)]
+mod samples;

@@ -1,7 +1,7 @@
 //! What `cheri_explore` answers and reports, with the answers of an independent model.
 
 use crate::common::{Folder, Full, Unflushed, assert_bytes, owned};
-use explore_program::{TerminalProgress, perform};
+use explore_program::{Counted, TerminalProgress, perform};
 use graph_search::Progress;
 use std::alloc::Global;
 use std::cell::Cell;
@@ -9,10 +9,11 @@ use std::io;
 use std::io::Write;
 use std::process::Abort;
 use std::test::Fail;
+use std::thread::Threads;
 use std::time::{Clock, Duration};
 
 /// Two harts that count to 1 and halt.
-const COUNTING: &str = "\
+pub(crate) const COUNTING: &str = "\
 .ram 16
 .hart 0x10000000 8 0x10000000 execute
 .hart 0x10000000 8 0x10000000 execute
@@ -72,7 +73,7 @@ end
 ";
 
 /// Two harts that each add 1 to a number in memory.
-const ADDING: &str = "\
+pub(crate) const ADDING: &str = "\
 .ram 16
 .hart 0x10000000 16 0x10000000 execute
 .set c5 cap 0x80000000 16 0x80000000 load+store
@@ -99,7 +100,7 @@ end
 ";
 
 /// The same, with properties of which one is violated.
-const PROMISING: &str = "\
+pub(crate) const PROMISING: &str = "\
 .ram 16
 .hart 0x10000000 16 0x10000000 execute
 .set c5 cap 0x80000000 16 0x80000000 load+store
@@ -146,15 +147,16 @@ impl Clock for Stopwatch {
     }
 }
 
-/// Asks `cheri_explore` about a listing: its status, and both writers.
-fn ask<O: Write + Drop>(
-    alloc: Global,
+/// Asks `cheri_explore` about a listing, beside which the file `order` has another text: its status,
+/// and both writers.
+fn ask<O: Write + Drop, R: AllocGlobal + Threads + Sync>(
+    rt: &R,
     words: &[&str],
-    listing: &str,
+    (listing, order): (&str, &str),
     mut out: O,
 ) -> Result<(u8, O, Vec<u8>), Fail> {
+    let alloc = rt.alloc();
     let words = owned(alloc, words)?;
-    let order = "";
     let mut files = Folder {
         alloc,
         listing,
@@ -162,7 +164,7 @@ fn ask<O: Write + Drop>(
     };
     let mut err = Vec::new(alloc);
     let status = perform(
-        alloc,
+        rt,
         words.as_slice(),
         &mut files,
         None::<&Stopwatch>,
@@ -173,14 +175,14 @@ fn ask<O: Write + Drop>(
 }
 
 /// Compares a question about a listing with its status and what it writes to standard output and
-/// standard error.
-fn compare<R: Abort + AllocGlobal>(
+/// standard error. The file `order` has the second text.
+pub(crate) fn compare<R: Abort + AllocGlobal + Threads + Sync>(
     rt: &R,
     words: &[&str],
-    listing: &str,
+    texts: (&str, &str),
     wanted: (u8, &str, &str),
 ) -> Result<(), Fail> {
-    let (status, out, err) = ask(rt.alloc(), words, listing, Vec::new(rt.alloc()))?;
+    let (status, out, err) = ask(rt, words, texts, Vec::new(rt.alloc()))?;
     let (wanted_status, printed, reported) = wanted;
     assert_bytes(rt, err.as_slice(), reported, words);
     assert_bytes(rt, out.as_slice(), printed, words);
@@ -234,10 +236,11 @@ fn questions_are_answered(rt: HostRuntime) -> Result<(), Fail> {
         (&["authority", "listing", "--steps"], COUNTING, (0, HELD)),
     ];
     for (words, listing, (status, answer)) in rows {
-        compare(&rt, words, listing, (status, answer, ""))?;
+        compare(&rt, words, (listing, ""), (status, answer, ""))?;
     }
     let violated = (1, VERDICTS, "property line 11: violated\n");
-    compare(&rt, &["check", "listing", "--steps"], PROMISING, violated)
+    let words = ["check", "listing", "--steps"];
+    compare(&rt, &words, (PROMISING, ""), violated)
 }
 
 /// Command line, file, listing and condition, or items, are judged in this order.
@@ -273,18 +276,18 @@ fn questions_are_refused(rt: HostRuntime) -> Result<(), Fail> {
         ),
     ];
     for (words, listing, (status, line)) in rows {
-        compare(&rt, words, listing, (status, "", line))?;
+        compare(&rt, words, (listing, ""), (status, "", line))?;
     }
     Ok(())
 }
 
 /// Compares a question whose answer `out` does not take.
-fn refuses<O: Write + Drop, R: Abort + AllocGlobal>(
+fn refuses<O: Write + Drop, R: Abort + AllocGlobal + Threads + Sync>(
     rt: &R,
     words: &[&str],
     out: O,
 ) -> Result<(), Fail> {
-    let (status, _, err) = ask(rt.alloc(), words, COUNTING, out)?;
+    let (status, _, err) = ask(rt, words, (COUNTING, ""), out)?;
     assert_bytes(rt, err.as_slice(), "cannot write\n", words);
     assert!(rt; status == 3, "the status of {words:?} is {status}");
     Ok(())
@@ -305,14 +308,15 @@ fn full_questions(rt: HostRuntime) -> Result<(), Fail> {
     Ok(())
 }
 
-/// What a clock that begins at a time makes of reports that come at these, each of so many states.
-fn reported(alloc: Global, begin: u64, reports: &[(u64, u32)]) -> Vec<u8> {
+/// What a clock that begins at a time makes of reports that come at these, each of so many states or
+/// runs.
+fn reported(alloc: Global, counted: Counted, begin: u64, reports: &[(u64, u32)]) -> Vec<u8> {
     let clock = Stopwatch {
         time: Cell::new(begin),
     };
     let mut err = Vec::new(alloc);
     {
-        let mut progress = TerminalProgress::new(&clock, &mut err);
+        let mut progress = TerminalProgress::new(&clock, &mut err, counted);
         for (time, found) in reports {
             clock.time.set(*time);
             progress.report(*found);
@@ -334,8 +338,14 @@ fn searches_are_reported(rt: HostRuntime) -> Result<(), Fail> {
         (8_499, 6),
         (8_500, 7),
     ];
-    let lines = "states 2\nstates 5\nstates 7\n";
-    assert_bytes(&rt, reported(alloc, 5_000, &reports).as_slice(), lines, &[]);
-    assert_bytes(&rt, reported(alloc, 0, &reports).as_slice(), "", &[]);
+    let rows = [
+        (Counted::States, 5_000, "states 2\nstates 5\nstates 7\n"),
+        (Counted::Runs, 5_000, "runs 2\nruns 5\nruns 7\n"),
+        (Counted::States, 0, ""),
+    ];
+    for (counted, begin, lines) in rows {
+        let told = reported(alloc, counted, begin, &reports);
+        assert_bytes(&rt, told.as_slice(), lines, &[]);
+    }
     Ok(())
 }

@@ -17,7 +17,11 @@ returns c =
     ∙ ap₂ with_subcommand outcomes_added (ap top c.in_ok-find_command.ensures.app) in
     let authority_added = c.in_ok-with_authority.ensures.shape c.in_ok-authority_command.ensures.local
     ∙ ap₂ with_subcommand find_added (ap top c.in_ok-authority_command.ensures.app) in
-    IfOk-weaker c.subcommand-4.result _ _
-    (λ command added. added.shape c.in_ok-check_command.ensures.local
-    ∙ ap₂ with_subcommand authority_added (ap top c.in_ok-check_command.ensures.app))
-    c.subcommand-4.ensures
+    let check_added = c.in_ok-with_check.ensures.shape c.in_ok-check_command.ensures.local
+    ∙ ap₂ with_subcommand authority_added (ap top c.in_ok-check_command.ensures.app) in
+    let sample_added = c.in_ok-with_sample.ensures.shape c.in_ok-sample_command.ensures.local
+    ∙ ap₂ with_subcommand check_added (ap top c.in_ok-sample_command.ensures.app) in
+    IfOk-weaker c.subcommand-6.result _ _
+    (λ command added. added.shape c.in_ok-merge_command.ensures.local
+    ∙ ap₂ with_subcommand sample_added (ap top c.in_ok-merge_command.ensures.app))
+    c.subcommand-6.ensures

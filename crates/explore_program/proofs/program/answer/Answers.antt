@@ -1,6 +1,6 @@
 use Rattle.std.proofs.Common.{◌≡◌, refl, ◌∙◌, ap, sym, map, false}
 use Rattle.std.proofs.lemmas.Result.{err_from_is_err_and}
-use Rattle.explore_line.specs.Requests.{explore_asked, explore_asked_by}
+use Rattle.explore_line.specs.Requests.{explore_asked, asked_by}
 use Rattle.program_io.proofs.FaultLemmas.{command_fails}
 use Rattle.explore_program.specs.Faults.{own_failure}
 use Rattle.explore_program.specs.Program.{IsAnswer, command_line}
@@ -22,13 +22,13 @@ returns-clause-printed g c =
     let same : map (λ arg. arg.now) c.as_slice.result.now ≡ command_line c.args.args.now =
     ap (map (λ arg. arg.now)) c.as_slice.ensures.value ∙ c.in_ok-args.ensures in
     asked_printed (g.F.Files.bytes_of c.args.files.now) (explore_asked (command_line c.args.args.now))
-    (explore_asked_by c.in_ok-request.request) c.answer_request.result _ _ (ap explore_asked (sym same) ∙ c.in_ok-request.ensures.asked)
-    c.answer_request.ensures.printed
+    (asked_by c.in_ok-request.request) c.answer_at.result _ _ (ap explore_asked (sym same) ∙ c.in_ok-request.ensures.asked)
+    c.answer_at.ensures.printed
 
 pub returns-clause-failed : goal.returns-clause-failed
 returns-clause-failed g c =
     let same : map (λ arg. arg.now) c.as_slice.result.now ≡ command_line c.args.args.now =
     ap (map (λ arg. arg.now)) c.as_slice.ensures.value ∙ c.in_ok-args.ensures in
     asked_fails (g.F.Files.bytes_of c.args.files.now) (explore_asked (command_line c.args.args.now))
-    (explore_asked_by c.in_ok-request.request) c.answer_request.result _ _ (ap explore_asked (sym same) ∙ c.in_ok-request.ensures.asked)
-    c.answer_request.ensures.failed
+    (asked_by c.in_ok-request.request) c.answer_at.result _ _ (ap explore_asked (sym same) ∙ c.in_ok-request.ensures.asked)
+    c.answer_at.ensures.failed

@@ -1,28 +1,32 @@
-use Rattle.std.proofs.Common.{false, refl}
-use Rattle.std.proofs.lemmas.Result.{err_from_is_err_and}
-use Rattle.explore_line.specs.Requests.{explore_asked_by}
-use Rattle.program_io.proofs.EndingLemmas.{all_fail, all_whole}
-use Rattle.explore_program.specs.Faults.{own_failure}
-use Rattle.explore_program.proofs.ProgramLemmas.{listing_unread, of_listing_file}
+use Rattle.explore_line.specs.Samples.{merge_asked_by, sample_asked_by}
+use Rattle.explore_program.specs.Merges.{IsMerged}
+use Rattle.explore_program.specs.Samples.{IsSampled}
+use Rattle.explore_program.proofs.SampleLemmas.{put_fails, put_whole}
 use Rattle.explore_program.proofs.program.answer_request.Goals as goal
 
-pub returns-in_err-text-clause-failed : goal.returns-in_err-text-clause-failed
-returns-in_err-text-clause-failed g c =
-    let p = err_from_is_err_and c.from_residual.result c.from_residual.ensures.1 in
-    rw (p.1, p.2)
-    (listing_unread (g.F.Files.bytes_of c.args.files.now) (explore_asked_by c.args.request.now) c.in_err-text.field-0.0 _ _
-    c.in_err-text.ensures.refused refl)
+pub returns-in-Sample-clause-printed : goal.returns-in-Sample-clause-printed
+returns-in-Sample-clause-printed g c =
+    rw c.in-Sample.is
+    (put_whole (IsSampled (g.F.Files.bytes_of c.args.files.now) (sample_asked_by c.in-Sample.request)) c.sample-made.result c.put_made.result
+    _ _ c.sample-made.ensures c.put_made.ensures.put)
 
-pub returns-clause-printed : goal.returns-clause-printed
-returns-clause-printed g c =
-    all_whole (λ ending. ending) own_failure false _ _
-    (of_listing_file (g.F.Files.bytes_of c.args.files.now) (explore_asked_by c.args.request.now) c.as_slice.result.now
-    (rw c.as_slice.ensures.value c.in_ok-text.ensures.bytes)) _ _ c.answer_mapped.result
-    (rw c.in_ok-text.ensures.kept at c.answer_mapped.ensures.printed)
+pub returns-in-Sample-clause-failed : goal.returns-in-Sample-clause-failed
+returns-in-Sample-clause-failed g c =
+    rw c.in-Sample.is
+    (put_fails (IsSampled (g.F.Files.bytes_of c.args.files.now) (sample_asked_by c.in-Sample.request)) c.sample-made.result c.put_made.result
+    _ _ c.sample-made.ensures c.put_made.ensures.put)
 
-pub returns-clause-failed : goal.returns-clause-failed
-returns-clause-failed g c =
-    all_fail (λ ending. ending) own_failure false _ _
-    (of_listing_file (g.F.Files.bytes_of c.args.files.now) (explore_asked_by c.args.request.now) c.as_slice.result.now
-    (rw c.as_slice.ensures.value c.in_ok-text.ensures.bytes)) _ _ c.answer_mapped.result
-    (rw c.in_ok-text.ensures.kept at c.answer_mapped.ensures.failed)
+pub returns-in-Merge-clause-printed : goal.returns-in-Merge-clause-printed
+returns-in-Merge-clause-printed g c =
+    rw c.in-Merge.is
+    (put_whole (IsMerged (g.F.Files.bytes_of c.args.files.now) (merge_asked_by c.in-Merge.request)) c.merge-made.result c.put_made-in-Merge.result
+    _ _ c.merge-made.ensures c.put_made-in-Merge.ensures.put)
+
+pub returns-in-Merge-clause-failed : goal.returns-in-Merge-clause-failed
+returns-in-Merge-clause-failed g c =
+    rw c.in-Merge.is
+    (put_fails (IsMerged (g.F.Files.bytes_of c.args.files.now) (merge_asked_by c.in-Merge.request)) c.merge-made.result c.put_made-in-Merge.result
+    _ _ c.merge-made.ensures c.put_made-in-Merge.ensures.put)
+
+pub returns-in-Search-clause-failed : goal.returns-in-Search-clause-failed
+returns-in-Search-clause-failed g c = rw c.in-Search.is c.answer_search.ensures.failed
