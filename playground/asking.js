@@ -25,9 +25,10 @@ const asking = (() => {
       return found;
     }
 
-    self.addEventListener("message", ({ data: { module, call, words } }) => {
+    self.addEventListener("message", ({ data: { module, bytes, call, words } }) => {
       if (module) calls.begin(module);
       else {
+        calls.limit(bytes);
         const { text, ...answer } = calls[call](...words);
         self.postMessage({ ...answer, found: text ? shortened(JSON.parse(text)) : null });
       }
@@ -69,11 +70,14 @@ const asking = (() => {
     answer(null);
   }
 
-  /** Asks a call of the machine, in place of what is being asked. Gives its answer, or nothing where it is stopped. */
-  function ask(call, ...words) {
+  /**
+   * Asks a call of the machine, which has so many bytes of memory, in place of what is being asked. Gives its answer, or
+   * nothing where it is stopped.
+   */
+  function ask(bytes, call, ...words) {
     stop();
     const answered = new Promise((resolve) => { take = resolve; });
-    begun().postMessage({ call, words });
+    begun().postMessage({ bytes, call, words });
     return answered;
   }
 

@@ -1,4 +1,7 @@
-/** Every order: questions about all orders of the listing's harts, asked in a worker, and what is found. */
+/**
+ * Every order: questions about all orders of the listing's harts, or about some that are drawn by chance, asked in a worker,
+ * and what is found.
+ */
 const every = (() => {
   const part = (id) => document.getElementById(id);
   const { element } = draw;
@@ -8,7 +11,12 @@ const every = (() => {
   const MOST_LABELS = 24;
   /** The field that a question has its words from. */
   const FIELDS = { outcomes: "every-items", find: "every-condition" };
-  const LINKED = /^(outcomes|find|check)(?::([^]*))?$/;
+  /** The fields of how much a search may keep. */
+  const LIMITS = ["every-limit", "every-memory"];
+  /** The fields of how orders are drawn, by their names in a link, as the call takes them. */
+  const DRAWN = { orders: "every-runs", seed: "every-seed", length: "every-length", depth: "every-depth" };
+  const MEBIBYTE = 1_048_576;
+  const LINKED = /^(outcomes|find|check|sample)(?::([^]*))?$/;
 
   /** The question that was asked last: its listing, its words, and when. */
   let asked = null;
@@ -18,18 +26,31 @@ const every = (() => {
   // ------------------------------------------------------------------ questions
 
   const itemsNow = () => part("every-items").value.replace(/\s+/g, "");
+  const numberIn = (id) => Number(part(id).value);
   const conditionNow = () => part("every-condition").value.trim().replace(/\s+/g, " ");
 
-  /** Each question: the call with its words, what is searched for in words, and how what is found is drawn. */
+  /** What all questions about every order have: how many states may be kept, and what is done meanwhile, in words. */
+  function searching(about) {
+    const limit = numberIn("every-limit");
+    return { numbers: [limit], doing: `Searching every order for ${about}, up to ${limit.toLocaleString("en")} states.` };
+  }
+
+  /** Each question: the call with its words and numbers, what is done meanwhile, and how what is found is drawn. */
   const QUESTIONS = {
     outcomes: () => {
       const items = itemsNow();
-      return items === "" ? { call: "outcomes", words: [], about: "how it can end", show: found.outcomes }
-        : { call: "rows", words: [items], about: `the values of ${items} at the ends`,
+      return items === "" ? { call: "outcomes", words: [], ...searching("how it can end"), show: found.outcomes }
+        : { call: "rows", words: [items], ...searching(`the values of ${items} at the ends`),
           show: (answer) => found.rows(answer, items.split(",")) };
     },
-    find: () => ({ call: "find", words: [conditionNow()], about: `a state in which ${conditionNow()}`, show: found.state }),
-    check: () => ({ call: "verdicts", words: [], about: "its properties", show: found.verdicts }),
+    find: () => ({ call: "find", words: [conditionNow()], ...searching(`a state in which ${conditionNow()}`),
+      show: found.state }),
+    check: () => ({ call: "verdicts", words: [], ...searching("its properties"), show: found.verdicts }),
+    sample: () => {
+      const numbers = Object.values(DRAWN).map(numberIn);
+      return { call: "sample", words: [], numbers, doing: `Running ${numbers[0].toLocaleString("en")} orders drawn by chance.`,
+        show: found.sampled };
+    },
   };
 
   /** Says what is being searched, and for how long. */
@@ -52,16 +73,15 @@ const every = (() => {
 
   /** Asks a question of what stands in the editor. */
   async function ask(name) {
-    if (!part("every-limit").reportValidity() || !desk.isReady()) return;
+    if (!LIMITS.every((id) => part(id).reportValidity()) || !desk.isReady()) return;
     const { listing } = desk.read();
-    const limit = Number(part("every-limit").value);
-    const { call, words, about, show } = QUESTIONS[name]();
-    const question = { listing, call, words };
+    const question = { listing, ...QUESTIONS[name]() };
+    const { call, words, numbers, doing, show } = question;
     asked = question;
     showAnswer();
-    showDoing(`Searching every order for ${about}, up to ${limit.toLocaleString("en")} states.`);
+    showDoing(doing);
     const began = performance.now();
-    const answer = await asking.ask(call, listing, ...words, limit);
+    const answer = await asking.ask(numberIn("every-memory") * MEBIBYTE, call, listing, ...words, ...numbers);
     if (asked !== question) return;
     showDoing("");
     const seconds = ((performance.now() - began) / 1000).toFixed(1);
@@ -82,7 +102,7 @@ const every = (() => {
     [STATUS.CONDITION]: "A condition is made of parts as \"two harts in enter..leave\", \"0 is trapped\", \"1.c6 = 2\" or "
       + "\"mem8[0x80000000] = 1\", joined by and, or, not and parentheses.",
     [STATUS.ITEMS]: "Items are places as 0.c6, 1.pcc, 0.status or mem8[0x80000000], at most 16, with commas between.",
-    [STATUS.MEMORY]: "Memory ran out: take a lower limit, or a listing with less RAM.",
+    [STATUS.MEMORY]: "Memory ran out: take more of it, fewer states or runs, or a listing with less RAM.",
   };
 
   /** The word of the asked text that a fault is about. */
@@ -113,7 +133,7 @@ const every = (() => {
       : [element("p", {}, line, isMarked ? markedWord(text, place) : null),
         HELP[status] && element("p", { class: "meaning" }, HELP[status])];
     showAnswer(element("div", { class: "fault" }, ...words));
-    part("every-doing").textContent = "Nothing is searched.";
+    part("every-doing").textContent = "There is no answer.";
   }
 
   // ------------------------------------------------------------------ what was found
@@ -163,13 +183,22 @@ const every = (() => {
     for (const kind of ["focus", "input"]) field.addEventListener(kind, () => offer(field, list, offered));
   }
 
-  /** Asks what a link says: `outcomes`, `find` or `check`, and after a colon items or a condition. */
+  /** Takes the numbers that a link says, as `orders=1000,seed=7`. */
+  function takeNumbers(text) {
+    for (const [, name, number] of text.matchAll(/([a-z]+)=(\d+)/g)) if (DRAWN[name]) part(DRAWN[name]).value = number;
+  }
+
+  /**
+   * Asks what a link says: `outcomes`, `find`, `check` or `sample`, and after a colon items, a condition, or how orders are
+   * drawn. Where its form can't take that, nothing is asked.
+   */
   function askLinked(words) {
     const [, name, text = ""] = LINKED.exec(words) ?? [];
     if (!name) return;
     if (FIELDS[name]) part(FIELDS[name]).value = text;
+    if (name === "sample") takeNumbers(text);
     part("every").scrollIntoView({ block: "start" });
-    ask(name);
+    if (part(`every-${name}`).reportValidity()) ask(name);
   }
 
   /** Puts a word into the condition where its cursor is. */

@@ -1,4 +1,4 @@
-/** What is found of all orders: tables of ends, of values and of properties, each row with a button that opens its order. */
+/** What is found of orders: tables of ends, of values and of properties, each row with a button that opens its order. */
 const found = (() => {
   const { cell, element, plural, row, table } = draw;
   /** So many places are columns; of more the first. */
@@ -94,22 +94,29 @@ const found = (() => {
   const moreWords = (count, shown) => (count > shown
     ? paragraph(`The first ${shown} of ${count.toLocaleString("en")} are shown.`) : null);
 
-  /** Every end, with the places in which they differ. */
-  function outcomes({ outcomes: ends, count, endless, ...search }) {
+  /** Ends, with the places in which they differ; `runs` says whether each has a count of runs, and `ofEnd` which it is. */
+  function endsTable(caption, ends, { runs = false, ofEnd }) {
     const all = ends.map(valuesOf);
     const places = differing(all);
     const columns = places.slice(0, MOST_COLUMNS);
-    const rows = ends.map(({ harts, order }, number) => row({}, [String(number)],
-      cell("status", statusWords(harts)),
+    const rows = ends.map((end, number) => row({}, [String(number)],
+      ...(runs ? [cell("runs", end.runs.toLocaleString("en"))] : []), cell("status", statusWords(end.harts)),
       ...columns.map((place) => cell("value", element("code", {}, values.words(all[number].get(place) ?? draw.NULL)))),
-      ...orderCells(order, `end ${number}`)));
+      ...orderCells(end.order, ofEnd(end, number))));
     const left = places.length - columns.length;
     return [
-      reachWords(search, "There may be more ends than these."), endlessWords(endless),
-      rows.length > 0 && tableOf(`${plural(count, "end")}, each with its shortest order`,
-        ["End", "Harts", ...columns.map(placeWords), "Order", "Open"], rows),
-      moreWords(count, rows.length),
+      rows.length > 0 && tableOf(caption,
+        ["End", ...(runs ? ["Runs"] : []), "Harts", ...columns.map(placeWords), "Order", "Open"], rows),
       left > 0 && paragraph(`The ends differ in ${plural(left, "more place")}. Name items to see others.`),
+    ];
+  }
+
+  /** Every end, with the places in which they differ. */
+  function outcomes({ outcomes: ends, count, endless, ...search }) {
+    return [
+      reachWords(search, "There may be more ends than these."), endlessWords(endless),
+      ...endsTable(`${plural(count, "end")}, each with its shortest order`, ends, { ofEnd: (end, number) => `end ${number}` }),
+      moreWords(count, ends.length),
     ];
   }
 
@@ -156,5 +163,36 @@ const found = (() => {
     ];
   }
 
-  return { outcomes, rows: rowsOf, state, verdicts };
+  // ------------------------------------------------------------------ orders drawn by chance
+
+  const runsWords = (count) => plural(count, "run");
+
+  /** What is said of runs that did not end, with the first of them; nothing where there are none. */
+  const unendedWords = ({ runs, first, order }, words) => (runs === 0 ? null
+    : paragraph(`${runsWords(runs)} ${words} The first is number ${first}: `,
+      element("code", { title: order }, orderWords(order)), " ", buttonOf(order, `run ${first}`)));
+
+  function trapsTable(traps) {
+    const rows = traps.map(({ hart, cause, runs, first, order }) => row({}, [`hart ${hart}`],
+      cell("status", `${registers.CAUSES[cause]} (cause ${cause})`), cell("runs", runs.toLocaleString("en")),
+      ...orderCells(order, `hart ${hart}, run ${first}`)));
+    return tableOf("The traps of runs, each with the order of the first run that has it",
+      ["Hart", "Trap", "Runs", "Order", "Open"], rows);
+  }
+
+  /** What came of runs in orders that were drawn by chance. */
+  function sampled({ runs, longest, cut, hung, traps, outcomes: ends, count, drawn }) {
+    return [
+      paragraph(`${runsWords(runs)} in orders drawn by chance; the longest took ${plural(longest, "operation")}. `
+        + "What is not here may happen in another order."),
+      unendedWords(hung, "hung: no order of steps leads from there to an end."),
+      unendedWords(cut, `had not ended after ${plural(drawn.length, "operation")}.`),
+      ...endsTable(`${plural(count, "end")}, each with the order of the first run that came to it`, ends,
+        { runs: true, ofEnd: ({ first }, number) => `end ${number}, run ${first}` }),
+      moreWords(count, ends.length),
+      traps.length > 0 && trapsTable(traps),
+    ];
+  }
+
+  return { outcomes, rows: rowsOf, sampled, state, verdicts };
 })();

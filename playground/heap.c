@@ -26,6 +26,7 @@ extern byte __heap_base;
 static block *freed[CLASSES];
 static byte *end; /* of all that is given, but for what is freed before it */
 static byte nothing;
+static size most = (size)1 << 40; /* bytes that memory grows to */
 
 /* The bytes of the block for so many of the caller's; a multiple of 16. */
 static size whole(size bytes) {
@@ -47,6 +48,7 @@ static size list_of(size bytes) {
 static int reaches(byte *place) {
   size have = __builtin_wasm_memory_size(0) * PAGE;
   if ((size)place <= have) return 1;
+  if ((size)place > most) return 0;
   __builtin_wasm_memory_grow(0, ((size)place - have + PAGE - 1) / PAGE);
   return (size)place <= __builtin_wasm_memory_size(0) * PAGE;
 }
@@ -117,4 +119,9 @@ byte *page_room(size bytes) {
 
 void page_free(byte *at) {
   rattle_dealloc(at);
+}
+
+/* For the page: memory grows to so many bytes and no further. What is there stays. */
+void page_limit(size bytes) {
+  most = bytes;
 }

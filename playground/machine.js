@@ -20,6 +20,8 @@ const machineCalls = () => {
   const decoder = new TextDecoder();
   let compiled = null;
   let instance = null;
+  /** The memory of an instance grows to so many bytes, where the page says how many. */
+  let most = null;
 
   /** Takes the module: its bytes, or what another machine made of them. */
   function begin(module) {
@@ -29,7 +31,10 @@ const machineCalls = () => {
 
   /** The module's calls. After a trap, or where memory ran out, they are those of a new instance. */
   function calls() {
-    instance ??= new WebAssembly.Instance(compiled, {});
+    if (!instance) {
+      instance = new WebAssembly.Instance(compiled, {});
+      if (most !== null) instance.exports.page_limit(BigInt(most));
+    }
     return instance.exports;
   }
 
@@ -97,11 +102,18 @@ const machineCalls = () => {
   /** How many bytes of memory the instance has now. */
   const memoryBytes = () => (instance ? instance.exports.memory.buffer.byteLength : 0);
 
+  /** Memory grows to so many bytes from now on; an instance that has more is no longer used. */
+  function limit(bytes) {
+    most = bytes;
+    if (memoryBytes() > bytes) instance = null;
+    instance?.exports.page_limit(BigInt(bytes));
+  }
+
   /** Whether the module has a call. */
   const has = (name) => calls()[name] !== undefined;
 
   return {
-    STATUS, begin, has, memoryBytes,
+    STATUS, begin, has, limit, memoryBytes,
     compiled: () => compiled,
     check: (listing) => call("cheri_check", [listing], [], LINE_ROOM),
     faults: (listing) => call("cheri_faults", [listing]),
@@ -118,6 +130,8 @@ const machineCalls = () => {
     rows: (listing, items, limit) => call("cheri_outcome_rows", [listing, items], [limit], SEARCH_ROOM),
     find: (listing, condition, limit) => call("cheri_find", [listing, condition], [limit], SEARCH_ROOM),
     verdicts: (listing, limit) => call("cheri_verdicts", [listing], [limit], SEARCH_ROOM),
+    sample: (listing, runs, seed, length, depth) =>
+      call("cheri_sample", [listing], [runs, seed, length, depth], SEARCH_ROOM),
   };
 };
 

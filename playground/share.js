@@ -1,6 +1,6 @@
 /**
  * Links: `#1.` and the base64url of raw deflate of the listing, a byte 0 and the order; then, each after `&`, `at=` a
- * position, `name=` a name, `asm=1` where assembly is in the place of the listing, `ask=` a question about every order,
+ * position, `name=` a name, `asm=1` where assembly is in the place of the listing, `ask=` a question about orders,
  * and `embed=1`.
  */
 const share = (() => {

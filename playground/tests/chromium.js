@@ -224,16 +224,16 @@ async function openFaulty(tab) {
   }, gallery.find(({ name }) => name === "leak").text);
 }
 
-/** The page with an answer about every order. */
-async function openAnswered(tab) {
+/** The page with an answer about every order of an example, or about orders drawn by chance. */
+async function openAnswered(tab, question = "check", example = "broken_lock") {
   await open(tab);
-  await tab.ask(async (text) => {
+  await tab.ask(async (text, question) => {
     const field = document.getElementById("listing");
     field.value = text;
     field.dispatchEvent(new InputEvent("input"));
-    await every.ask("check");
+    await every.ask(question);
     document.getElementById("every").scrollIntoView();
-  }, gallery.find(({ name }) => name === "broken_lock").text);
+  }, gallery.find(({ name }) => name === example).text, question);
 }
 
 /** Each kind of fault of a listing, marked at its line. */
@@ -416,6 +416,7 @@ withBrowser(async (newTab) => {
   await checkScreens(tab, "playground", () => open(tab), pictures);
   await checkScreens(tab, "playground with faults", () => openFaulty(tab), pictures);
   await checkScreens(tab, "playground with an answer", () => openAnswered(tab), pictures);
+  await checkScreens(tab, "playground with drawn orders", () => openAnswered(tab, "sample", "missed_wakeup"), pictures);
   await tab.screen(1280, 900, false);
   await openAnswered(tab);
   await checkTree(tab, "the playground with an answer", 1);

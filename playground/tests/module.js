@@ -308,46 +308,11 @@ function checkLimits() {
     && explained.text.endsWith("\nend\n"), [explained.status, explained.text.length]);
 }
 
-/** An unsigned number in LEB128 at a place, and the place after it. */
-function numberAt(bytes, at) {
-  let number = 0;
-  for (let shift = 0; ; shift += 7) {
-    const byte = bytes[at];
-    at += 1;
-    number += (byte & 127) * 2 ** shift;
-    if (byte < 128) return [number, at];
-  }
-}
-
-function leb(number) {
-  const bytes = [];
-  do {
-    bytes.push((number & 127) | (number > 127 ? 128 : 0));
-    number >>>= 7;
-  } while (number > 0);
-  return bytes;
-}
-
-/** The module with at most so many pages of memory. */
-function withPages(bytes, pages) {
-  const MEMORY = 5;
-  for (let at = 8; at < bytes.length;) {
-    const [length, from] = numberAt(bytes, at + 1);
-    if (bytes[at] === MEMORY) {
-      const [first] = numberAt(bytes, from + 2);
-      const section = [1, 1, ...leb(first), ...leb(pages)];
-      return Buffer.concat([bytes.subarray(0, at), Buffer.from([MEMORY, ...leb(section.length), ...section]),
-        bytes.subarray(from + length)]);
-    }
-    at = from + length;
-  }
-  throw new Error("the module has no memory");
-}
-
 /** With 25 MiB of memory a large report is out of memory, nothing traps, and the next call is right. */
 function checkLittleMemory() {
   const { machine: small } = scriptsOf(MACHINE, ["machine"]);
-  small.begin(new Uint8Array(withPages(readPage(page).module, 400)));
+  small.begin(new Uint8Array(readPage(page).module));
+  small.limit(26_214_400);
   const long = "01234567".repeat(12_500);
   const out = small.json(busyListing(), long);
   check("with 25 MiB a large report is out of memory", out.status === STATUS.MEMORY && out.line === "memory",

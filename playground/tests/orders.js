@@ -10,6 +10,9 @@ const MOST_MS = 300;
 const MOST_SEARCH_MS = 3000;
 const MOST_TRIES = 5;
 
+/** A hart that counts without end: each count is a state. */
+const COUNTING = `${HEAD}again:\nlb c7, 0(c5)\naddi c6, c6, 1\ncjal c0, again\n`;
+
 const submit = (one, form) => one.ask((form) => document.querySelector(`#${form} button`).click(), form);
 const doingOf = (one) => textOf(one, "every-doing");
 
@@ -153,23 +156,74 @@ async function checkAssembled(one, say) {
   say("that assembly has no properties is said", none.includes("lines of a listing"), none);
 }
 
+/** Orders that are drawn by chance, with the counts of an independent model: ends, traps, runs that hang, and that are cut. */
+async function checkDrawn(one, say) {
+  await openOver(one, "lost_update");
+  const words = await asked(one, "every-sample");
+  const rows = await rowsOf(one);
+  say("orders drawn by chance are run, and counted by their ends", words.startsWith("1,000 runs")
+    && words.includes("the longest took 8 operations") && rows.map(([, runs]) => runs).join() === "122,743,135", [words, rows]);
+  await openRow(one, 1);
+  say("the order of the first run of an end is opened", await valueOf(one, "order") === "11010100", await valueOf(one, "order"));
+  await openOver(one, "overflow");
+  await asked(one, "every-sample");
+  const trapped = (await rowsOf(one)).at(-1);
+  say("a trap of runs has its cause, and how many have it", trapped.slice(0, 3).join("|") === "hart 0|Length (cause 8)|1,000",
+    trapped);
+  await openOver(one, "missed_wakeup");
+  const hung = await asked(one, "every-sample");
+  const ended = (await rowsOf(one)).map(([, runs]) => runs).join();
+  say("runs that hang are told from ends", hung.includes("277 runs hung") && ended === "448,275", [hung, ended]);
+  await enter(one, "listing", COUNTING);
+  const cut = await asked(one, "every-sample");
+  say("so are runs that had not ended", cut.includes("1,000 runs had not ended after 1,000 operations"), cut);
+  await enter(one, "every-runs", "0");
+  await submit(one, "every-sample");
+  say("no runs are not asked for", await textOf(one, "every-answer") === cut, await textOf(one, "every-answer"));
+  await enter(one, "every-runs", "1000");
+}
+
+/** Waits until a link's question has its answer, and gives it. */
+async function answerOf(one, fragment) {
+  await one.open(fragment);
+  await one.until(() => document.getElementById("every-answer").childElementCount > 0);
+  return textOf(one, "every-answer");
+}
+
+/** A search has so much memory: what needs more says so, and the next one is answered. */
+async function checkMemory(one, say) {
+  await enter(one, "listing", COUNTING);
+  await enter(one, "every-memory", "128");
+  await enter(one, "every-limit", "20000000");
+  await enter(one, "every-condition", "0.c7 = 1");
+  const out = await asked(one, "every-find");
+  say("a search ends where its memory does", out.startsWith("memory") && out.includes("Memory ran out"), out);
+  await enter(one, "every-limit", "1000");
+  const next = await asked(one, "every-find");
+  say("and the next one is answered", next.startsWith("Unknown after 1,000 states"), next);
+  await enter(one, "every-memory", "512");
+  await enter(one, "every-limit", "100000");
+}
+
 /** A link may ask a question of what it opens. */
 async function checkLinked(one, say) {
   await openOver(one, "broken_lock");
   const link = await linkOf(one);
   const fragment = link.slice(link.indexOf("#"));
-  await one.open(`${fragment}&ask=${encodeURIComponent("find:two harts in enter..leave")}`);
-  await one.until(() => document.getElementById("every-answer").childElementCount > 0);
-  const [words, condition] = [await textOf(one, "every-answer"), await valueOf(one, "every-condition")];
+  const words = await answerOf(one, `${fragment}&ask=${encodeURIComponent("find:two harts in enter..leave")}`);
+  const condition = await valueOf(one, "every-condition");
   say("a link asks a question about every order", words.startsWith("Found: it holds after 0011 ")
     && condition === "two harts in enter..leave", [words, condition]);
-  await one.open(`${fragment}&ask=nothing`);
-  say("a link that asks what is no question opens its listing", (await textOf(one, "every-answer")) === ""
-    && await textOf(one, "notice") === "" && await valueOf(one, "work-name") === "broken_lock", await textOf(one, "notice"));
+  const drawn = await answerOf(one, `${fragment}&ask=${encodeURIComponent("sample:orders=30,seed=7,depth=3")}`);
+  const numbers = await Promise.all(["runs", "seed", "length", "depth"].map((name) => valueOf(one, `every-${name}`)));
+  say("a link asks about orders drawn by chance", drawn.startsWith("30 runs ") && numbers.join() === "30,7,1000,3",
+    [drawn, numbers]);
+  for (const [words, asks] of [["what is no question", "nothing"], ["what the form can't take", "sample:depth=4"]]) {
+    await one.open(`${fragment}&ask=${encodeURIComponent(asks)}`);
+    say(`a link that asks ${words} opens its listing`, (await textOf(one, "every-answer")) === ""
+      && await textOf(one, "notice") === "" && await valueOf(one, "work-name") === "broken_lock", await textOf(one, "notice"));
+  }
 }
-
-/** A hart that counts without end: each count is a state. */
-const COUNTING = `${HEAD}again:\nlb c7, 0(c5)\naddi c6, c6, 1\ncjal c0, again\n`;
 
 async function checkLimits(one, say) {
   await enter(one, "listing", COUNTING);
@@ -222,4 +276,4 @@ async function checkOutcomes(one, say) {
     wrong.length === 0 && names.length > 3, wrong);
 }
 
-module.exports = { parts: [checkEnds, checkFound, checkProperties, checkEndless, checkAssembled, checkLinked, checkLimits, checkOutcomes] };
+module.exports = { parts: [checkEnds, checkFound, checkProperties, checkEndless, checkAssembled, checkDrawn, checkMemory, checkLinked, checkLimits, checkOutcomes] };

@@ -5,13 +5,15 @@ use Rattle.asm_map_reader.specs.Words.{text_of}
 use Rattle.sinks.specs.Sinks.{Memory}
 use Rattle.page_searches.specs.Answered.{Answer as Said, Gives, answer_of}
 use Rattle.page_searches.specs.declared.fault.SearchFault.{SearchFault}
+use Rattle.page_searches.specs.Drawn.{IsSampleAnswer}
+use Rattle.page_searches.specs.declared.drawn.Drawn.{Drawn}
 use Rattle.page_searches.specs.Answered.{IsCheckedAnswer, IsFoundAnswer, IsOutcomesAnswer, IsRowsAnswer}
 use Rattle.cheri_page.specs.declared.answer.Answer.{Answer}
 use Rattle.cheri_page.specs.declared.fault.Fault.{Fault}
 use Rattle.cheri_page.specs.declared.fault.Fault.TheVariants.{BadText}
 use Rattle.cheri_page.specs.Faults.{search_fault}
 use Rattle.cheri_page.specs.Answers.{Told, Answers, IsTold}
-use Rattle.cheri_page.specs.Searches.{IsAnswerTold, IsAskedTold, IsFoundTold, IsOutcomesTold, IsRowsTold, IsVerdictsTold, told_of}
+use Rattle.cheri_page.specs.Searches.{IsAnswerTold, IsAskedTold, IsFoundTold, IsOutcomesTold, IsRowsTold, IsSampleTold, IsVerdictsTold, told_of}
 use Rattle.cheri_page.proofs.RunLemmas.{says_more}
 
 -- ---- what is told of what was given back
@@ -78,6 +80,13 @@ module _ (listing : List ℕ) (limit : ℕ) (asked : Result Memory SearchFault) 
       (λ told so. beside (λ (t : List ℕ). IsFoundAnswer listing t limit) bytes text told is (answer_so (IsFoundAnswer listing text limit) asked told gives so))
       said
 
+pub sample_told : (listing : List ℕ) (drawn : Drawn) (asked : Result Memory SearchFault) (old new : List ℕ) (answer : Answer)
+    → Gives asked (IsSampleAnswer listing drawn) → Answers (IsTold (told_of (answer_of asked))) old new answer
+    → Answers (IsSampleTold listing drawn) old new answer
+unfolding IsSampleTold
+sample_told listing drawn asked old new answer gives said =
+    says_more _ _ old new answer (λ told so. answer_so (IsSampleAnswer listing drawn) asked told gives so) said
+
 module _ (listing bytes : List ℕ) (limit : ℕ) (old new : List ℕ) (answer : Answer) where
   pub rows_untold : None ≡ text_of bytes → Answers (IsTold (record { text = []; fault = Some BadText })) old new answer
       → Answers (IsRowsTold listing bytes limit) old new answer
@@ -91,4 +100,4 @@ module _ (listing bytes : List ℕ) (limit : ℕ) (old new : List ℕ) (answer :
   found_untold is said =
       says_more _ _ old new answer (λ told so. untold (λ (t : List ℕ). IsFoundAnswer listing t limit) bytes told is so) said
 
-pub ruleset searched = (text_told, fault_told, outcomes_told, verdicts_told, rows_told, found_told, rows_untold, found_untold)
+pub ruleset searched = (text_told, fault_told, outcomes_told, verdicts_told, sample_told, rows_told, found_told, rows_untold, found_untold)

@@ -126,6 +126,7 @@ assembly_fault fault = assembly_fault_of_kind fault.fault.kind fault
 unfoldable pub search_fault : SearchFault → Fault
 search_fault searches.NoMemory = NoMemory
 search_fault searches.Limit = BadLimit
+search_fault searches.Number = BadNumber
 search_fault (searches.Listing fault) = listing_fault fault
 search_fault (searches.Condition byte) = Condition byte
 search_fault (searches.Item byte) = Item byte

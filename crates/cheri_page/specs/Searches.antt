@@ -1,8 +1,10 @@
--- What is told of a question about all orders of a listing.
+-- What is told of a question about the orders of a listing.
 use Rattle.std.specs.Prelude.{◌≡◌, ◌⊎◌, ℕ, List, [], Option, Some, None, Ok, Err}
 use Rattle.asm_map_reader.specs.Words.{text_of}
 use Rattle.page_searches.specs.Answered.{Answer, IsCheckedAnswer, IsFoundAnswer}
 use Rattle.page_searches.specs.Answered.{IsOutcomesAnswer, IsRowsAnswer}
+use Rattle.page_searches.specs.Drawn.{IsSampleAnswer}
+use Rattle.page_searches.specs.declared.drawn.Drawn.{Drawn}
 use Rattle.cheri_page.specs.declared.fault.Fault.TheVariants.{BadText}
 use Rattle.cheri_page.specs.Answers.{Told, IsTold, out_of_memory}
 use Rattle.cheri_page.specs.Faults.{search_fault}
@@ -39,3 +41,7 @@ IsFoundTold listing condition limit told =
 -- whether the listing's properties hold
 unfoldable pub IsVerdictsTold : List ℕ → ℕ → Told → Type 0
 IsVerdictsTold listing limit told = IsAnswerTold (IsCheckedAnswer listing limit) told
+
+-- what runs do in orders that are drawn by chance
+unfoldable pub IsSampleTold : List ℕ → Drawn → Told → Type 0
+IsSampleTold listing drawn told = IsAnswerTold (IsSampleAnswer listing drawn) told

@@ -215,6 +215,7 @@ impl From<SearchFault> for Fault {
         match refused {
             SearchFault::NoMemory => Fault::NoMemory,
             SearchFault::Limit => Fault::BadLimit,
+            SearchFault::Number => Fault::BadNumber,
             SearchFault::Listing(fault) => Fault::from(fault),
             SearchFault::Condition(byte) => Fault::Condition(byte),
             SearchFault::Item(byte) => Fault::Item(byte),

@@ -1,18 +1,19 @@
-//! Questions about all orders of a listing's harts, each answered in one line of JSON. States are
-//! told apart by turns, and at most `limit` of them are kept.
+//! Questions about the orders of a listing's harts, each answered in one line of JSON. Of all orders
+//! states are told apart by turns, and at most `limit` of them are kept.
 #![tactic(auto, using(crate::proofs::SearchLemmas::searched))]
 
 ghost use Rattle.std.specs.Prelude.{◌≡◌};
 ghost use Rattle.asm_map_reader.specs.Words.{text_of};
 ghost use Rattle.cheri_page.specs.Answers.{Answers, IsTold};
-ghost use Rattle.cheri_page.specs.Searches.{IsFoundTold, IsOutcomesTold, IsRowsTold, IsVerdictsTold};
+ghost use Rattle.cheri_page.specs.Searches.{IsFoundTold, IsOutcomesTold, IsRowsTold, IsSampleTold};
+ghost use Rattle.cheri_page.specs.Searches.{IsVerdictsTold};
 ghost use Rattle.cheri_page.specs.Searches.{told_of};
 ghost use Rattle.page_searches.specs.Answered.{answer_of};
 
 use crate::answer::{Answer, tell};
 use crate::fault::Fault;
 use crate::texts::text_of;
-use page_searches::{SearchFault, ask_check, ask_find, ask_outcomes, ask_rows};
+use page_searches::{Drawn, SearchFault, ask_check, ask_find, ask_outcomes, ask_rows, ask_sample};
 use sinks::MemSink;
 use std::alloc::Global;
 
@@ -98,5 +99,35 @@ pub extern "C" fn cheri_verdicts(
     ensures { Answers (IsVerdictsTold listing.now limit) out.old out.new answer.new }
 {
     let asked = ask_check(alloc, listing, limit);
+    tell_answer(alloc, asked, out, answer);
+}
+
+/// What do runs in orders do that are drawn by chance, the first of them number 0? The line of
+/// `cheri_explore sample`; with a depth of 0 each step is drawn.
+#[unsafe(no_mangle)]
+pub extern "C" fn cheri_sample(
+    alloc: Global,
+    listing: &[u8],
+    runs: u32,
+    seed: u32,
+    length: u32,
+    depth: u32,
+    out: &mut [u8],
+    answer: &mut Answer,
+)
+    ensures { Answers (IsSampleTold listing.now (record {
+      runs = runs;
+      seed = seed;
+      length = length;
+      depth = depth;
+    })) out.old out.new answer.new }
+{
+    let drawn = Drawn {
+        runs,
+        seed,
+        length,
+        depth,
+    };
+    let asked = ask_sample(alloc, listing, drawn);
     tell_answer(alloc, asked, out, answer);
 }

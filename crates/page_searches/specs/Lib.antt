@@ -2,3 +2,4 @@
 pub mod Faults
 pub mod Asked
 pub mod Answered
+pub mod Drawn

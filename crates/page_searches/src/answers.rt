@@ -17,7 +17,7 @@ use states::Search;
 use std::alloc::Global;
 
 /// An answer's text.
-fn kept(alloc: Global, answer: &Answer) -> Result<MemSink, WriteFault>
+pub(crate) fn kept(alloc: Global, answer: &Answer) -> Result<MemSink, WriteFault>
     ensures { IfOk result (λ said. said.bytes ≡ string_bytes answer.now.text) }
 {
     let mut sink = MemSink::new(alloc, 0, usize::MAX);

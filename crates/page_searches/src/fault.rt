@@ -14,6 +14,8 @@ pub enum SearchFault {
     NoMemory,
     /// No state may be kept.
     Limit,
+    /// A number by which orders are drawn is outside its limits.
+    Number,
     /// The listing was refused.
     Listing(ListingFault),
     /// The word of the condition that begins at this byte cannot stand there.

@@ -3,9 +3,13 @@
 #![tactic(auto)]
 
 mod answers;
+mod drawn;
 mod fault;
 mod questions;
+mod sampling;
 mod searched;
 
+pub use drawn::{Drawn, MOST_RUNS};
 pub use fault::SearchFault;
 pub use questions::{ask_check, ask_find, ask_outcomes, ask_rows};
+pub use sampling::ask_sample;
