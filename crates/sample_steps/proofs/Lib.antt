@@ -1,3 +1,4 @@
+mod Unfold
 mod StoreLemmas
 mod HangLemmas
 mod ListLemmas

@@ -16,7 +16,7 @@ use Rattle.cheri_model.specs.steps.HartStep.{Stepped, execute, hart_step, unless
 use Rattle.cheri_model.specs.steps.Memory.{granule_at, granule_number, store_data, store_capability}
 use Rattle.sample_draws.specs.Cycles.{same_test, same_value, same_values}
 use Rattle.sample_draws.specs.Orders.{is_changed}
-use Rattle.sample_steps.specs.Writes.{stored_at, unless_fetch_traps, store_address}
+use Rattle.sample_steps.specs.Writes.{stored_at, store_address}
 
 -- a memory after a step that stores at this address, or at none
 pub Leaves : Option ℕ → List CapValue → List CapValue → Type 0
@@ -53,18 +53,13 @@ leaves_execute (JumpThrough cd c1 is_entry target) h m = after_check _ h m None 
 leaves_execute (Invoke c1 c2 target) h m = after_check _ h m None _ refl
 leaves_execute Halt h m = refl
 
-leaves_fetched : (c : Result (Unit {0}) Trap) (act : Action) (h : HartState) (m : List CapValue)
-    → Leaves (unless_fetch_traps c (stored_at act)) m (unless_trapped c h m (execute act h m)).memory
-unfolding trapped Leaves
-leaves_fetched (Ok u) act h m = leaves_execute act h m
-leaves_fetched (Err trap) act h m = refl
-
 pub leaves_step : (program : List Instr) (h : HartState) (m : List CapValue)
     → Leaves (store_address program h) m (hart_step program h m).memory
 unfolding hart_step store_address
 leaves_step program h m =
-    leaves_fetched (first_failing (fetch_table h.pcc (length program)))
-    (action (instruction_at program (address_of h.pcc)) h) h m
+    let act = action (instruction_at program (address_of h.pcc)) h in
+    after_check (first_failing (fetch_table h.pcc (length program))) h m (stored_at act)
+    (execute act h m) (leaves_execute act h m)
 
 -- what a step leaves that stores at no address
 pub stays_at : (program : List Instr) (h : HartState) (m : List CapValue) (o : Option ℕ) → o ≡ store_address program h

@@ -1,11 +1,9 @@
 -- Which granule the next step of a hart may change.
-use Rattle.std.specs.Prelude.{ℕ, List, length, Option, Some, None, Result, Ok, Err}
+use Rattle.std.specs.Prelude.{ℕ, List, Option, Some, None}
 use Rattle.cap_model.specs.results.Addresses.{address_of}
 use Rattle.cheri_model.specs.declared.instr.Instr.{Instr}
-use Rattle.cheri_model.specs.declared.trace.Trap.{Trap}
 use Rattle.cheri_model.specs.steps.Actions.{Action, Put, Load, Store, LoadCap, StoreCap, Swap}
 use Rattle.cheri_model.specs.steps.Actions.{Branch, Jump, JumpThrough, Invoke, Halt, action}
-use Rattle.cheri_model.specs.steps.Checks.{first_failing, fetch_table}
 use Rattle.cheri_model.specs.steps.Hart.{HartState}
 use Rattle.cheri_model.specs.steps.HartStep.{instruction_at}
 
@@ -23,14 +21,8 @@ stored_at (JumpThrough cd c1 is_entry target) = None
 stored_at (Invoke c1 c2 target) = None
 stored_at Halt = None
 
--- none after a trap
-abbrev pub unless_fetch_traps : Result (Unit {0}) Trap → Option ℕ → Option ℕ
-unless_fetch_traps (Ok u) address = address
-unless_fetch_traps (Err trap) address = None
-
--- the address that the next step of a hart stores at, if it does, whether or not the access can
--- pass its checks
+-- the address that the instruction at PCC stores at, if it does, whether or not its fetch and its
+-- access can pass their checks
 unfoldable pub store_address : List Instr → HartState → Option ℕ
 store_address program hart =
-    unless_fetch_traps (first_failing (fetch_table hart.pcc (length program)))
-    (stored_at (action (instruction_at program (address_of hart.pcc)) hart))
+    stored_at (action (instruction_at program (address_of hart.pcc)) hart)

@@ -2,47 +2,54 @@
 
 ghost use Rattle.std.specs.Prelude.{◌≡◌, ◌<◌, List, length, slice_set, None, IfSome, is_some};
 ghost use Rattle.cap_model.specs.values.CapValue.{CapValue};
+ghost use Rattle.cheri_model.specs.steps.Actions.{action, at};
 ghost use Rattle.cheri_model.specs.steps.HartStep.{hart_step};
-ghost use Rattle.instructions.specs.Actions.{action_of};
 ghost use Rattle.sample_draws.specs.Orders.{is_changed};
 ghost use Rattle.sample_steps.specs.Writes.{stored_at, store_address};
 
 use cap_ops::Cap;
-use cheri_model::{GRANULE_BYTES, Instr, RAM_BASE};
+use cheri_model::{CODE_BASE, GRANULE_BYTES, INSTRUCTION_BYTES, Instr, RAM_BASE, Reg};
 use hart::Hart;
-use hart_step::{fetch, step};
-use instructions::{Action, instr_action};
+use hart_step::step;
+use instructions::immediate;
 use sample_draws::same_value;
 use tagged_mem::Ram;
 
-/// The address that an action stores at, if it does.
-fn stored_at(action: Action) -> Option<u64>
-    ensures { result ≡ stored_at (action_of action) }
+/// The address at an offset from a register.
+#[tactic(auto, unfolding(crate::proofs::Unfold::stores))]
+fn at(hart: &Hart, c1: Reg, imm: i16) -> u64
+    ensures { result ≡ at hart.now c1 imm }
 {
-    match action {
-        Action::Store { addr, .. } | Action::StoreCap { addr, .. } | Action::Swap { addr, .. } => {
-            Some(addr)
-        }
-        Action::Put { .. }
-        | Action::Load { .. }
-        | Action::LoadCap { .. }
-        | Action::Branch { .. }
-        | Action::Jump { .. }
-        | Action::JumpThrough { .. }
-        | Action::Invoke { .. }
-        | Action::Halt => None,
+    hart.register(c1).addr().wrapping_add(immediate(imm))
+}
+
+/// The address that an instruction stores at, if it stores. Most don't, which their kind says: no
+/// register is read for them.
+#[tactic(auto, unfolding(crate::proofs::Unfold::stores))]
+fn stored_at(instr: Instr, hart: &Hart) -> Option<u64>
+    ensures { result ≡ stored_at (action instr hart.now) }
+{
+    match instr {
+        Instr::Sb { c1, imm, .. } => Some(at(hart, c1, imm)),
+        Instr::Sh { c1, imm, .. } => Some(at(hart, c1, imm)),
+        Instr::Sw { c1, imm, .. } => Some(at(hart, c1, imm)),
+        Instr::Sd { c1, imm, .. } => Some(at(hart, c1, imm)),
+        Instr::Sc { c1, imm, .. } => Some(at(hart, c1, imm)),
+        Instr::AmoSwapC { c1, .. } => Some(hart.register(c1).addr()),
+        _ => None,
     }
 }
 
-/// The address that the next step of a hart stores at, if it does, whether or not the access can
-/// pass its checks.
-#[tactic(auto, unfolding(crate::specs::Writes::store_address))]
+/// The address that the next step of a hart stores at, if its instruction stores, whether or not
+/// the fetch and the access can pass their checks: a step that traps changes no memory.
+#[tactic(auto, unfolding(crate::proofs::Unfold::stores))]
 fn store_address(program: &[Instr], hart: &Hart) -> Option<u64>
     ensures { result ≡ store_address program.now hart.now }
 {
-    match fetch(program, hart.pcc()) {
-        Ok(instr) => stored_at(instr_action(instr, hart)),
-        Err(_) => None,
+    let number = hart.pcc().addr().saturating_sub(CODE_BASE) / INSTRUCTION_BYTES;
+    match program.get(number as usize) {
+        Some(instr) => stored_at(*instr, hart),
+        None => None,
     }
 }
 
