@@ -81,6 +81,15 @@ impl Cycle {
         }
     }
 
+    /// Marks a hart, which is compared with for so many steps.
+    pub(crate) fn mark(&mut self, hart: &Hart, span: u32)
+        ensures { self.new ≡ record { marked = hart.now; since = 0; span = span } }
+    {
+        self.marked = *hart;
+        self.since = 0;
+        self.span = span;
+    }
+
     /// Whether the hart is back where it was.
     pub fn is_back(&self, hart: &Hart) -> bool
         ensures { result ≡ is_back self.now hart.now }
@@ -95,11 +104,7 @@ impl Cycle {
         ensures { self.new ≡ gone_on hart.now self.old }
     {
         if self.since + 1 == self.span {
-            *self = Cycle {
-                marked: *hart,
-                since: 0,
-                span: 2 * self.span,
-            };
+            self.mark(hart, 2 * self.span);
         } else {
             self.since += 1;
         }

@@ -1,10 +1,11 @@
 //! What draws the order of a run, and the operation that is chosen next.
 #![tactic(auto, unfolding(crate::proofs::Unfold::draws))]
 
-ghost use Rattle.std.specs.Prelude.{◌≡◌, ◌<◌, ◌≤◌, ◌^◌, All, length, IfSome};
+ghost use Rattle.std.specs.Prelude.{◌≡◌, ◌<◌, ◌≤◌, ◌^◌, All, length, option_map, IfSome, IfOk};
 ghost use Rattle.sample_draws.specs.Draws.{draws_of_run, operation_word, is_sweep_word};
-ghost use Rattle.sample_draws.specs.Draws.{drawn_rate, drawn_priorities, swept_range, chosen};
-ghost use Rattle.sample_draws.specs.Draws.{begun, done};
+ghost use Rattle.sample_draws.specs.Draws.{drawn_rate, drawn_priorities, swept_range, stepping};
+ghost use Rattle.sample_draws.specs.Draws.{chosen, begun, done};
+ghost use Rattle.sample_draws.specs.Priorities.{after_changes, swept};
 
 use crate::drawing::{Drawing, MAX_LENGTH, MAX_RUN, MAX_SWEEPS};
 use crate::priorities::Priorities;
@@ -12,6 +13,7 @@ use crate::words::{Words, share};
 use cheri_model::{MAX_HARTS, Op};
 use hart::Hart;
 use schedules::SweepRange;
+use std::alloc::{AllocError, Global};
 use std::marker::Model;
 
 /// Sweeps come at one place in 2^2, 2^3, .., 2^11: so many rates.
@@ -26,11 +28,12 @@ pub const GREATEST_RATE: u32 = 2;
 pub struct Draws {
     words: Words,
     one_in: u64,
-    priorities: Option<Priorities>,
+    /// In a box, since they keep a hart, and most runs have none.
+    priorities: Option<Box<Priorities>>,
 }
 
 impl Model for Draws {
-    ghost use Rattle.std.specs.Prelude.{◌<◌};
+    ghost use Rattle.std.specs.Prelude.{◌<◌, option_map};
     ghost use Rattle.sample_draws.specs.Draws.{DrawParts};
 
     ghost Value = { DrawParts };
@@ -38,7 +41,7 @@ impl Model for Draws {
     ghost view = { λ d. record {
       words = d.words;
       one_in = d.one_in;
-      priorities = d.priorities;
+      priorities = option_map (λ priorities. priorities.value) d.priorities;
     } };
 
     ghost invariant = { λ d. 0 < d.one_in };
@@ -55,18 +58,26 @@ fn draw_rate(sweeps: &[SweepRange], words: &mut Words) -> u64
     1 << (GREATEST_RATE + words.draw(SWEEP_RATES))
 }
 
-/// The priorities of harts, where a depth is given.
-fn draw_priorities(drawing: &Drawing, harts: usize, words: &mut Words) -> Option<Priorities>
+/// The priorities of harts, where a depth is given. Fails only when out of memory.
+fn draw_priorities(
+    alloc: Global,
+    drawing: &Drawing,
+    harts: usize,
+    words: &mut Words,
+) -> Result<Option<Box<Priorities>>, AllocError>
     requires some { 1 ≤ harts }
     requires few { harts ≤ MAX_HARTS }
-    ensures { (result, words.new)
-        ≡ drawn_priorities drawing.now.depth drawing.now.length harts words.old }
+    ensures { IfOk result (λ drawn. (option_map (λ priorities. priorities.value) drawn, words.new)
+        ≡ drawn_priorities drawing.now.depth drawing.now.length harts words.old) }
 {
     // Its clause says what the parts of a drawing are.
     let _seed = drawing.seed();
     match drawing.depth() {
-        None => None,
-        Some(depth) => Some(Priorities::draw(harts, depth, drawing.length(), words)),
+        None => Ok(None),
+        Some(depth) => {
+            let priorities = Priorities::draw(harts, depth, drawing.length(), words);
+            Ok(Some(Box::new(alloc, priorities)?))
+        }
     }
 }
 
@@ -91,21 +102,27 @@ fn is_sweep_word(word: u64, one_in: u64, sweeps: &[SweepRange]) -> bool
 }
 
 impl Draws {
-    /// What draws the order of the run with this number, of so many harts.
-    pub fn of_run(drawing: &Drawing, harts: usize, run: u64) -> Draws
+    /// What draws the order of the run with this number, of so many harts. Fails only when out of
+    /// memory, and only where a depth is given.
+    pub fn of_run(
+        alloc: Global,
+        drawing: &Drawing,
+        harts: usize,
+        run: u64,
+    ) -> Result<Draws, AllocError>
         requires some { 1 ≤ harts }
         requires few { harts ≤ MAX_HARTS }
         requires run { run ≤ MAX_RUN }
-        ensures { result ≡ draws_of_run drawing.now harts run }
+        ensures { IfOk result (λ draws. draws ≡ draws_of_run drawing.now harts run) }
     {
         let mut words = Words::of_run(drawing.seed(), run);
         let one_in = draw_rate(drawing.sweeps(), &mut words);
-        let priorities = draw_priorities(drawing, harts, &mut words);
-        Draws {
+        let priorities = draw_priorities(alloc, drawing, harts, &mut words)?;
+        Ok(Draws {
             words,
             one_in,
             priorities,
-        }
+        })
     }
 
     /// The word of the next operation, 0 where none is needed.
@@ -120,6 +137,32 @@ impl Draws {
         self.words.next()
     }
 
+    /// A sweep comes.
+    fn sweep(&mut self)
+        ensures { self.new
+            ≡ record self.old { priorities = option_map swept self.old.priorities } }
+    {
+        if let Some(priorities) = &mut self.priorities {
+            priorities.sweep();
+        }
+    }
+
+    /// The hart that steps, one of those that run.
+    fn stepping(&mut self, word: u64, running: &[u8]) -> u8
+        requires some { 0 < length running.now }
+        requires short { length running.now ≤ MAX_HARTS }
+        requires harts { All (λ hart. hart < MAX_HARTS) running.now }
+        ensures hart { result ≡ stepping word running.now self.old.priorities }
+        ensures draws { self.new ≡ record self.old {
+          priorities = option_map (after_changes running.now) self.old.priorities;
+        } }
+    {
+        match &mut self.priorities {
+            None => running[share(word, running.len() as u32) as usize],
+            Some(priorities) => priorities.choose(running),
+        }
+    }
+
     /// The next operation: one of these sweeps, or a step of one of the harts that run.
     pub fn choose(&mut self, sweeps: &[SweepRange], running: &[u8]) -> Op
         requires few { length sweeps.now ≤ MAX_SWEEPS }
@@ -129,20 +172,15 @@ impl Draws {
         ensures { (result, self.new) ≡ chosen sweeps.now running.now self.old }
     {
         let word = self.operation_word(sweeps);
-        if is_sweep_word(word, self.one_in, sweeps) {
-            if let Some(priorities) = &mut self.priorities {
-                priorities.sweep();
-            }
-            let range = swept_range(word, sweeps);
-            return Op::Sweep {
-                lo: range.lo,
-                hi: range.hi,
-            };
+        if !is_sweep_word(word, self.one_in, sweeps) {
+            return Op::Step(self.stepping(word, running));
         }
-        Op::Step(match &mut self.priorities {
-            None => running[share(word, running.len() as u32) as usize],
-            Some(priorities) => priorities.choose(running),
-        })
+        self.sweep();
+        let range = swept_range(word, sweeps);
+        Op::Sweep {
+            lo: range.lo,
+            hi: range.hi,
+        }
     }
 
     /// A hart is about to step.

@@ -1,9 +1,10 @@
 //! Harts by random priorities: which one steps next, and what its step changes of that.
 #![tactic(auto, unfolding(crate::proofs::Unfold::priorities))]
 
-ghost use Rattle.std.specs.Prelude.{◌≡◌, ◌<◌, ◌≤◌, All};
+ghost use Rattle.std.specs.Prelude.{◌≡◌, ℕ, ◌+◌, ◌<◌, ◌≤◌, ◌^◌, true, if◌then◌else◌, All, slice_set};
 ghost use Rattle.sample_draws.specs.Priorities.{first_priorities, after_changes, first_of};
-ghost use Rattle.sample_draws.specs.Priorities.{going_on, about_to_step, ended, swept};
+ghost use Rattle.sample_draws.specs.Priorities.{followed, waiting_after, ends_patience};
+ghost use Rattle.sample_draws.specs.Priorities.{is_cycle_within, about_to_step, ended, swept};
 
 use crate::cycles::Cycle;
 use crate::drawing::{MAX_DEPTH, MAX_LENGTH};
@@ -66,17 +67,48 @@ impl Model for Priorities {
     }) ≡ true };
 }
 
-/// The latest hart, which is about to step: it goes on where this is the same hart.
-fn going_on(hart: u8, before: &Hart, latest: Option<Succession>) -> Succession
-    ensures { result ≡ going_on hart before.now latest }
-{
-    match latest {
-        Some(latest) if latest.hart == hart => latest,
-        _ => Succession {
-            hart,
-            steps: 0,
-            cycle: Cycle::from(before),
-        },
+impl Succession {
+    /// The hart has stepped: it waits where that has brought it back, and memory that was changed
+    /// lets all go on.
+    fn follow(&mut self, after: &Hart, changed: bool, waiting: &mut [bool; 8])
+        requires hart { self.old.hart < MAX_HARTS }
+        requires since { self.old.cycle.since < self.old.cycle.span }
+        requires span { self.old.cycle.span < 2 ^ 31 }
+        ensures latest { self.new
+            ≡ record self.old { cycle = followed changed after.now self.old.cycle } }
+        ensures waiting { waiting.new ≡ waiting_after changed after.now self.old waiting.old }
+        ensures within { (steps : ℕ) → is_cycle_within steps self.old.cycle ≡ true
+            → is_cycle_within (steps + 1) self.new.cycle ≡ true }
+    {
+        if changed {
+            *waiting = [false; 8];
+            self.cycle.mark(after, 1);
+        } else if self.cycle.is_back(after) {
+            waiting[usize::from(self.hart)] = true;
+        } else {
+            self.cycle.go_on(after);
+        }
+    }
+
+    /// Counts a step, after which the hart becomes last where its patience ends.
+    fn count(&mut self, ranks: &mut Ranks, last: &mut u32)
+        requires hart { self.old.hart < MAX_HARTS }
+        requires steps { self.old.steps < PATIENCE }
+        requires last { last.old < 2 ^ 31 }
+        ensures latest { self.new
+            ≡ record self.old { steps = if ends_patience self.old then 0 else self.old.steps + 1 } }
+        ensures ranks { ranks.new ≡ if ends_patience self.old
+            then slice_set ranks.old self.old.hart last.old else ranks.old }
+        ensures last { last.new ≡ if ends_patience self.old then last.old + 1 else last.old }
+        ensures few { self.new.steps < PATIENCE }
+        ensures next { last.new ≤ last.old + 1 }
+    {
+        self.steps += 1;
+        if self.steps == PATIENCE {
+            self.steps = 0;
+            ranks[usize::from(self.hart)] = *last;
+            *last += 1;
+        }
     }
 }
 
@@ -125,7 +157,16 @@ impl Priorities {
         requires { hart < MAX_HARTS }
         ensures { self.new ≡ about_to_step hart before.now self.old }
     {
-        self.succession = Some(going_on(hart, before, self.succession));
+        if let Some(latest) = &self.succession {
+            if latest.hart == hart {
+                return;
+            }
+        }
+        self.succession = Some(Succession {
+            hart,
+            steps: 0,
+            cycle: Cycle::from(before),
+        });
     }
 
     /// The hart that was about to step has stepped: it is so, and memory was changed or was not.
@@ -133,25 +174,11 @@ impl Priorities {
         requires { self.old.steps < MAX_LENGTH }
         ensures { self.new ≡ ended after.now changed self.old }
     {
-        let Some(mut latest) = self.succession else {
-            return;
-        };
-        self.steps += 1;
-        if changed {
-            self.waiting = [false; 8];
-            latest.cycle = Cycle::from(after);
-        } else if latest.cycle.is_back(after) {
-            self.waiting[usize::from(latest.hart)] = true;
-        } else {
-            latest.cycle.go_on(after);
+        if let Some(latest) = &mut self.succession {
+            self.steps += 1;
+            latest.follow(after, changed, &mut self.waiting);
+            latest.count(&mut self.ranks, &mut self.last);
         }
-        latest.steps += 1;
-        if latest.steps == PATIENCE {
-            self.ranks[usize::from(latest.hart)] = self.last;
-            self.last += 1;
-            latest.steps = 0;
-        }
-        self.succession = Some(latest);
     }
 
     /// After a sweep no hart waits.

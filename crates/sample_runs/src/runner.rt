@@ -138,7 +138,7 @@ impl Runner {
         let _granules = self.image.granules();
         self.memory.bring_back(alloc)?;
         self.harts.copy_from_slice(self.opened.as_slice());
-        Ok(Draws::of_run(drawing, self.image.harts().len(), run))
+        Draws::of_run(alloc, drawing, self.image.harts().len(), run)
     }
 
     /// Steps a hart, and tells it to what draws the operations after it.

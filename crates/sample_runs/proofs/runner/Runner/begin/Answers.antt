@@ -1,4 +1,6 @@
-use Rattle.std.proofs.Common.{length, ap, ◌∙◌, arith}
+use Rattle.std.proofs.Common.{◌≡◌, length, ap, ◌∙◌, arith}
+use Rattle.std.proofs.lemmas.Result.{IfOk-weaker}
+use Rattle.sample_draws.specs.Draws.{draws_of_run}
 use Rattle.sample_draws.specs.Orders.{first_moment}
 use Rattle.sample_runs.specs.Runners.{RunnerParts}
 use Rattle.sample_runs.proofs.OpenLemmas.{harts_are_few, moment_first}
@@ -16,8 +18,12 @@ of_run-requires-clause-few c =
 
 pub returns-clause-moment : goal.returns-clause-moment
 returns-clause-moment c =
-    moment_first c.self.inside.image c.args.drawing.now c.args.run (length c.harts.result.now)
-    c.copy_from_slice.new.self.items c.bring_back.new.self.now c.of_run.result
-    (c.copy_from_slice.ensures.items ∙ (c.as_slice.ensures.value ∙ c.self.invariant.opening))
-    (c.in_ok-bring_back.ensures.now ∙ c.self.invariant.memory_opening) c.of_run.ensures (ap length c.harts.ensures)
-    ∙ ap (λ (r : RunnerParts). first_moment r.image c.args.drawing.now c.args.run) c.self.view_is
+    let count = length c.harts.result.now in
+    let opened = c.copy_from_slice.ensures.items ∙ (c.as_slice.ensures.value ∙ c.self.invariant.opening) in
+    let memory = c.in_ok-bring_back.ensures.now ∙ c.self.invariant.memory_opening in
+    IfOk-weaker c.of_run.result (λ draws. draws ≡ draws_of_run c.args.drawing.now count c.args.run) _
+    (λ draws is.
+    moment_first c.self.inside.image c.args.drawing.now c.args.run count c.copy_from_slice.new.self.items
+    c.bring_back.new.self.now draws opened memory is (ap length c.harts.ensures)
+    ∙ ap (λ (r : RunnerParts). first_moment r.image c.args.drawing.now c.args.run) c.self.view_is)
+    c.of_run.ensures
