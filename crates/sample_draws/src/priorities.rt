@@ -1,9 +1,9 @@
 //! Harts by random priorities: which one steps next, and what its step changes of that.
 #![tactic(auto, unfolding(crate::proofs::Unfold::priorities))]
 
-ghost use Rattle.std.specs.Prelude.{◌≡◌, ℕ, ◌+◌, ◌<◌, ◌≤◌, ◌^◌, true, if◌then◌else◌, All, slice_set};
+ghost use Rattle.std.specs.Prelude.{◌≡◌, ℕ, ◌+◌, ◌<◌, ◌≤◌, ◌^◌, true, if◌then◌else◌, All, slice_set, Some};
 ghost use Rattle.sample_draws.specs.Priorities.{first_priorities, after_changes, first_of};
-ghost use Rattle.sample_draws.specs.Priorities.{followed, waiting_after, ends_patience};
+ghost use Rattle.sample_draws.specs.Priorities.{going_on, followed, waiting_after, ends_patience};
 ghost use Rattle.sample_draws.specs.Priorities.{is_cycle_within, about_to_step, ended, swept};
 
 use crate::cycles::Cycle;
@@ -68,6 +68,17 @@ impl Model for Priorities {
 }
 
 impl Succession {
+    /// A hart is about to step: it goes on where it is the latest.
+    fn begin(&mut self, hart: u8, before: &Hart)
+        ensures { self.new ≡ going_on hart before.now (Some self.old) }
+    {
+        if self.hart != hart {
+            self.hart = hart;
+            self.steps = 0;
+            self.cycle.mark(before, 1);
+        }
+    }
+
     /// The hart has stepped: it waits where that has brought it back, and memory that was changed
     /// lets all go on.
     fn follow(&mut self, after: &Hart, changed: bool, waiting: &mut [bool; 8])
@@ -157,16 +168,14 @@ impl Priorities {
         requires { hart < MAX_HARTS }
         ensures { self.new ≡ about_to_step hart before.now self.old }
     {
-        if let Some(latest) = &self.succession {
-            if latest.hart == hart {
-                return;
-            }
+        match &mut self.succession {
+            Some(latest) => latest.begin(hart, before),
+            None => self.succession = Some(Succession {
+                hart,
+                steps: 0,
+                cycle: Cycle::from(before),
+            }),
         }
-        self.succession = Some(Succession {
-            hart,
-            steps: 0,
-            cycle: Cycle::from(before),
-        });
     }
 
     /// The hart that was about to step has stepped: it is so, and memory was changed or was not.
