@@ -7,5 +7,6 @@ pub mod TallyLemmas
 pub mod OrderLemmas
 pub mod WithinLemmas
 pub mod KnownLemmas
+pub mod DifferenceLemmas
 pub mod ChangedLemmas
 pub mod NumberingLemmas
