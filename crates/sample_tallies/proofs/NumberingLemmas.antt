@@ -1,11 +1,10 @@
 -- What is kept beside numbers stays so.
 use Rattle.std.proofs.Common.{◌≡◌, ℕ, ◌+◌, ◌<◌, List, [], ◌∷◌, ◌++◌, length, length-append, refl, ap, sym, ◌∙◌, subst, arith, inl, inr, ◌⊎◌}
-use Rattle.std.specs.Prelude.{Option, Some, None, IsSome, IfSome, slice_get, slice_set, option_and_then}
+use Rattle.std.specs.Prelude.{Option, Some, None, IsSome, IfSome, slice_get, slice_set}
 use Rattle.std.proofs.lemmas.Bool.{cases_eq, cases_lt}
 use Rattle.std.proofs.lemmas.List.{length-set}
 use Rattle.std.proofs.lemmas.Option.{same_Some, none-some, slice_get_within}
 use Rattle.cap_model.specs.values.CapValue.{CapValue}
-use Rattle.cheri_model.specs.steps.Hart.{HartState}
 use Rattle.sample_steps.specs.declared.writes.Change.{Change}
 use Rattle.sample_runs.specs.Memories.{undone}
 use Rattle.state_store.specs.Stores.{Stored, hart_at, memory_at, Keeps}
