@@ -49,8 +49,8 @@ kind_of (Step place fault) = step_fault_number fault
 kind_of (Assembly fault) = fault_number fault.fault.kind
 kind_of _ = 0
 
--- a line of the listing, the assembly or the map, a byte of the order, the condition or the items, or
--- an operation of the order counted from 0
+-- a line of the listing, the assembly or the map, a byte of the order, the condition or the items,
+-- or an operation of the order counted from 0
 abbrev pub place_of : Fault → ℕ
 place_of (Listing fault) = fault.line
 place_of (Order fault) = fault.offset

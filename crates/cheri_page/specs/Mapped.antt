@@ -48,7 +48,8 @@ IsSourcedRun (Ok sources) listing order first last told =
     (mapped formats.Text (Some sources) listing
     (record { first = first; last = last; filter = filters.All }))
     listing order told
-IsSourcedRun (Err fault) listing order first last told = told ≡ record { text = []; fault = Some fault }
+IsSourcedRun (Err fault) listing order first last told =
+    told ≡ record { text = []; fault = Some fault }
 
 abbrev pub IsMappedTold : List ℕ → List ℕ → List ℕ → ℕ → ℕ → Told → Type 0
 IsMappedTold listing order bytes first last told =

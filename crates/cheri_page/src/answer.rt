@@ -13,10 +13,10 @@ use std::alloc::{AllocError, Global};
 #[repr(C)]
 pub struct Answer {
     /// 0: it is done; 1: the listing was refused, 2: the order; 3: an operation was, and what is
-    /// written is of those before it; 4: out of memory; 5: no room; 6: an argument is no number;
-    /// 7: the assembly was refused, 8: the map; 9: the name of a file is no text; 10: a condition was
-    /// refused, 11: items, 12: the listing's properties; 13: no state may be kept; 14: a condition or
-    /// a list of items is no text.
+    /// written is of those before it; 4: out of memory; 5: no room; 6: an argument is no number; 7:
+    /// the assembly was refused, 8: the map; 9: the name of a file is no text; 10: a condition was
+    /// refused, 11: items, 12: the listing's properties; 13: no state may be kept; 14: a condition
+    /// or a list of items is no text.
     pub status: u32,
     /// The fault's number.
     pub kind: u32,

@@ -81,8 +81,8 @@ impl Fault {
         }
     }
 
-    /// Where it is: a line of the listing, the assembly or the map, a byte of the order, the condition
-    /// or the items, or a place of an operation, and 0 where it has none.
+    /// Where it is: a line of the listing, the assembly or the map, a byte of the order, the
+    /// condition or the items, or a place of an operation, and 0 where it has none.
     pub(crate) fn place(self) -> usize
         ensures { result ≡ place_of self }
     {

@@ -1,5 +1,5 @@
-//! Questions about the orders of a listing's harts, each answered in one line of JSON. Of all orders
-//! states are told apart by turns, and at most `limit` of them are kept.
+//! Questions about the orders of a listing's harts, each answered in one line of JSON. Of all
+//! orders states are told apart by turns, and at most `limit` of them are kept.
 #![tactic(auto, using(crate::proofs::SearchLemmas::searched))]
 
 ghost use Rattle.std.specs.Prelude.{◌≡◌};

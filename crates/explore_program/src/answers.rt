@@ -29,8 +29,8 @@ use sinks::Sink;
 use states::Search;
 use std::alloc::Global;
 
-/// What a question is asked of: a search, its listing with its labels, how the answer is written, and
-/// whether its orders are explained.
+/// What a question is asked of: a search, its listing with its labels, how the answer is written,
+/// and whether its orders are explained.
 #[derive(Clone, Copy)]
 pub struct Asking<'l, 's> {
     pub labels: &'l Labels<'l>,

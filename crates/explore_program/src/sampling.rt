@@ -55,8 +55,8 @@ pub struct Sampling<'i, 'd, 'p, 'c> {
     pub properties: &'p [Property<'c>],
 }
 
-/// What is told of runs with these numbers, which gave this. Fails only when out of memory, or where
-/// the runs of a row of values reach 2^64.
+/// What is told of runs with these numbers, which gave this. Fails only when out of memory, or
+/// where the runs of a row of values reach 2^64.
 fn tell<'x>(
     alloc: Global,
     format: Format,

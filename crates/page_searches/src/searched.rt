@@ -70,8 +70,8 @@ pub fn condition_of(
     read_condition(alloc, &names, image, text)
 }
 
-/// The properties that a listing with these labels carries, and the sweeps that it allows; it has no
-/// map.
+/// The properties that a listing with these labels carries, and the sweeps that it allows; it has
+/// no map.
 #[tactic(auto, unfolding(listing_maps::specs::Names::named))]
 pub fn properties_of<'t>(
     alloc: Global,

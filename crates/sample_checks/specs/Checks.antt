@@ -1,5 +1,6 @@
 -- What many runs gave, and what they say of properties.
-use Rattle.std.specs.Prelude.{◌≡◌, ◌≤◌, ℕ, List, [], ◌∷◌, fold, map, replicate, All, Option, Some, None}
+use Rattle.std.specs.Prelude.{◌≡◌, ◌≤◌, ℕ, List, [], ◌∷◌, fold, map, replicate, All, Option, Some}
+use Rattle.std.specs.Prelude.{None}
 use Rattle.cheri_model.specs.runs.Image.{ImageParts}
 use Rattle.explore_properties.specs.Properties.{PropertyParts}
 use Rattle.sample_draws.specs.declared.drawing.TheConstants.{MAX_RUN}

@@ -65,8 +65,8 @@ fn see_each(decided: &mut [Option<Seen>], others: &[Option<Seen>]) -> Result<(),
 }
 
 impl Checked {
-    /// Of no run of a machine with so many harts and granules, and of so many properties. Fails only
-    /// when out of memory.
+    /// Of no run of a machine with so many harts and granules, and of so many properties. Fails
+    /// only when out of memory.
     pub fn new(
         alloc: Global,
         harts: usize,
@@ -117,9 +117,9 @@ impl Checked {
         self.decided.as_slice()
     }
 
-    /// Adds other runs of this machine, of which as many properties are known; their ends are loaded
-    /// into a state of it. Fails only when out of memory or of numbers, or where a count reaches
-    /// 2^64.
+    /// Adds other runs of this machine, of which as many properties are known; their ends are
+    /// loaded into a state of it. Fails only when out of memory or of numbers, or where a count
+    /// reaches 2^64.
     pub fn add(
         self,
         alloc: Global,

@@ -89,8 +89,8 @@ fn count_decided(
     Ok(decided)
 }
 
-/// What so many runs give, from the one with this number on, and which of them decide each property.
-/// Fails only when out of memory or of numbers for states, or where a count reaches 2^64.
+/// What so many runs give, from the one with this number on, and which of them decide each
+/// property. Fails only when out of memory or of numbers for states, or where a count reaches 2^64.
 pub fn count_checked(
     alloc: Global,
     image: &Image,

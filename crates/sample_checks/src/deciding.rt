@@ -5,7 +5,8 @@ ghost use Rattle.std.specs.Prelude.{IfOk, IfSome, IfNone};
 ghost use Rattle.sample_draws.specs.Orders.{drawn_order};
 ghost use Rattle.sample_checks.specs.Deciding.{deciding_part};
 ghost use Rattle.sample_checks.specs.Checks.{is_drawn};
-ghost use Rattle.sample_checks.specs.Told.{with_order, told_of, tell_all, told_in, property_of, parts_of};
+ghost use Rattle.sample_checks.specs.Told.{with_order, told_of, tell_all, told_in, property_of};
+ghost use Rattle.sample_checks.specs.Told.{parts_of};
 
 use crate::machine::Machine;
 use crate::told::{Decided, PropertySeen};
@@ -16,8 +17,8 @@ use sample_runs::Runner;
 use sample_tallies::Seen;
 use std::alloc::{AllocError, Global};
 
-/// The order of a run up to the first state that decides a property, or `None` where the run does not
-/// decide it. Fails only when out of memory.
+/// The order of a run up to the first state that decides a property, or `None` where the run does
+/// not decide it. Fails only when out of memory.
 pub fn deciding_order(
     alloc: Global,
     runner: &mut Runner,

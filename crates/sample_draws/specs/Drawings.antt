@@ -1,6 +1,7 @@
 -- How orders are drawn: all that the order of a run depends on, but for the image and the run's
 -- number.
-use Rattle.std.specs.Prelude.{ℕ, nat_le, Bool, true, ◌&&◌, List, [], ◌∷◌, length, Option, Some, None}
+use Rattle.std.specs.Prelude.{ℕ, nat_le, Bool, true, ◌&&◌, List, [], ◌∷◌, length, Option, Some}
+use Rattle.std.specs.Prelude.{None}
 use Rattle.cheri_model.specs.runs.Sweeps.{is_range}
 use Rattle.schedules.specs.declared.ranges.SweepRange.{SweepRange}
 use Rattle.sample_draws.specs.declared.drawing.TheConstants.{MAX_SEED, MAX_LENGTH, MAX_DEPTH}

@@ -1,7 +1,8 @@
 -- What draws the order of a run: the generator, how rare sweeps are, and the harts' priorities,
 -- where they have some; and the operation that is chosen next.
 use Rattle.std.specs.Prelude.{ℕ, ◌+◌, ◌%◌, ◌^◌, ◌==◌, Bool, true, false, List, [], ◌∷◌}
-use Rattle.std.specs.Prelude.{if◌then◌else◌, length, slice_index, slice_index_or, Option, Some, None}
+use Rattle.std.specs.Prelude.{if◌then◌else◌, length, slice_index, slice_index_or, Option, Some}
+use Rattle.std.specs.Prelude.{None}
 use Rattle.std.specs.Prelude.{option_map}
 use Rattle.cheri_model.specs.declared.operation.Op.{Op}
 use Rattle.cheri_model.specs.declared.operation.Op.TheVariants as operation

@@ -1,5 +1,5 @@
--- The order that is drawn for a run: operations are chosen, one after another, until no hart runs or
--- there are as many as a run may have.
+-- The order that is drawn for a run: operations are chosen, one after another, until no hart runs
+-- or there are as many as a run may have.
 use Rattle.std.specs.Prelude.{ℕ, ◌+◌, ◌==◌, zero, suc, Bool, not, List, [], ◌∷◌, length}
 use Rattle.std.specs.Prelude.{if◌then◌else◌}
 use Rattle.cap_model.specs.values.CapValue.{CapValue}

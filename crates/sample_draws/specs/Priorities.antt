@@ -1,7 +1,8 @@
 -- Orders by priorities (PCT: Burckhardt, Kothari, Musuvathi, Nagarakatte, "A randomized scheduler
 -- with probabilistic guarantees of finding bugs"), with harts that wait in place of disabled
 -- threads, and with patience.
-use Rattle.std.specs.Prelude.{ℕ, ◌+◌, ◌-◌, ◌==◌, nat_lt, nat_le, Bool, true, false, ◌&&◌, List, length}
+use Rattle.std.specs.Prelude.{ℕ, ◌+◌, ◌-◌, ◌==◌, nat_lt, nat_le, Bool, true, false, ◌&&◌, List}
+use Rattle.std.specs.Prelude.{length}
 use Rattle.std.specs.Prelude.{if◌then◌else◌, slice_set, Option, Some, None}
 use Rattle.cheri_model.specs.declared.image.TheConstants.{MAX_HARTS}
 use Rattle.cheri_model.specs.steps.Hart.{HartState}

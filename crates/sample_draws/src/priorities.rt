@@ -1,7 +1,8 @@
 //! Harts by random priorities: which one steps next, and what its step changes of that.
 #![tactic(auto, unfolding(crate::proofs::Unfold::priorities))]
 
-ghost use Rattle.std.specs.Prelude.{◌≡◌, ℕ, ◌+◌, ◌<◌, ◌≤◌, ◌^◌, true, if◌then◌else◌, All, slice_set, Some};
+ghost use Rattle.std.specs.Prelude.{◌≡◌, ℕ, ◌+◌, ◌<◌, ◌≤◌, ◌^◌, true, if◌then◌else◌, All};
+ghost use Rattle.std.specs.Prelude.{slice_set, Some};
 ghost use Rattle.sample_draws.specs.Priorities.{first_priorities, after_changes, first_of};
 ghost use Rattle.sample_draws.specs.Priorities.{going_on, followed, waiting_after, ends_patience};
 ghost use Rattle.sample_draws.specs.Priorities.{is_cycle_within, about_to_step, ended, swept};

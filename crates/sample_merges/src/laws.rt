@@ -10,8 +10,8 @@ ghost use Rattle.sample_texts.specs.declared.spans.Span.{Span};
 ghost use Rattle.sample_merges.specs.Merged.{AreNumbersOf, GivesRuns, IsSliceOfAll, sum_of};
 ghost use Rattle.sample_merges.specs.Spans.{AreSpans, HasRun};
 
-/// Slices, each of which gives what runs with some numbers give, give together what the runs with all
-/// these numbers give: the same tally, and of each property the same runs that decide it.
+/// Slices, each of which gives what runs with some numbers give, give together what the runs with
+/// all these numbers give: the same tally, and of each property the same runs that decide it.
 pub fn slices_give_the_whole()
     ensures { (image : ImageParts) (drawing : DrawingParts) (properties : List PropertyParts)
         (first : SliceParts) (rest : List SliceParts) (numbers : List Span) (runs : List ℕ)
@@ -20,8 +20,8 @@ pub fn slices_give_the_whole()
         → GivesRuns image drawing properties (sum_of first rest numbers) (runs ++ concat more) }
 {}
 
-/// The sum of such slices is the one slice that one `sample` of all these runs makes, where it makes
-/// them in the slices' order; so both are told by the same text.
+/// The sum of such slices is the one slice that one `sample` of all these runs makes, where it
+/// makes them in the slices' order; so both are told by the same text.
 pub fn sums_are_one_slice()
     ensures { (image : ImageParts) (drawing : DrawingParts) (properties : List PropertyParts)
         (first : SliceParts) (rest : List SliceParts) (whole one : SliceParts) (runs : List ℕ)

@@ -60,8 +60,8 @@ impl<'l> Merged<'l> {
         self.listing.properties(self.whole.is_checked())
     }
 
-    /// What they tell. Fails only when out of memory or of numbers for states, or where the runs of a
-    /// row of values reach 2^64.
+    /// What they tell. Fails only when out of memory or of numbers for states, or where the runs of
+    /// a row of values reach 2^64.
     pub fn text(&self, alloc: Global, format: Format) -> Result<String, NoMemory>
         ensures { IfOk result (λ text. IsTextOf self.now.listing.image
             (asked (looked_at self.now.listing.properties self.now.whole.is_checked))

@@ -167,9 +167,10 @@ fn merge_text(alloc: Global, listing: &KnownListing<'_>, slices: &[u8]) -> Resul
     merge_lines(alloc, listing, lines.as_slice())
 }
 
-/// What the slices of a good listing give together that the lines of a text are. The first line that
-/// is no slice, or doesn't go with those before it, is refused, for the least kind that applies. Fails
-/// else only when out of memory or of numbers for states, or where a count reaches 2^64.
+/// What the slices of a good listing give together that the lines of a text are. The first line
+/// that is no slice, or doesn't go with those before it, is refused, for the least kind that
+/// applies. Fails else only when out of memory or of numbers for states, or where a count reaches
+/// 2^64.
 pub fn merge_slices<'l>(
     alloc: Global,
     listing: SliceListing<'l, '_>,

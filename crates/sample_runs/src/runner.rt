@@ -1,13 +1,15 @@
 //! A machine that runs in orders drawn by chance, one run after another.
 
-ghost use Rattle.std.specs.Prelude.{◌≡◌, ◌<◌, ◌≤◌, length, map, false, true, None, IfSome, IfOk, OnOk};
+ghost use Rattle.std.specs.Prelude.{◌≡◌, ◌<◌, ◌≤◌, length, map, false, true, None, IfSome, IfOk};
+ghost use Rattle.std.specs.Prelude.{OnOk};
 ghost use Rattle.cheri_model.specs.runs.Image.{opening_memory};
 ghost use Rattle.cheri_model.specs.runs.Machine.{opening_state, state_after_one, may_take};
 ghost use Rattle.cheri_model.specs.runs.Machine.{state_after_step, swept_state};
 ghost use Rattle.cheri_model.specs.runs.Sweeps.{swept_hart};
 ghost use Rattle.cheri_model.specs.runs.Authority.{IsLawfulState};
 ghost use Rattle.sample_draws.specs.Draws.{chosen};
-ghost use Rattle.sample_draws.specs.Orders.{running_harts, is_over, first_moment, next_moment, told};
+ghost use Rattle.sample_draws.specs.Orders.{running_harts, is_over, first_moment, next_moment};
+ghost use Rattle.sample_draws.specs.Orders.{told};
 ghost use Rattle.sample_draws.specs.Orders.{run_from, drawn_run, drawn_order, last_state};
 ghost use Rattle.sample_runs.specs.Runners.{state_of, moment_of, steps_of};
 ghost use Rattle.sample_runs.specs.Runs.{end_in, run_end, run_length, StaysHung};
@@ -197,7 +199,8 @@ impl Runner {
             ≡ next_moment self.old.image (state_of self.old) (chosen drawing.now.sweeps
             (running_harts (state_of self.old)) draws.old)) }
     {
-        // Its clause says what the parts of a drawing are, and the next one how many harts there are.
+        // Its clause says what the parts of a drawing are, and the next one how many harts there
+        // are.
         let _seed = drawing.seed();
         let _granules = self.image.granules();
         let running = list_running(self.harts.as_slice());

@@ -1,5 +1,5 @@
--- Whether harts go round for ever: each that runs, let on alone, comes back to a state that it had and
--- changes no memory until then.
+-- Whether harts go round for ever: each that runs, let on alone, comes back to a state that it had
+-- and changes no memory until then.
 use Rattle.std.specs.Prelude.{ℕ, zero, suc, Bool, true, false, not, ◌&&◌, ◌||◌, List, [], ◌∷◌}
 use Rattle.std.specs.Prelude.{if◌then◌else◌}
 use Rattle.cap_model.specs.values.CapValue.{CapValue}

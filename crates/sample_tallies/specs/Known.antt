@@ -1,5 +1,6 @@
 -- What is kept beside the numbers of harts and memories, and what it means.
-use Rattle.std.specs.Prelude.{◌≡◌, ℕ, ◌≤◌, List, [], length, insert, slice_get, Option, Some, IfSome}
+use Rattle.std.specs.Prelude.{◌≡◌, ℕ, ◌≤◌, List, [], length, insert, slice_get, Option, Some}
+use Rattle.std.specs.Prelude.{IfSome}
 use Rattle.std.specs.Prelude.{IsSome, option_and_then, ◌⊎◌}
 use Rattle.cap_model.specs.values.CapValue.{CapValue}
 use Rattle.sample_steps.specs.declared.writes.Change.{Change}
@@ -17,7 +18,8 @@ pub record NumberingParts : Type 0 where
 abbrev pub opening_of : Stored → Option ℕ → Option (List CapValue)
 opening_of store number = option_and_then (memory_at store) number
 
--- Each hart is kept beside its number, and each memory as the changes that make it of the opening one.
+-- Each hart is kept beside its number, and each memory as the changes that make it of the opening
+-- one.
 pub record IsNumbering (store : Stored) (opening : Option ℕ) (harts : List KnownHart)
     (memories : List KnownMemory) : Type 0 where
   pub begun : IfSome opening (λ number. IsSome (memory_at store number))

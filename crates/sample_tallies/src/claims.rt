@@ -27,8 +27,8 @@ pub struct Claims {
 }
 
 impl Tally {
-    /// What is claimed of runs of a machine with so many harts and granules, with no trap and no end
-    /// yet. Allocates nothing.
+    /// What is claimed of runs of a machine with so many harts and granules, with no trap and no
+    /// end yet. Allocates nothing.
     pub fn of_claims(alloc: Global, harts: usize, granules: usize, claims: Claims) -> Tally
         requires { harts ≤ MAX_HARTS }
         ensures sum { result.sum ≡ claimed claims }
@@ -46,7 +46,8 @@ impl Tally {
         }
     }
 
-    /// Adds what is claimed of a trap. Fails only when out of memory, or where a count reaches 2^64.
+    /// Adds what is claimed of a trap. Fails only when out of memory, or where a count reaches
+    /// 2^64.
     pub fn claim_trap(&mut self, trap: TrapSeen) -> Result<(), AllocError>
         ensures sum { OnOk result (self.new.sum ≡ with_trap self.old.sum (entry_of trap)) }
         ensures same_harts { self.new.harts ≡ self.old.harts }
@@ -56,8 +57,8 @@ impl Tally {
         self.traps.see(trap)
     }
 
-    /// Adds what is claimed of the end in this state. Fails only when out of memory or of numbers, or
-    /// where a count reaches 2^64.
+    /// Adds what is claimed of the end in this state. Fails only when out of memory or of numbers,
+    /// or where a count reaches 2^64.
     pub fn claim_end(
         &mut self,
         alloc: Global,

@@ -1,6 +1,7 @@
 //! Numbers of what runs leave, most of which was numbered before.
 
-ghost use Rattle.std.specs.Prelude.{◌≡◌, ◌<◌, ℕ, [], Some, None, length, slice_get, IfOk, IfSome, OnOk};
+ghost use Rattle.std.specs.Prelude.{◌≡◌, ◌<◌, ℕ, [], Some, None, length, slice_get, IfOk, IfSome};
+ghost use Rattle.std.specs.Prelude.{OnOk};
 ghost use Rattle.state_store.specs.Stores.{hart_at, memory_at, Keeps};
 ghost use Rattle.sample_tallies.specs.Known.{Adds, AddsMemory, IsKnown};
 

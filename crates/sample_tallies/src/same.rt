@@ -32,8 +32,8 @@ fn is_same_status(a: Status, b: Status) -> bool
     }
 }
 
-/// Whether the registers of two harts are the same. Most that are compared are, so that the loop has
-/// no exit: it gathers the differences, both halves of a word at a time.
+/// Whether the registers of two harts are the same. Most that are compared are, so that the loop
+/// has no exit: it gathers the differences, both halves of a word at a time.
 fn are_same_registers(a: &Hart, b: &Hart) -> bool
     ensures { result ≡ true → a.now.regs ≡ b.now.regs }
 {

@@ -169,9 +169,9 @@ impl Tally {
         sorted_ends(alloc, &self.ends)
     }
 
-    /// Adds a run that came to this state. The memories of all runs that are added so opened as one.
-    /// Fails only when out of memory or of numbers, or where a count reaches 2^64. What a tally says
-    /// after an `Err` is not known.
+    /// Adds a run that came to this state. The memories of all runs that are added so opened as
+    /// one. Fails only when out of memory or of numbers, or where a count reaches 2^64. What a
+    /// tally says after an `Err` is not known.
     pub fn note(
         &mut self,
         alloc: Global,

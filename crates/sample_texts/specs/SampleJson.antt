@@ -45,7 +45,8 @@ unfoldable pub outcome_json : Drawn → ℕ → Entry MachineState → List ℕ
 outcome_json drawn place end =
     comma_if (nat_lt 0 place)
     +++ (codes "{\"first\":" +++ decimal end.seen.first +++ codes ",") +++ state_members end.key
-    +++ codes ",\"order\":" +++ compact_text (order_data drawn end.seen) +++ codes ",\"runs\":" +++ decimal end.seen.runs +++ codes "}"
+    +++ codes ",\"order\":" +++ compact_text (order_data drawn end.seen)
+    +++ codes ",\"runs\":" +++ decimal end.seen.runs +++ codes "}"
 
 abbrev pub outcome_part : Format → Drawn → ℕ → Entry MachineState → List ℕ
 outcome_part Text drawn place end = outcome_lines drawn place end

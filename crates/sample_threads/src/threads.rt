@@ -146,9 +146,9 @@ fn reported(done: u64) -> u32 {
     u32::try_from(done).unwrap_or(u32::MAX)
 }
 
-/// What runs give, and which of them decide each property, counted by so many threads, which changes
-/// nothing of the answer. How many runs are counted is reported now and then. Fails only when out of
-/// memory or of numbers for states, or where a count reaches 2^64.
+/// What runs give, and which of them decide each property, counted by so many threads, which
+/// changes nothing of the answer. How many runs are counted is reported now and then. Fails only
+/// when out of memory or of numbers for states, or where a count reaches 2^64.
 pub fn count_all<R: Threads + Sync, P: Progress>(
     rt: &R,
     alloc: Global,
