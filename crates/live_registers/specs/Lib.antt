@@ -1,0 +1,3 @@
+pub mod RegisterSets
+pub mod Operands
+pub mod LiveSets
