@@ -1,0 +1,2 @@
+pub mod OperationLemmas
+pub mod OrderLemmas
