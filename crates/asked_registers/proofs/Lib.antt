@@ -1,0 +1,3 @@
+pub mod Unfold
+pub mod AskedLemmas
+pub mod HoldingLemmas
