@@ -110,13 +110,14 @@ def endless_text(endless):
 
 def outcomes_text(answer):
     """The text that a JSON answer of cheri_explore stands for."""
+    reduced = f"reduced {' '.join(answer['reduced'])}\n" if "reduced" in answer else ""
     if answer.get("answer") in ("none", "unknown"):
-        return f"{answer['answer']} {'in' if answer['answer'] == 'none' else 'after'} {answer['states']} states\n"
+        return f"{reduced}{answer['answer']} {'in' if answer['answer'] == 'none' else 'after'} {answer['states']} states\n"
     if "answer" in answer:
         lines = [f"found order={answer['order']}", *state_lines(answer["state"])]
-        return "\n".join(lines) + "\nend\n"
+        return reduced + "\n".join(lines) + "\nend\n"
     kind = "authority" if "memory" in answer else "check" if "properties" in answer else "outcomes"
-    lines = [f"cheri-sim {kind} {answer['explore']}", image_text(answer["image"])]
+    lines = [f"cheri-sim {kind} {answer['explore']}", image_text(answer["image"]), *reduced.splitlines()]
     lines.append(f"states {answer['states']} {'complete' if answer['complete'] else 'unfinished'}")
     if kind == "authority":
         for number, held in enumerate(answer["harts"]):
@@ -127,11 +128,12 @@ def outcomes_text(answer):
             run = "".join(f" {name}={one[name]}" for name in ("order", "loop") if name in one)
             lines.append(f"line {one['line']} {one['answer']}{run} | {one['property']}")
     elif "shown" in answer:
-        lines += [endless_text(answer["endless"]), f"outcomes {sum(row['states'] for row in answer['shown'])}"]
-        lines.append(f"shown {len(answer['shown'])}")
+        count = "-" if reduced else sum(row["states"] for row in answer["shown"])
+        lines += [endless_text(answer["endless"]), f"outcomes {count}", f"shown {len(answer['shown'])}"]
         for number, row in enumerate(answer["shown"]):
+            states = "" if reduced else f"states={row['states']} "
             values = " ".join(f"{item}={value}" for item, value in row["values"].items())
-            lines.append(f"{number} states={row['states']} {values} order={row['order']}")
+            lines.append(f"{number} {states}{values} order={row['order']}")
     else:
         lines += [endless_text(answer["endless"]), f"outcomes {len(answer['outcomes'])}"]
         for number, outcome in enumerate(answer["outcomes"]):
@@ -173,8 +175,9 @@ def each_once(text):
     """The text with the items of its rows in byte order and each once, as JSON has them."""
     def row(line):
         words = line.split(" ")
-        return " ".join(words[:2] + sorted(set(words[2:-1])) + words[-1:])
-    return "".join(row(line) if re.match(r"\d+ states=", line) else line for line in text.splitlines(True))
+        first = 2 if words[1].startswith("states=") else 1
+        return " ".join(words[:first] + sorted(set(words[first:-1])) + words[-1:])
+    return "".join(row(line) if re.match(r"\d+ (?!runs=).* order=", line) else line for line in text.splitlines(True))
 
 
 # what each kind of answer stands for; the members that may be left out; runs whose answers are broken in each place:
@@ -185,9 +188,9 @@ KINDS = {
     "explanation": (explanation_text, ("at", "clears", "leaves", "reads", "sets"),
                     ("use_after_free.2", "traps_01.1", "overwrite.1"),
                     lambda explanation: {**explanation, "explanation": 2}),
-    "outcomes": (outcomes_text, (), ("lock", "lost_update.shown", "leak.found", "lock.none", "leak.authority",
-                               "lock.checked"),
-                 lambda answer: {**answer, "explore": 2}),
+    "outcomes": (outcomes_text, (), ("lock", "lost_update.shown", "leak.found", "lock.reduced", "lock.none", "lock.kept",
+                               "leak.authority", "lock.checked"),
+                 lambda answer: {**answer, "explore": 3 - answer["explore"]}),
     "sample": (sample_text, ("depth", "properties"), ("lost_update", "missed_wakeup.shown", "use_after_free.checked", "traps_02"),
                lambda answer: {**answer, "explore": 2}),
 }

@@ -1,10 +1,10 @@
 #!/usr/bin/env python3
 """A model of `cheri_explore` with all reductions.
 
-    explore.py outcomes LISTING [--show ITEM[,ITEM]..] [--alike] [--sweep LO,HI]..
-    explore.py find LISTING CONDITION [--sweep LO,HI]..
+    explore.py outcomes LISTING [--show ITEM[,ITEM]..] [--alike] [--sweep LO,HI].. [--json]
+    explore.py find LISTING CONDITION [--sweep LO,HI].. [--json]
     explore.py authority LISTING [--sweep LO,HI]..
-    explore.py check LISTING
+    explore.py check LISTING [--json]
 
 and of each `--states N`, `--steps` (each step is a turn, and nothing is left out) and
 `--keep WHAT[,WHAT]..`, of registers, granules and harts: those reductions aren't used.
@@ -21,7 +21,7 @@ import questions
 from conditions import read_condition
 from graph import Plan
 from listing import claims_of, read_listing, sweep_of
-from texts import answer_text, status_of
+from texts import answer_json, answer_text, status_of
 
 
 def read_words(words: list[str]) -> argparse.Namespace:
@@ -35,6 +35,7 @@ def read_words(words: list[str]) -> argparse.Namespace:
     parser.add_argument("--states", type=int, default=questions.ALL_STATES)
     parser.add_argument("--steps", action="store_true")
     parser.add_argument("--keep", default="")
+    parser.add_argument("--json", action="store_true")
     return parser.parse_intermixed_args(words)
 
 
@@ -55,7 +56,8 @@ def answer(words: list[str]) -> tuple[str, int]:
     keep = frozenset(asked.keep.split(","))
     plan = Plan() if asked.steps else questions.plan_of(listing, question, keep)
     found = questions.ask(listing, sweeps, question, plan, asked.states)
-    return answer_text(found, question, listing), status_of(found, question, listing)
+    text = (answer_json if asked.json else answer_text)(found, question, listing)
+    return text, status_of(found, question, listing)
 
 
 def main() -> int:

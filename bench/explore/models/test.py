@@ -71,14 +71,19 @@ def run_program(program: str, text: str, command: str, words: list[str]) -> tupl
 
 def compare_program(program: str, text: str, asked: Asked, sweeps: list[Sweep],
                     base: Found) -> None:
-    """The texts without reductions, by turns and with `--steps`."""
+    """The texts with `--steps`, without reductions by turns, and as the program asks by itself: without the registers that
+    don't matter, but where there are sweeps."""
     text = asked.lines + text
     listing, question = read_listing(text), asked.question
     if asked.lines:
         question = questions.check(claims_of(listing.lines)[0], listing)
-    turns = questions.plan_of(listing, question, frozenset(REDUCTIONS))
+    everything = frozenset(REDUCTIONS)
+    kept = questions.plan_of(listing, question, everything)
+    usual = kept if sweeps else questions.plan_of(listing, question, everything - {"registers"})
+    keeping = [] if question.command == "authority" else ["--keep", "registers"]
     for found, more in ((base, ["--steps"]),
-                        (questions.ask(listing, sweeps, question, turns), [])):
+                        (questions.ask(listing, sweeps, question, kept), keeping),
+                        (questions.ask(listing, sweeps, question, usual), [])):
         mine = answer_text(found, question, listing), status_of(found, question, listing)
         theirs = run_program(program, text, question.command, [*asked.words, *more])
         expect(mine == theirs, "the program", asked.words, more)
@@ -140,7 +145,7 @@ def try_listing(trial: Trial) -> tuple[Counter, list[str]]:
                 compare_program(trial.program, trial.text, one, allowed, base)
             except Differs as fault:
                 wrong.append(f"{trial.name} {question.command} {one.words}: {fault}")
-            counts["texts of the program"] += 2
+            counts["texts of the program"] += 3
     return counts, wrong
 
 

@@ -6,6 +6,7 @@ Where no reduction was used they are its bytes of today.  Else the first line ha
 
 from __future__ import annotations
 
+import json
 from typing import Optional
 
 import values as v
@@ -91,6 +92,86 @@ def find_lines(found: Found, question: Question) -> list[str]:
         return [*lines, f"found order={order_text(met.order)}", *state_lines(met.state), "end"]
     joint = "none in" if found.complete else "unknown after"
     return [*lines, f"{joint} {len(found.nodes)} states"]
+
+
+def value_json(value: v.Value) -> dict:
+    tag, word = value
+    told = {"tag": bool(tag), "word": f"{word >> 64:016x}_{word & v.MASK64:016x}"}
+    if tag:
+        words = value_text(value).split()
+        told.update(zip(("base", "top", "perms", "type"), words[2:]))
+    return told
+
+
+def state_json(state: State) -> dict:
+    harts = []
+    for hart in state.harts:
+        name, *trap = hart.status
+        harts.append({"pcc": value_json(hart.pcc), "status": name,
+                      "regs": {f"c{register}": value_json(value)
+                               for register, value in enumerate(hart.regs) if value != NULL},
+                      **dict(zip(("cause", "reg"), trap))})
+    return {"harts": harts, "mem": {f"{granule * GRANULE:016x}": value_json(value)
+                                    for granule, value in state.memory}}
+
+
+def json_head(found: Found) -> dict:
+    image, reduced = found.graph.image, reduced_of(found)
+    told = {"explore": 2 if reduced else 1,
+            "image": {"code": len(image.program), "harts": len(image.harts), "ram": image.ram}}
+    return {**told, "reduced": reduced} if reduced else told
+
+
+def json_text(told: dict) -> str:
+    """One line of JSON, with the keys in byte order."""
+    return json.dumps(told, sort_keys=True, separators=(",", ":")) + "\n"
+
+
+def find_json(found: Found, question: Question) -> str:
+    """The same as `find_lines` in JSON."""
+    told = json_head(found)
+    met = found_state(found, question)
+    if met:
+        told.update(answer="found", order=order_text(met.order), state=state_json(met.state))
+    else:
+        told.update(answer="none" if found.complete else "unknown", states=len(found.nodes))
+    return json_text(told)
+
+
+def run_json(order: Optional[list[Operation]], loop: Optional[list[Operation]]) -> dict:
+    told = {} if order is None else {"order": order_text(order)}
+    return told if loop is None else {**told, "loop": order_text(loop)}
+
+
+def shown_json(found: Found, items: tuple[Item, ...]) -> str:
+    """The same as `outcomes_lines` with items in JSON."""
+    told, ends = json_head(found), endless(found)
+    is_counted = "registers" not in reduced_of(found)
+    rows = [{**({"states": row.count} if is_counted else {}), "order": order_text(row.order),
+             "values": {item.name: value for item, value in zip(items, row.values)}}
+            for row in shown_rows(found, items)]
+    told.update(complete=found.complete, states=len(found.nodes), shown=rows,
+                endless={"answer": ends.answer, **run_json(ends.order, ends.loop)})
+    return json_text(told)
+
+
+def check_json(found: Found, question: Question, listing: Listing) -> str:
+    """The same as `check_lines` in JSON."""
+    told = json_head(found)
+    told.update(complete=found.complete, states=len(found.nodes), properties=[
+        {"line": claim.line, "answer": verdict.answer, "property": claim.text,
+         **run_json(verdict.order, verdict.loop)}
+        for claim, verdict in zip(question.claims, verdicts(found, question, listing))])
+    return json_text(told)
+
+
+def answer_json(found: Found, question: Question, listing: Listing) -> str:
+    """The answer in JSON: to `find`, to `check`, and to `outcomes` with items."""
+    if question.command == "find":
+        return find_json(found, question)
+    if question.command == "check":
+        return check_json(found, question, listing)
+    return shown_json(found, question.items)
 
 
 def authority_lines(found: Found) -> list[str]:

@@ -36,10 +36,10 @@ use Rattle.forgotten_runs.proofs.OperationLemmas.{count_kept, pcc_kept, status_k
 use Rattle.asked_registers.specs.Asked.{holder_asks, own_asks, source_asks, term_asks, atom_asks, node_asks, condition_asks, item_asks, items_ask, HasAsked, ShowsSame}
 
 -- what one half asks for is asked for
-left_asked : (set : List Bool) (one other : ℕ → Bool) → HasAsked set (λ reg. one reg || other reg) → HasAsked set one
+pub left_asked : (set : List Bool) (one other : ℕ → Bool) → HasAsked set (λ reg. one reg || other reg) → HasAsked set one
 left_asked set one other asked reg asks = asked reg (or_left (one reg) (other reg) asks)
 
-right_asked : (set : List Bool) (one other : ℕ → Bool) → HasAsked set (λ reg. one reg || other reg) → HasAsked set other
+pub right_asked : (set : List Bool) (one other : ℕ → Bool) → HasAsked set (λ reg. one reg || other reg) → HasAsked set other
 right_asked set one other asked reg asks = asked reg (or_right (one reg) (other reg) asks)
 
 -- of as many numbers what holds of the same
@@ -53,7 +53,7 @@ how_many_same p q same (suc n) =
 -- ---- the trees of conditions
 
 -- each atom of a condition asks for what a set has
-IsAskedIn : List Bool → Formula → Type 0
+unfoldable pub IsAskedIn : List Bool → Formula → Type 0
 IsAskedIn set (says a) = HasAsked set (atom_asks a)
 IsAskedIn set (deny f) = IsAskedIn set f
 IsAskedIn set (enclosed f) = IsAskedIn set f
@@ -91,7 +91,7 @@ unfolding atom_asks IsAskedIn AreAskedIn
 last_asked set [] are = λ reg asks. absurd (cc)
 last_asked set (f ∷ fs) are = are.0
 
-formula_asked : (set : List Bool) (nodes : List Node) → HasAsked set (condition_asks nodes) → IsAskedIn set (formula_of nodes)
+pub formula_asked : (set : List Bool) (nodes : List Node) → HasAsked set (condition_asks nodes) → IsAskedIn set (formula_of nodes)
 unfolding formula_of AreAskedIn
 formula_asked set nodes asked = last_asked set (grown [] nodes) (grown_asked set [] nodes asked tt)
 
@@ -121,7 +121,7 @@ module _ (program : List Instr) (live : LiveSets) (right : IsRight program live)
   unfolding forgotten_state
   data_same addr bytes = refl
 
-  source_same : (each : ℕ) (from : Source) → HasAsked live.asked (source_asks from) →
+  pub source_same : (each : ℕ) (from : Source) → HasAsked live.asked (source_asks from) →
       source_number lost each from ≡ source_number s each from
   unfolding source_number number_at source_asks
   source_same each (source.Value held read) asked = ap (field_value read) (value_same held asked)
@@ -167,7 +167,7 @@ module _ (program : List Instr) (live : LiveSets) (right : IsRight program live)
   atom_same each (atom.IsIn who first second) asked =
       ap (λ (pcc : CapValue). is_between first second (address_of pcc)) (pcc_kept live s (number_of who each))
 
-  so_same : (f : Formula) (each : ℕ) → IsAskedIn live.asked f → is_so lost each f ≡ is_so s each f
+  pub so_same : (f : Formula) (each : ℕ) → IsAskedIn live.asked f → is_so lost each f ≡ is_so s each f
   unfolding is_so IsAskedIn
   so_same (says a) each asked = atom_same each a asked
   so_same (deny f) each asked = ap not (so_same f each asked)

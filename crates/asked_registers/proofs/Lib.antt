@@ -1,3 +1,4 @@
 pub mod Unfold
 pub mod AskedLemmas
 pub mod HoldingLemmas
+pub mod HidingLemmas

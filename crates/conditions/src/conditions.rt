@@ -2,6 +2,7 @@
 #![tactic(auto, unfolding(crate::proofs::Unfold::conditions))]
 
 ghost use Rattle.std.specs.Prelude.{◌≡◌, IfOk, map};
+ghost use Rattle.conditions.specs.Entries.{kept_nodes};
 ghost use Rattle.conditions.specs.Formulas.{formula_of, nodes_of};
 ghost use Rattle.conditions.specs.Holding.{holds};
 
@@ -32,6 +33,13 @@ impl Model for Condition {
         ≡ entries_of (formula_of (kept_nodes condition.entries.items)) };
 }
 
+/// The nodes of entries.
+fn kept_nodes(alloc: Global, entries: &[Entry]) -> Result<Vec<Node>, AllocError>
+    ensures { IfOk result (λ nodes. nodes.items ≡ kept_nodes entries.now) }
+{
+    entries.iter().map(|entry| entry.node).collect(alloc)
+}
+
 impl Condition {
     /// The condition of these nodes. Fails only when out of memory.
     pub fn of(alloc: Global, nodes: &[Node]) -> Result<Condition, AllocError>
@@ -48,6 +56,13 @@ impl Condition {
     {
         let entries = Vec::from_slice(alloc, self.entries.as_slice())?;
         Ok(Condition { entries })
+    }
+
+    /// Its nodes, each after its parts. Fails only when out of memory.
+    pub fn nodes(&self, alloc: Global) -> Result<Vec<Node>, AllocError>
+        ensures { IfOk result (λ nodes. nodes.items ≡ self.now) }
+    {
+        kept_nodes(alloc, self.entries.as_slice())
     }
 
     /// Whether it holds in a state.

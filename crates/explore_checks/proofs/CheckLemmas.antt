@@ -1,17 +1,15 @@
 -- What was found is an answer.
-use Rattle.std.proofs.Common.{◌≡◌, ℕ, List, [], ◌∷◌, ◌∙◌, Bool, true, false, refl, sym, subst}
-use Rattle.std.specs.Prelude.{Option}
+use Rattle.std.proofs.Common.{◌≡◌, ℕ, List, ◌∙◌, Bool, true, false, sym, subst}
 use Rattle.cheri_model.specs.declared.operation.Op.{Op}
 use Rattle.cheri_model.specs.runs.Image.{ImageParts}
-use Rattle.explore_checks.specs.CheckParts.{checked_whole}
-use Rattle.explore_checks.proofs.JsonLemmas.{whole_is}
+use Rattle.explore_checks.specs.ReducedChecks.{said_checked}
 use Rattle.explore_checks.specs.Checks.{ending_of, IsCheckAnswer, IsSearched, one_asks, orders_against}
 use Rattle.explore_properties.specs.Properties.{PropertyParts}
 use Rattle.explore_sights.specs.declared.sights.Sight.{Sight}
 use Rattle.explore_sights.specs.declared.sights.Sight.TheVariants as sights
 use Rattle.explore_sights.specs.declared.watches.Watch.{Watch}
 use Rattle.explore_verdicts.specs.Deciding.{AreSeen, watches_of}
-use Rattle.explore_verdicts.specs.Verdicts.{AreVerdicts}
+use Rattle.explore_verdicts.specs.Verdicts.{AreVerdicts, IsStateVerdict}
 use Rattle.explore_verdicts.specs.declared.verdict.PropertyVerdict.{PropertyVerdict}
 use Rattle.explore_verdicts.proofs.WatchLemmas.{watches_seen}
 use Rattle.shown_states.specs.declared.form.Ending.{Ending}
@@ -45,20 +43,20 @@ searched_seen search properties kept endless searched =
     subst (λ (s : Sight). AreSeen s properties) (sym searched.kept_of.sight_is) (watches_seen search.every_step properties)
 
 pub answer_is : (search : SearchParts) (properties : List PropertyParts) (format : Format) (kept : KeptParts) (endless : Endless)
-    (verdicts told shown against : List PropertyVerdict) (complete : Bool) (image : ImageParts) (states : ℕ) (orders : List (List Op))
+    (verdicts told shown against : List PropertyVerdict) (reduced complete : Bool) (image : ImageParts) (states : ℕ) (orders : List (List Op))
     (text : List ℕ) (ending : Ending)
-    → IsSearched search properties kept endless → AreVerdicts kept endless properties verdicts → told ≡ verdicts → shown ≡ verdicts
-    → against ≡ verdicts → complete ≡ kept.complete → image ≡ kept.image → states ≡ count kept
-    → text ≡ checked_whole format complete image states told → ending ≡ ending_of shown → orders ≡ orders_against against
+    → IsSearched search properties kept endless → AreVerdicts (IsStateVerdict kept) endless properties verdicts → told ≡ verdicts → shown ≡ verdicts
+    → against ≡ verdicts → reduced ≡ false → complete ≡ kept.complete → image ≡ kept.image → states ≡ count kept
+    → text ≡ said_checked reduced format complete image states told → ending ≡ ending_of shown → orders ≡ orders_against against
     → IsCheckAnswer search properties format orders text ending
-answer_is search properties format kept endless verdicts told shown against complete image states orders text ending searched are
-    told_are shown_are against_are complete_is image_is states_are text_is ending_is orders_are = record {
+answer_is search properties format kept endless verdicts told shown against reduced complete image states orders text ending searched are
+    told_are shown_are against_are reduced_is complete_is image_is states_are text_is ending_is orders_are = record {
       kept = kept;
       endless = endless;
       searched = searched;
       verdicts = verdicts;
       are = are;
-      text_is = rw (complete_is, image_is, states_are, told_are) at (text_is ∙ whole_is format complete image states told);
+      text_is = rw (reduced_is, complete_is, image_is, states_are, told_are) at text_is;
       ending_is = rw shown_are at ending_is;
       orders_are = rw against_are at orders_are;
     }

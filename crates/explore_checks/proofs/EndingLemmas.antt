@@ -1,6 +1,6 @@
 -- The first property that is violated, one by one.
-use Rattle.std.proofs.Common.{◌≡◌, ℕ, ◌+◌, ◌<◌, ◌≤◌, List, [], ◌∷◌, length, drop, refl, sym, ◌∙◌, add-one, drop-cons}
-use Rattle.std.specs.Prelude.{Bool, true, false, Option, Some, None, slice_index_or, if◌then◌else◌}
+use Rattle.std.proofs.Common.{◌≡◌, ℕ, ◌+◌, ◌<◌, ◌≤◌, List, ◌∷◌, length, drop, add-one, drop-cons}
+use Rattle.std.specs.Prelude.{true, false, Some, None, slice_index_or}
 use Rattle.std.proofs.Math.ListN.{drop_of_length-le}
 use Rattle.explore_checks.specs.Checks.{first_violated, is_violated}
 use Rattle.explore_verdicts.specs.declared.verdict.PropertyVerdict.{PropertyVerdict}

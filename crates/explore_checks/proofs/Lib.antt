@@ -1,5 +1,5 @@
 pub mod Unfold
-pub mod JsonLemmas
+pub mod TextLemmas
 pub mod CheckLemmas
 pub mod EndingLemmas
 pub mod OrderLemmas

@@ -1,6 +1,6 @@
 -- The orders that violate properties, one by one.
 use Rattle.std.proofs.Common.{◌≡◌, ℕ, ◌+◌, ◌<◌, ◌≤◌, List, [], ◌∷◌, ◌++◌, length, drop, refl, sym, ap, ◌∙◌, add-one, drop-cons, append_assoc, append-nil}
-use Rattle.std.specs.Prelude.{map, slice_index_or, Vec}
+use Rattle.std.specs.Prelude.{slice_index_or, Vec}
 use Rattle.std.specs.Global.{Global}
 use Rattle.std.proofs.Math.ListN.{drop_of_length-le}
 use Rattle.cheri_model.specs.declared.operation.Op.{Op}

@@ -11,7 +11,7 @@ use Rattle.explore_properties.specs.declared.claims.Claim.{Claim}
 use Rattle.explore_properties.specs.declared.claims.Claim.TheVariants as claim
 use Rattle.explore_sights.specs.declared.sights.Sight.TheVariants as sights
 use Rattle.explore_verdicts.specs.Deciding.{watches_of}
-use Rattle.explore_verdicts.specs.Verdicts.{AreVerdicts}
+use Rattle.explore_verdicts.specs.Verdicts.{AreVerdicts, IsStateVerdict}
 use Rattle.explore_verdicts.specs.declared.verdict.PropertyVerdict.{PropertyVerdict}
 use Rattle.explore_verdicts.specs.declared.verdict.Verdict.{Verdict}
 use Rattle.explore_verdicts.specs.declared.verdict.Verdict.TheVariants.{Holds, HoldsAfter, Violated}
@@ -109,7 +109,7 @@ pub record IsCheckAnswer (search : SearchParts) (properties : List PropertyParts
   pub endless : Endless
   pub searched : IsSearched search properties kept endless
   pub verdicts : List PropertyVerdict
-  pub are : AreVerdicts kept endless properties verdicts
+  pub are : AreVerdicts (IsStateVerdict kept) endless properties verdicts
   pub text_is : text ≡ checked format kept.complete kept.image (count kept) verdicts
   pub ending_is : ending ≡ ending_of verdicts
   pub orders_are : orders ≡ orders_against verdicts

@@ -1,3 +1,4 @@
 pub mod CheckTexts
+pub mod ReducedChecks
 pub mod CheckParts
 pub mod Checks

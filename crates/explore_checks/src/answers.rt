@@ -12,12 +12,13 @@ ghost use Rattle.explore_checks.specs.Checks.{
   order_against,
   orders_against,
 };
-ghost use Rattle.explore_checks.specs.CheckParts.{checked_whole};
+ghost use Rattle.explore_checks.specs.ReducedChecks.{said_checked};
 ghost use Rattle.order_texts.specs.OrderTexts.{orders_of};
 ghost use Rattle.states.specs.Searches.{IsSearchable, search_of};
 
+use crate::head::Head;
 use crate::json::write_json;
-use crate::searching::{Head, Searched, search_properties};
+use crate::searching::{Searched, search_properties};
 use crate::texts::write_text;
 use cheri_model::{NoMemory, Op};
 use explore_properties::Property;
@@ -76,7 +77,7 @@ fn are_known(told: &[PropertyVerdict<'_, '_>]) -> bool
 }
 
 /// How the answer ends.
-fn ending_of(told: &[PropertyVerdict<'_, '_>]) -> Ending
+pub fn ending_of(told: &[PropertyVerdict<'_, '_>]) -> Ending
     ensures { result ≡ ending_of told.now }
 {
     match first_violated(told) {
@@ -85,15 +86,16 @@ fn ending_of(told: &[PropertyVerdict<'_, '_>]) -> Ending
     }
 }
 
-/// Verdicts as text, or in JSON.
-fn checked(
+/// Verdicts as text, or in JSON. Fails only when out of memory.
+#[tactic(auto, using(crate::proofs::TextLemmas::said_whole))]
+pub fn checked(
     alloc: Global,
     format: Format,
     head: Head<'_>,
     told: &[PropertyVerdict<'_, '_>],
 ) -> Result<String, NoMemory>
-    ensures { IfOk result (λ text. string_bytes text ≡ checked_whole format head.entry.complete
-        head.entry.image.now head.entry.states told.now) }
+    ensures { IfOk result (λ text. string_bytes text ≡ said_checked head.entry.reduced format
+        head.entry.complete head.entry.image.now head.entry.states told.now) }
 {
     let mut out = String::new(alloc);
     match format {
@@ -142,8 +144,11 @@ fn add_order(alloc: Global, orders: &mut Vec<Vec<Op>>, verdict: &Verdict) -> Res
     }
 }
 
-/// The orders that violate properties, in the order of their lines.
-fn orders_against(alloc: Global, told: &[PropertyVerdict<'_, '_>]) -> Result<Vec<Vec<Op>>, NoMemory>
+/// The orders that violate properties, in the order of their lines. Fails only when out of memory.
+pub fn orders_against(
+    alloc: Global,
+    told: &[PropertyVerdict<'_, '_>],
+) -> Result<Vec<Vec<Op>>, NoMemory>
     ensures { IfOk result (λ orders. orders_of orders.items ≡ orders_against told.now) }
 {
     let mut orders = Vec::new(alloc);

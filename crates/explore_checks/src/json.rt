@@ -3,18 +3,24 @@
 
 ghost use Rattle.std.specs.Prelude.{◌≡◌, ◌++◌, IfOk, OnOk, string_bytes};
 ghost use Rattle.serde_json.specs.View.{view as data_of};
-ghost use Rattle.explore_checks.specs.CheckParts.{check_json, complete_text, json_head};
+ghost use Rattle.explore_checks.specs.CheckParts.{
+  check_json,
+  complete_text,
+  json_head,
+  states_opening,
+};
 ghost use Rattle.explore_checks.specs.CheckTexts.{lasso_data, ordered_data};
 ghost use Rattle.explore_checks.specs.CheckTexts.{plain_data, property_data};
 ghost use Rattle.order_texts.specs.OrderTexts.{order_text};
 ghost use Rattle.report_lines.specs.JsonText.{item_text};
 ghost use Rattle.report_lines.specs.Texts.{numbered};
 
-use crate::searching::Head;
+use crate::head::Head;
 use crate::texts::verdict_word;
 use cheri_model::{Image, NoMemory, Op};
 use explore_properties::Property;
 use explore_verdicts::{PropertyVerdict, Verdict};
+use found_texts::reduced_version;
 use order_texts::write_order;
 use report_lines::{image_json, write_comma, write_json_value};
 use serde_json::{Value, json};
@@ -127,17 +133,30 @@ fn complete_text(complete: bool) -> &'static str
 fn write_head(
     alloc: Global,
     out: &mut String,
+    reduced: bool,
     complete: bool,
     image: &Image,
 ) -> Result<(), NoMemory>
     ensures { OnOk result (string_bytes out.new
-        ≡ string_bytes out.old ++ json_head complete image.now) }
+        ≡ string_bytes out.old ++ json_head reduced complete image.now) }
 {
     out.push_str("{\"complete\":")?;
     out.push_str(complete_text(complete))?;
-    let version: u8 = 1;
+    let version = reduced_version(reduced);
     write!(out, ",\"explore\":{version},\"image\":")?;
     write_json_value(alloc, out, image_json(alloc, image)?)
+}
+
+/// The end of the properties, the member of what was forgotten, if anything was, and the beginning
+/// of the number of states.
+fn states_opening(reduced: bool) -> &'static str
+    ensures { result.now ≡ states_opening reduced }
+{
+    if reduced {
+        "],\"reduced\":[\"registers\"],\"states\":"
+    } else {
+        "],\"states\":"
+    }
 }
 
 /// Appends the object's line.
@@ -148,10 +167,12 @@ pub(crate) fn write_json(
     told: &[PropertyVerdict<'_, '_>],
 ) -> Result<(), NoMemory>
     ensures { OnOk result (string_bytes out.new ≡ string_bytes out.old
-        ++ check_json head.entry.complete head.entry.image.now head.entry.states told.now) }
+        ++ check_json head.entry.reduced head.entry.complete head.entry.image.now
+        head.entry.states told.now) }
 {
-    write_head(alloc, out, head.complete, head.image)?;
+    write_head(alloc, out, head.reduced, head.complete, head.image)?;
     out.push_str(",\"properties\":[")?;
     write_properties(alloc, out, told)?;
-    writeln!(out, "],\"states\":{}}}", head.states)
+    out.push_str(states_opening(head.reduced))?;
+    writeln!(out, "{}}}", head.states)
 }

@@ -2,8 +2,11 @@
 #![tactic(auto)]
 
 mod answers;
+mod head;
 mod json;
 mod searching;
 mod texts;
 
-pub use answers::check;
+pub use answers::{check, checked, ending_of, orders_against};
+pub use head::Head;
+pub use searching::one_asks;

@@ -1,13 +1,13 @@
 //! The search.
 
-ghost use Rattle.std.specs.Prelude.{◌≡◌, true, IfOk};
+ghost use Rattle.std.specs.Prelude.{◌≡◌, true, false, IfOk};
 ghost use Rattle.cheri_model.specs.runs.Machine.{opening_state};
 ghost use Rattle.explore_checks.specs.Checks.{asks_of_loops, IsFound, one_asks};
 ghost use Rattle.state_loops.specs.Endless.{IsEndless, IsSame};
 ghost use Rattle.states.specs.Kept.{count};
 ghost use Rattle.states.specs.Searches.{IsSearchable, search_of};
 
-use cheri_model::Image;
+use crate::head::Head;
 use cores::Core;
 use explore_properties::{Claim, Property};
 use explore_sights::Sight;
@@ -24,23 +24,17 @@ pub(crate) struct Searched {
     pub endless: Endless,
 }
 
-/// What an answer begins with: whether all states were kept, and how many.
-#[derive(Clone, Copy)]
-pub(crate) struct Head<'a> {
-    pub image: &'a Image,
-    pub complete: bool,
-    pub states: u32,
-}
-
 impl Searched {
     /// What an answer begins with.
     pub fn head(&self) -> Head<'_>
         ensures image { result.image.now ≡ self.now.kept.image }
+        ensures reduced { result.reduced ≡ false }
         ensures complete { result.complete ≡ self.now.kept.complete }
         ensures states { result.states ≡ count self.now.kept }
     {
         Head {
             image: self.kept.image(),
+            reduced: false,
             complete: self.kept.is_complete(),
             states: self.kept.len(),
         }
@@ -59,7 +53,7 @@ fn asks_of_loops(claim: &Claim) -> bool
 
 /// Whether a property asks whether runs go on for ever.
 #[tactic(auto, using(crate::proofs::LoopLemmas::asking))]
-fn one_asks(properties: &[Property<'_>]) -> bool
+pub fn one_asks(properties: &[Property<'_>]) -> bool
     ensures { result ≡ one_asks properties.now }
 {
     for property in properties {

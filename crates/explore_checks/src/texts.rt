@@ -3,7 +3,6 @@
 
 ghost use Rattle.std.specs.Prelude.{◌≡◌, ◌++◌, OnOk, string_bytes};
 ghost use Rattle.explore_checks.specs.CheckTexts.{
-  check_text,
   lasso_words,
   line_of,
   order_words,
@@ -11,11 +10,13 @@ ghost use Rattle.explore_checks.specs.CheckTexts.{
   run_words,
   verdict_word,
 };
+ghost use Rattle.explore_checks.specs.CheckParts.{check_lines, first_line};
 ghost use Rattle.report_lines.specs.Texts.{numbered};
 
-use crate::searching::Head;
+use crate::head::Head;
 use cheri_model::{NoMemory, Op};
 use explore_verdicts::{PropertyVerdict, Verdict};
+use found_texts::reduced_line;
 use order_texts::write_order;
 use report_lines::write_image_line;
 use shown_states::write_states_line;
@@ -92,6 +93,17 @@ fn write_properties(out: &mut String, told: &[PropertyVerdict<'_, '_>]) -> Resul
     Ok(())
 }
 
+/// The first line, with the answer's version.
+fn first_line(reduced: bool) -> &'static str
+    ensures { result.now ≡ first_line reduced }
+{
+    if reduced {
+        "cheri-sim check 2\n"
+    } else {
+        "cheri-sim check 1\n"
+    }
+}
+
 /// Appends the whole text.
 pub(crate) fn write_text(
     out: &mut String,
@@ -99,10 +111,12 @@ pub(crate) fn write_text(
     told: &[PropertyVerdict<'_, '_>],
 ) -> Result<(), NoMemory>
     ensures { OnOk result (string_bytes out.new ≡ string_bytes out.old
-        ++ check_text head.entry.complete head.entry.image.now head.entry.states told.now) }
+        ++ check_lines head.entry.reduced head.entry.complete head.entry.image.now
+        head.entry.states told.now) }
 {
-    out.push_str("cheri-sim check 1\n")?;
+    out.push_str(first_line(head.reduced))?;
     write_image_line(out, head.image)?;
+    out.push_str(reduced_line(head.reduced))?;
     write_states_line(out, head.complete, head.states)?;
     write_properties(out, told)?;
     out.push_str("end\n")

@@ -19,29 +19,36 @@ with_options app =
 abbrev pub with_search_options : App → App
 with_search_options app = with_options (with_rule app (repeated_option (codes "sweep")))
 
--- `outcomes LISTING [--show ITEM[,ITEM]..]`
+-- `[--explain] [--map MAP]`
+abbrev pub with_explaining_options : App → App
+with_explaining_options app =
+    with_rule (with_rule app (flag (codes "explain"))) (single_option (codes "map"))
+
+-- `outcomes LISTING [--show ITEM[,ITEM]..] [--keep WORD[,WORD]..]`
 abbrev pub outcomes_command : App
 outcomes_command =
-    with_search_options (with_rule (with_rule (new_app (codes "outcomes"))
+    with_search_options (with_rule (with_rule (with_rule (new_app (codes "outcomes"))
     (required_word (codes "listing"))) (single_option (codes "show")))
+    (single_option (codes "keep")))
 
--- `find LISTING CONDITION [--explain] [--map MAP]`
+-- `find LISTING CONDITION [--explain] [--map MAP] [--keep WORD[,WORD]..]`
 abbrev pub find_command : App
 find_command =
-    with_search_options (with_rule (with_rule (with_rule (with_rule (new_app (codes "find"))
-    (required_word (codes "listing"))) (required_word (codes "condition")))
-    (flag (codes "explain"))) (single_option (codes "map")))
+    with_search_options (with_rule (with_explaining_options (with_rule (with_rule
+    (new_app (codes "find")) (required_word (codes "listing")))
+    (required_word (codes "condition")))) (single_option (codes "keep")))
 
 -- `authority LISTING`
 abbrev pub authority_command : App
 authority_command =
     with_search_options (with_rule (new_app (codes "authority")) (required_word (codes "listing")))
 
--- `check LISTING [--explain] [--map MAP]`, whose sweeps are lines of the listing
+-- `check LISTING [--explain] [--map MAP] [--keep WORD[,WORD]..]`, whose sweeps are lines of the
+-- listing
 abbrev pub check_command : App
 check_command =
-    with_options (with_rule (with_rule (with_rule (new_app (codes "check"))
-    (required_word (codes "listing"))) (flag (codes "explain"))) (single_option (codes "map")))
+    with_options (with_rule (with_explaining_options (with_rule (new_app (codes "check"))
+    (required_word (codes "listing")))) (single_option (codes "keep")))
 
 -- `sample LISTING --orders N [--seed S] [--from I] [--length K] [--depth D] [--show ITEM[,ITEM]..]
 -- [--sweep LO,HI].. [--check] [--jobs J] [--json]`

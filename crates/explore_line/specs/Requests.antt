@@ -1,5 +1,5 @@
 -- What the arguments of a command line of `cheri_explore` ask for.
-use Rattle.std.specs.Prelude.{ℕ, ◌≤◌, Bool, false, List, length, Option}
+use Rattle.std.specs.Prelude.{ℕ, ◌≤◌, Bool, true, false, List, length, Option}
 use Rattle.std.specs.Prelude.{Some, None, option_and_then, option_map, codes, if◌then◌else◌}
 use Rattle.std.specs.Borrow.{Bor}
 use Rattle.std.specs.Str.{bytes_eq}
@@ -35,6 +35,7 @@ pub record SearchAsked : Type 0 where
   pub sweeps : List Sweep
   pub states : ℕ
   pub every_step : Bool
+  pub keeps_registers : Bool
   pub form : Format
   pub explained : Bool
   pub question : AskedQuestion
@@ -60,6 +61,7 @@ search_asked_by request = record {
   sweeps = request.sweeps.items;
   states = request.states;
   every_step = request.every_step;
+  keeps_registers = request.keeps_registers;
   form = request.form;
   explained = request.explained;
   question = question_asked_by request.question;
@@ -76,6 +78,12 @@ IsBounded (requests.Search request) =
     (length request.sweeps.items ≤ MAX_SWEEPS) × (1 ≤ request.states)
 IsBounded (requests.Sample request) = IsSampleBounded request
 IsBounded (requests.Merge request) = IsJobs request.jobs
+
+-- Whether registers are kept that no longer matter: where the list of what is kept names them. It
+-- has each word at most once, and `registers` is the only word so far.
+abbrev pub registers_kept : Option Text → Option Bool
+registers_kept None = Some false
+registers_kept (Some list) = if bytes_eq list (codes "registers") then Some true else None
 
 -- what the command of this name asks
 unfoldable pub question_of : Text → List Row → Option AskedQuestion
@@ -97,6 +105,7 @@ search_asked_of name rows = do
   question ← question_of name rows
   listing ← first_of (codes "listing") rows
   states ← number_or USUAL_STATES 1 GREATEST_STATES (first_of (codes "states") rows)
+  keeps ← registers_kept (first_of (codes "keep") rows)
   explained ← explained_in (form_of (first_of (codes "json") rows))
       (is_given (first_of (codes "explain") rows))
   sweeps ← sweeps_in (all_of (codes "sweep") rows)
@@ -106,6 +115,7 @@ search_asked_of name rows = do
     sweeps = sweeps;
     states = states;
     every_step = is_given (first_of (codes "steps") rows);
+    keeps_registers = keeps;
     form = form_of (first_of (codes "json") rows);
     explained = explained;
     question = question;

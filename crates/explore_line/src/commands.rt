@@ -13,6 +13,7 @@ ghost use Rattle.explore_line.specs.Commands.{
   repeated_option,
   sample_command,
   with_drawing_options,
+  with_explaining_options,
   with_options,
   with_sampling_options,
   with_search_options,
@@ -51,28 +52,43 @@ fn with_search_options<'a>(alloc: Global, command: Command<'a>) -> Result<Comman
     with_options(alloc, with_sweeps)
 }
 
-/// `outcomes LISTING [--show ITEM[,ITEM]..]`.
+/// A command with the options of how an answer's orders are explained: `[--explain] [--map MAP]`.
+fn with_explaining_options<'a>(
+    alloc: Global,
+    command: Command<'a>,
+) -> Result<Command<'a>, AllocError>
+    ensures app { IfOk result (λ more.
+        app_of more ≡ with_explaining_options (app_of command.entry)) }
+    ensures local { has_globals command.entry ≡ false
+        → IfOk result (λ more. has_globals more ≡ false) }
+{
+    let with_explain = command.arg(flag(alloc, "explain"))?;
+    with_explain.arg(single_option(alloc, "map"))
+}
+
+/// `outcomes LISTING [--show ITEM[,ITEM]..] [--keep WORD[,WORD]..]`.
 fn outcomes_command<'a>(alloc: Global) -> Result<Command<'a>, AllocError>
     ensures app { IfOk result (λ command. app_of command ≡ outcomes_command) }
     ensures local { IfOk result (λ command. has_globals command ≡ false) }
 {
     let command = Command::new(alloc, "outcomes")
         .arg(required(alloc, "listing"))?
-        .arg(single_option(alloc, "show"))?;
+        .arg(single_option(alloc, "show"))?
+        .arg(single_option(alloc, "keep"))?;
     with_search_options(alloc, command)
 }
 
-/// `find LISTING CONDITION [--explain] [--map MAP]`.
+/// `find LISTING CONDITION [--explain] [--map MAP] [--keep WORD[,WORD]..]`.
 fn find_command<'a>(alloc: Global) -> Result<Command<'a>, AllocError>
     ensures app { IfOk result (λ command. app_of command ≡ find_command) }
     ensures local { IfOk result (λ command. has_globals command ≡ false) }
 {
-    let command = Command::new(alloc, "find")
+    let alone = Command::new(alloc, "find")
         .arg(required(alloc, "listing"))?
-        .arg(required(alloc, "condition"))?
-        .arg(flag(alloc, "explain"))?
-        .arg(single_option(alloc, "map"))?;
-    with_search_options(alloc, command)
+        .arg(required(alloc, "condition"))?;
+    let explained = with_explaining_options(alloc, alone)?;
+    let keeping = explained.arg(single_option(alloc, "keep"))?;
+    with_search_options(alloc, keeping)
 }
 
 /// `authority LISTING`.
@@ -84,16 +100,15 @@ fn authority_command<'a>(alloc: Global) -> Result<Command<'a>, AllocError>
     with_search_options(alloc, command)
 }
 
-/// `check LISTING [--explain] [--map MAP]`.
+/// `check LISTING [--explain] [--map MAP] [--keep WORD[,WORD]..]`.
 fn check_command<'a>(alloc: Global) -> Result<Command<'a>, AllocError>
     ensures app { IfOk result (λ command. app_of command ≡ check_command) }
     ensures local { IfOk result (λ command. has_globals command ≡ false) }
 {
-    let command = Command::new(alloc, "check")
-        .arg(required(alloc, "listing"))?
-        .arg(flag(alloc, "explain"))?
-        .arg(single_option(alloc, "map"))?;
-    with_options(alloc, command)
+    let alone = Command::new(alloc, "check").arg(required(alloc, "listing"))?;
+    let explained = with_explaining_options(alloc, alone)?;
+    let keeping = explained.arg(single_option(alloc, "keep"))?;
+    with_options(alloc, keeping)
 }
 
 /// A command with the options of how orders are drawn: `--orders N [--seed S] [--from I] [--length K]

@@ -26,6 +26,7 @@ pub fn known_explore_lines()
           sweeps = [];
           states = 1000000;
           every_step = false;
+          keeps_registers = false;
           form = Format.Text;
           explained = false;
           question = Outcomes None;
@@ -38,6 +39,7 @@ pub fn known_explore_lines()
           sweeps = [];
           states = 1000000;
           every_step = false;
+          keeps_registers = false;
           form = Format.Text;
           explained = false;
           question = Outcomes (Some (codes "0.c7,mem8[0x10]"));
@@ -50,6 +52,7 @@ pub fn known_explore_lines()
           sweeps = [];
           states = 1000000;
           every_step = false;
+          keeps_registers = false;
           form = Format.Text;
           explained = false;
           question = Outcomes (Some []);
@@ -62,6 +65,7 @@ pub fn known_explore_lines()
           sweeps = [];
           states = 1000000;
           every_step = false;
+          keeps_registers = false;
           form = Format.Json;
           explained = false;
           question = Find (codes "0 is halted");
@@ -74,6 +78,7 @@ pub fn known_explore_lines()
           sweeps = [];
           states = 10;
           every_step = false;
+          keeps_registers = false;
           form = Format.Text;
           explained = false;
           question = Authority;
@@ -86,6 +91,7 @@ pub fn known_explore_lines()
           sweeps = [];
           states = 1000000;
           every_step = true;
+          keeps_registers = false;
           form = Format.Text;
           explained = false;
           question = Find (codes "0 is halted");
@@ -99,6 +105,7 @@ pub fn known_explore_lines()
               ∷ record { lo = 0; hi = 18446744073709551616 } ∷ [];
           states = 1000000;
           every_step = false;
+          keeps_registers = false;
           form = Format.Text;
           explained = false;
           question = Authority;
@@ -111,6 +118,7 @@ pub fn known_explore_lines()
           sweeps = record { lo = 7; hi = 7 } ∷ [];
           states = 1000000;
           every_step = false;
+          keeps_registers = false;
           form = Format.Text;
           explained = false;
           question = Outcomes None;
@@ -123,6 +131,7 @@ pub fn known_explore_lines()
           sweeps = [];
           states = 100000000;
           every_step = false;
+          keeps_registers = false;
           form = Format.Text;
           explained = false;
           question = Outcomes None;
@@ -183,6 +192,7 @@ pub fn known_explore_lines()
           sweeps = [];
           states = 7;
           every_step = true;
+          keeps_registers = false;
           form = Format.Json;
           explained = false;
           question = Check;
@@ -195,6 +205,7 @@ pub fn known_explore_lines()
           sweeps = [];
           states = 1000000;
           every_step = false;
+          keeps_registers = false;
           form = Format.Text;
           explained = true;
           question = Check;
@@ -207,6 +218,7 @@ pub fn known_explore_lines()
           sweeps = [];
           states = 1000000;
           every_step = false;
+          keeps_registers = false;
           form = Format.Text;
           explained = true;
           question = Find (codes "0 is halted");
@@ -219,10 +231,66 @@ pub fn known_explore_lines()
           sweeps = [];
           states = 1000000;
           every_step = false;
+          keeps_registers = false;
           form = Format.Text;
           explained = false;
           question = Find (codes "0 at main");
         })) }
+    ensures find_keeping { explore_asked (codes "cheri_explore" ∷ codes "find"
+        ∷ codes "first.lst" ∷ codes "0 is halted" ∷ codes "--keep" ∷ codes "registers" ∷ [])
+        ≡ Some (Search (record {
+          listing = codes "first.lst";
+          map = None;
+          sweeps = [];
+          states = 1000000;
+          every_step = false;
+          keeps_registers = true;
+          form = Format.Text;
+          explained = false;
+          question = Find (codes "0 is halted");
+        })) }
+    ensures outcomes_keeping { explore_asked (codes "cheri_explore" ∷ codes "outcomes"
+        ∷ codes "first.lst" ∷ codes "--keep=registers" ∷ codes "--show" ∷ codes "0.c7" ∷ [])
+        ≡ Some (Search (record {
+          listing = codes "first.lst";
+          map = None;
+          sweeps = [];
+          states = 1000000;
+          every_step = false;
+          keeps_registers = true;
+          form = Format.Text;
+          explained = false;
+          question = Outcomes (Some (codes "0.c7"));
+        })) }
+    ensures check_keeping { explore_asked (codes "cheri_explore" ∷ codes "check"
+        ∷ codes "first.lst" ∷ codes "--keep" ∷ codes "registers" ∷ [])
+        ≡ Some (Search (record {
+          listing = codes "first.lst";
+          map = None;
+          sweeps = [];
+          states = 1000000;
+          every_step = false;
+          keeps_registers = true;
+          form = Format.Text;
+          explained = false;
+          question = Check;
+        })) }
+    ensures authority_keeping { explore_asked (codes "cheri_explore" ∷ codes "authority"
+        ∷ codes "first.lst" ∷ codes "--keep=registers" ∷ [])
+        ≡ None }
+    ensures keeping_nothing { explore_asked (codes "cheri_explore" ∷ codes "find"
+        ∷ codes "first.lst" ∷ codes "0 is halted" ∷ codes "--keep=" ∷ [])
+        ≡ None }
+    ensures keeping_another_word { explore_asked (codes "cheri_explore" ∷ codes "find"
+        ∷ codes "first.lst" ∷ codes "0 is halted" ∷ codes "--keep=registers,harts" ∷ [])
+        ≡ None }
+    ensures keeping_a_word_twice { explore_asked (codes "cheri_explore" ∷ codes "find"
+        ∷ codes "first.lst" ∷ codes "0 is halted" ∷ codes "--keep=registers,registers" ∷ [])
+        ≡ None }
+    ensures keeping_twice { explore_asked (codes "cheri_explore" ∷ codes "find"
+        ∷ codes "first.lst" ∷ codes "0 is halted" ∷ codes "--keep=registers"
+        ∷ codes "--keep=registers" ∷ [])
+        ≡ None }
     ensures check_mapped { explore_asked (codes "cheri_explore" ∷ codes "check"
         ∷ codes "--map=first.map" ∷ codes "first.lst" ∷ codes "--json" ∷ [])
         ≡ Some (Search (record {
@@ -231,6 +299,7 @@ pub fn known_explore_lines()
           sweeps = [];
           states = 1000000;
           every_step = false;
+          keeps_registers = false;
           form = Format.Json;
           explained = false;
           question = Check;

@@ -10,8 +10,10 @@ ghost use Rattle.explore_line.specs.Requests.{
   asked_by,
   explained_in,
   explore_asked_of,
+  name_of,
   question_asked_by,
   question_of,
+  registers_kept,
   search_asked_by,
   search_asked_of,
   IsBounded,
@@ -49,8 +51,9 @@ pub enum Question<'a> {
 /// What a command line asks for: to search the states that the image of the listing in the file of
 /// this name reaches, with these sweeps, up to so many states, and to answer in this form. Where
 /// `every_step` is true, states are told apart after each step, also where the question doesn't
-/// see it. Where `explained` is true, the answer's orders are explained, and the form is text. Of
-/// `find` and `check` `map` may name the file of the map of the listing's program.
+/// see it. Where `keeps_registers` is true, they are told apart by all registers, also by those that
+/// no longer matter. Where `explained` is true, the answer's orders are explained, and the form is
+/// text. Of `find` and `check` `map` may name the file of the map of the listing's program.
 #[derive(Debug, Drop)]
 pub struct ExploreRequest<'a> {
     pub listing: &'a str,
@@ -58,6 +61,7 @@ pub struct ExploreRequest<'a> {
     pub sweeps: Vec<Sweep>,
     pub states: u32,
     pub every_step: bool,
+    pub keeps_registers: bool,
     pub form: Format,
     pub explained: bool,
     pub question: Question<'a>,
@@ -74,6 +78,17 @@ pub enum Request<'a> {
     Merge(MergeRequest<'a>),
 }
 
+/// Whether registers are kept that no longer matter: where the list of what is kept names them.
+fn registers_kept(list: Option<&str>) -> Option<bool>
+    ensures { result ≡ registers_kept (option_map name_of list.entry) }
+{
+    match list {
+        None => Some(false),
+        Some("registers") => Some(true),
+        Some(_) => None,
+    }
+}
+
 /// What the command of this name asks.
 fn question_of<'a>(name: &str, found: &ArgMatches<'a>) -> Option<Question<'a>>
     ensures { option_map question_asked_by result
@@ -86,7 +101,7 @@ fn question_of<'a>(name: &str, found: &ArgMatches<'a>) -> Option<Question<'a>>
         "find" => {
             let condition = value_found(found, "condition")?;
             Some(Question::Find { condition })
-        },
+        }
         "authority" => Some(Question::Authority),
         "check" => Some(Question::Check),
         _ => None,
@@ -144,6 +159,7 @@ fn search_of<'a>(
     let listing = value_found(found, "listing").ok_or(CommandFault::Usage)?;
     let map = value_found(found, "map");
     let states = states_found(found).ok_or(CommandFault::Usage)?;
+    let keeps_registers = registers_kept(value_found(found, "keep")).ok_or(CommandFault::Usage)?;
     let explained = explained_found(found).ok_or(CommandFault::Usage)?;
     let sweeps = sweeps_found(alloc, found)?;
     Ok(ExploreRequest {
@@ -152,6 +168,7 @@ fn search_of<'a>(
         sweeps,
         states,
         every_step: flag_found(found, "steps"),
+        keeps_registers,
         form: form_found(found),
         explained,
         question,

@@ -13,7 +13,7 @@ use Rattle.sinks.specs.declared.fault.WriteFault.{WriteFault}
 use Rattle.sinks.specs.declared.fault.WriteFault.TheVariants as written
 use Rattle.program_io.specs.Faults.{written_fault}
 use Rattle.explore_program.specs.Faults.{Fault, failure_of, property_fault, refused_properties, text_fault}
-use Rattle.explore_checks.specs.Checks.{IsCheckAnswer}
+use Rattle.forgotten_checks.specs.StateChecks.{IsCheckStatesAnswer}
 use Rattle.explore_properties.specs.Properties.{PropertiesParts, PropertyParts}
 use Rattle.explore_properties.specs.Reading.{GivesPlace}
 use Rattle.explore_properties.specs.declared.fault.PropertyFault.{PropertyFault}
@@ -76,17 +76,17 @@ properties_fail answers meaning (properties.Place place) old new is same = (refu
 properties_fail answers meaning properties.NoMemory old new is same = inl same
 
 -- what was read of a listing is checked
-pub check_asked : (search : SearchParts) (explained : Bool) (listed : ListedParts) (sweeps : List SweepRange) (read : PropertiesParts)
+pub check_asked : (keeps : Bool) (search : SearchParts) (explained : Bool) (listed : ListedParts) (sweeps : List SweepRange) (read : PropertiesParts)
     (list : List PropertyParts) (format : Format) (meaning : Result PropertiesParts PropertyPlace) → meaning ≡ Ok read
     → sweeps ≡ map range_of read.sweeps → list ≡ read.properties → (answer : Answer Ending Fault)
-    → IsSaid (IsExplained explained listed search.image (IsCheckAnswer (record search { sweeps = sweeps }) list format)) answer
-    → IsSaidOf property_fault (λ r. IsExplained explained listed search.image (IsCheckAnswer (swept_by search r) r.properties format)) meaning answer
-check_asked search explained listed sweeps read list format meaning is sweeps_are list_is answer said =
-    said_of property_fault (λ r. IsExplained explained listed search.image (IsCheckAnswer (swept_by search r) r.properties format)) meaning read is answer
+    → IsSaid (IsExplained explained listed search.image (IsCheckStatesAnswer keeps (record search { sweeps = sweeps }) list format)) answer
+    → IsSaidOf property_fault (λ r. IsExplained explained listed search.image (IsCheckStatesAnswer keeps (swept_by search r) r.properties format)) meaning answer
+check_asked keeps search explained listed sweeps read list format meaning is sweeps_are list_is answer said =
+    said_of property_fault (λ r. IsExplained explained listed search.image (IsCheckStatesAnswer keeps (swept_by search r) r.properties format)) meaning read is answer
     (subst (λ (ss : List SweepRange).
-    IsSaid (IsExplained explained listed search.image (IsCheckAnswer (record search { sweeps = ss }) read.properties format)) answer) sweeps_are
+    IsSaid (IsExplained explained listed search.image (IsCheckStatesAnswer keeps (record search { sweeps = ss }) read.properties format)) answer) sweeps_are
     (subst (λ (ps : List PropertyParts).
-    IsSaid (IsExplained explained listed search.image (IsCheckAnswer (record search { sweeps = sweeps }) ps format)) answer) list_is said))
+    IsSaid (IsExplained explained listed search.image (IsCheckStatesAnswer keeps (record search { sweeps = sweeps }) ps format)) answer) list_is said))
 
 -- ---- an answer with its orders
 

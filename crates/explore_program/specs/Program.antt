@@ -47,7 +47,7 @@ abbrev pub IsRequestAnswer : LabelParts → ListedParts → ImageParts → Searc
     → Answer Ending Fault → Type 0
 IsRequestAnswer labels listed image asked answer =
     IsSaidTo asked.question labels listed (search_asked image asked) (format_of asked.form)
-    asked.explained answer
+    asked.explained asked.keeps_registers answer
 
 -- what is so of the meaning of texts, or their fault
 abbrev pub OfMapped : {A : Type 0} → Result MappedParts Fault → (Fault → A)

@@ -5,7 +5,6 @@ use Rattle.authority_texts.specs.Answers.{IsAuthorityAnswer}
 use Rattle.cheri_model.specs.declared.operation.Op.{Op}
 use Rattle.cheri_model.specs.runs.Image.{ImageParts}
 use Rattle.explained_orders.specs.ExplainedOrders.{explained_orders}
-use Rattle.explore_checks.specs.Checks.{IsCheckAnswer}
 use Rattle.explore_line.specs.Requests.{AskedQuestion, Find, Outcomes, Authority, Check}
 use Rattle.explore_properties.specs.Properties.{PropertiesParts}
 use Rattle.explore_properties.specs.Reading.{properties_of}
@@ -17,8 +16,10 @@ use Rattle.condition_texts.specs.declared.fault.TextFault.TheVariants.{Condition
 use Rattle.condition_texts.specs.Items.{items_of}
 use Rattle.grammar.specs.Labels.{LabelParts}
 use Rattle.listing_maps.specs.Names.{named}
-use Rattle.found_texts.specs.Find.{IsFindAnswer}
-use Rattle.outcome_texts.specs.Answers.{IsListedAnswer, IsShownAnswer}
+use Rattle.forgotten_checks.specs.StateChecks.{IsCheckStatesAnswer}
+use Rattle.forgotten_outcomes.specs.ShownStates.{IsShownStatesAnswer}
+use Rattle.found_texts.specs.Reduced.{IsStateAnswer}
+use Rattle.outcome_texts.specs.Answers.{IsListedAnswer}
 use Rattle.printing.specs.Endings.{Answer}
 use Rattle.schedules.specs.declared.ranges.SweepRange.{SweepRange}
 use Rattle.shown_states.specs.declared.form.Ending.{Ending}
@@ -63,44 +64,45 @@ pub record IsExplained (explained : Bool) (listed : ListedParts) (image : ImageP
   pub said_is : said ≡ explained_text explained listed image orders told
 
 -- `find`, with the condition that a text writes beside a listing with this text, this map and these
--- labels: the map's symbols are labels, too
-abbrev pub IsFindSaid : LabelParts → ListedParts → SearchParts → Format → Bool → List ℕ
+-- labels: the map's symbols are labels, too. It keeps all registers, or those that matter.
+abbrev pub IsFindSaid : LabelParts → ListedParts → SearchParts → Format → Bool → Bool → List ℕ
     → Answer Ending Fault → Type 0
-IsFindSaid labels listed search format explained condition answer =
+IsFindSaid labels listed search format explained keeps condition answer =
     IsSaidOf (λ byte. text_fault (Condition byte))
-    (λ nodes. IsExplained explained listed search.image (IsFindAnswer search nodes format))
+    (λ nodes. IsExplained explained listed search.image (IsStateAnswer keeps search nodes format))
     (condition_of (named labels listed.sources) search.image condition) answer
 
 -- `outcomes`, with the items that a text writes
-abbrev pub IsShownSaid : SearchParts → Format → List ℕ → Answer Ending Fault → Type 0
-IsShownSaid search format items answer =
-    IsSaidOf (λ byte. text_fault (Place byte)) (λ list. IsShownAnswer search list format)
-    (items_of search.image items) answer
+abbrev pub IsShownSaid : SearchParts → Format → Bool → List ℕ → Answer Ending Fault → Type 0
+IsShownSaid search format keeps items answer =
+    IsSaidOf (λ byte. text_fault (Place byte))
+    (λ list. IsShownStatesAnswer keeps search list format) (items_of search.image items) answer
 
 -- the search with the sweeps that a listing allows
 abbrev pub swept_by : SearchParts → PropertiesParts → SearchParts
 swept_by search read = record search { sweeps = map range_of read.sweeps }
 
 -- `check`, of the listing that has this text, this map and these labels
-abbrev pub IsCheckSaid : LabelParts → ListedParts → SearchParts → Format → Bool
+abbrev pub IsCheckSaid : LabelParts → ListedParts → SearchParts → Format → Bool → Bool
     → Answer Ending Fault → Type 0
-IsCheckSaid labels listed search format explained answer =
+IsCheckSaid labels listed search format explained keeps answer =
     IsSaidOf property_fault
     (λ read. IsExplained explained listed search.image
-    (IsCheckAnswer (swept_by search read) read.properties format))
+    (IsCheckStatesAnswer keeps (swept_by search read) read.properties format))
     (properties_of (named labels listed.sources) search.image listed.text) answer
 
 -- the answers to a question of the command line, about the listing that has this text, this map and
--- these labels, of which those to `find` and `check` may have their orders explained
-abbrev pub IsSaidTo : AskedQuestion → LabelParts → ListedParts → SearchParts → Format → Bool
+-- these labels, of which those to `find` and `check` may have their orders explained; all registers
+-- are kept, or those that matter
+abbrev pub IsSaidTo : AskedQuestion → LabelParts → ListedParts → SearchParts → Format → Bool → Bool
     → Answer Ending Fault → Type 0
-IsSaidTo (Find condition) labels listed search format explained answer =
-    IsFindSaid labels listed search format explained condition answer
-IsSaidTo (Outcomes None) labels listed search format explained answer =
+IsSaidTo (Find condition) labels listed search format explained keeps answer =
+    IsFindSaid labels listed search format explained keeps condition answer
+IsSaidTo (Outcomes None) labels listed search format explained keeps answer =
     IsSaid (IsListedAnswer search format) answer
-IsSaidTo (Outcomes (Some items)) labels listed search format explained answer =
-    IsShownSaid search format items answer
-IsSaidTo Authority labels listed search format explained answer =
+IsSaidTo (Outcomes (Some items)) labels listed search format explained keeps answer =
+    IsShownSaid search format keeps items answer
+IsSaidTo Authority labels listed search format explained keeps answer =
     IsSaid (IsAuthorityAnswer search format) answer
-IsSaidTo Check labels listed search format explained answer =
-    IsCheckSaid labels listed search format explained answer
+IsSaidTo Check labels listed search format explained keeps answer =
+    IsCheckSaid labels listed search format explained keeps answer

@@ -30,7 +30,7 @@ use states::Search;
 use std::alloc::Global;
 
 /// What a question is asked of: a search, its listing with its labels, how the answer is written,
-/// and whether its orders are explained.
+/// whether its orders are explained, and whether states are told apart by all registers.
 #[derive(Clone, Copy)]
 pub struct Asking<'l, 's> {
     pub labels: &'l Labels<'l>,
@@ -38,6 +38,7 @@ pub struct Asking<'l, 's> {
     pub search: Search<'s>,
     pub format: Format,
     pub explained: bool,
+    pub keeps_registers: bool,
 }
 
 /// Answers a question.
@@ -71,12 +72,12 @@ fn answer_find<P: Progress, S: Sink>(
     ensures printed { IfOk result (λ ending. HasWhole
         (IsFindSaid (label_parts asking.entry.labels.now) (listed_of asking.entry.listed)
         (search_of asking.entry.search) asking.entry.format asking.entry.explained
-        condition.now) ending
+        asking.entry.keeps_registers condition.now) ending
         (S.written sink.old) (S.written sink.new)) }
     ensures failed { IfErr result (λ fault. FailsBy (failure_of fault)
         (IsFindSaid (label_parts asking.entry.labels.now) (listed_of asking.entry.listed)
         (search_of asking.entry.search) asking.entry.format asking.entry.explained
-        condition.now) fault
+        asking.entry.keeps_registers condition.now) fault
         (S.written sink.old) (S.written sink.new)) }
     ensures identity { S.identity sink.new ≡ S.identity sink.old }
 {
@@ -86,6 +87,7 @@ fn answer_find<P: Progress, S: Sink>(
         search,
         format,
         explained,
+        keeps_registers,
     } = asking;
     let names = Names {
         labels,
@@ -100,6 +102,7 @@ fn answer_find<P: Progress, S: Sink>(
         format,
         explaining: Explaining { explained, listed },
         condition: &condition,
+        keeps_registers,
     };
     ask(alloc, &question, progress, sink)
 }
@@ -107,21 +110,28 @@ fn answer_find<P: Progress, S: Sink>(
 /// `outcomes LISTING --show ITEM[,ITEM]..`.
 fn answer_shown<P: Progress, S: Sink>(
     alloc: Global,
-    search: Search<'_>,
-    format: Format,
+    asking: Asking<'_, '_>,
     items: &str,
     progress: &mut P,
     sink: &mut S,
 ) -> Result<Ending, Fault>
-    requires { IsSearchable (search_of search) }
+    requires { IsSearchable (search_of asking.search) }
     ensures printed { IfOk result (λ ending. HasWhole
-        (IsShownSaid (search_of search.entry) format items.now) ending
+        (IsShownSaid (search_of asking.entry.search) asking.entry.format
+        asking.entry.keeps_registers items.now) ending
         (S.written sink.old) (S.written sink.new)) }
     ensures failed { IfErr result (λ fault. FailsBy (failure_of fault)
-        (IsShownSaid (search_of search.entry) format items.now) fault
+        (IsShownSaid (search_of asking.entry.search) asking.entry.format
+        asking.entry.keeps_registers items.now) fault
         (S.written sink.old) (S.written sink.new)) }
     ensures identity { S.identity sink.new ≡ S.identity sink.old }
 {
+    let Asking {
+        search,
+        format,
+        keeps_registers,
+        ..
+    } = asking;
     let items = match read_items(alloc, search.image, items) {
         Ok(items) => items,
         Err(refused) => return Err(text_fault(refused)),
@@ -130,6 +140,7 @@ fn answer_shown<P: Progress, S: Sink>(
         search,
         format,
         items: &items,
+        keeps_registers,
     };
     ask(alloc, &question, progress, sink)
 }
@@ -145,11 +156,13 @@ fn answer_check<P: Progress, S: Sink>(
     requires search { IsSearchable (search_of asking.search) }
     ensures printed { IfOk result (λ ending. HasWhole
         (IsCheckSaid (label_parts asking.entry.labels.now) (listed_of asking.entry.listed)
-        (search_of asking.entry.search) asking.entry.format asking.entry.explained) ending
+        (search_of asking.entry.search) asking.entry.format asking.entry.explained
+        asking.entry.keeps_registers) ending
         (S.written sink.old) (S.written sink.new)) }
     ensures failed { IfErr result (λ fault. FailsBy (failure_of fault)
         (IsCheckSaid (label_parts asking.entry.labels.now) (listed_of asking.entry.listed)
-        (search_of asking.entry.search) asking.entry.format asking.entry.explained) fault
+        (search_of asking.entry.search) asking.entry.format asking.entry.explained
+        asking.entry.keeps_registers) fault
         (S.written sink.old) (S.written sink.new)) }
     ensures identity { S.identity sink.new ≡ S.identity sink.old }
 {
@@ -159,6 +172,7 @@ fn answer_check<P: Progress, S: Sink>(
         search,
         format,
         explained,
+        keeps_registers,
     } = asking;
     let names = Names {
         labels,
@@ -181,6 +195,7 @@ fn answer_check<P: Progress, S: Sink>(
         format,
         explaining: Explaining { explained, listed },
         properties,
+        keeps_registers,
     };
     ask(alloc, &question, progress, sink)
 }
@@ -198,12 +213,12 @@ pub fn answer_question<P: Progress, S: Sink>(
     ensures printed { IfOk result (λ ending. HasWhole
         (IsSaidTo (question_asked_by question.entry) (label_parts asking.entry.labels.now)
         (listed_of asking.entry.listed) (search_of asking.entry.search) asking.entry.format
-        asking.entry.explained) ending
+        asking.entry.explained asking.entry.keeps_registers) ending
         (S.written sink.old) (S.written sink.new)) }
     ensures failed { IfErr result (λ fault. FailsBy (failure_of fault)
         (IsSaidTo (question_asked_by question.entry) (label_parts asking.entry.labels.now)
         (listed_of asking.entry.listed) (search_of asking.entry.search) asking.entry.format
-        asking.entry.explained) fault
+        asking.entry.explained asking.entry.keeps_registers) fault
         (S.written sink.old) (S.written sink.new)) }
     ensures identity { S.identity sink.new ≡ S.identity sink.old }
 {
@@ -213,7 +228,7 @@ pub fn answer_question<P: Progress, S: Sink>(
         Question::Check => answer_check(alloc, asking, progress, sink),
         Question::Authority => ask(alloc, &Authority { search, format }, progress, sink),
         Question::Outcomes { show } => match show {
-            Some(items) => answer_shown(alloc, search, format, items, progress, sink),
+            Some(items) => answer_shown(alloc, asking, items, progress, sink),
             None => ask(alloc, &Outcomes { search, format }, progress, sink),
         },
     }

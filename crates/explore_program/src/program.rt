@@ -81,6 +81,7 @@ fn answer_labelled<S: Sink, P: Progress>(
         search,
         format: format_of(request.form),
         explained: request.explained,
+        keeps_registers: request.keeps_registers,
     };
     answer_question(alloc, request.question, asking, progress, sink)
 }

@@ -4,11 +4,12 @@ ghost use Rattle.std.specs.Prelude.{◌≡◌, ◌+◌, ℕ, List, Ok, IfOk, IfE
 ghost use Rattle.std.specs.Io.KnownBytes.{Appends};
 ghost use Rattle.authority_texts.specs.Answers.{IsAuthorityAnswer};
 ghost use Rattle.conditions.specs.Items.{list_of};
-ghost use Rattle.explore_checks.specs.Checks.{IsCheckAnswer};
-ghost use Rattle.found_texts.specs.Find.{IsFindAnswer};
+ghost use Rattle.forgotten_checks.specs.StateChecks.{IsCheckStatesAnswer};
+ghost use Rattle.forgotten_outcomes.specs.ShownStates.{IsShownStatesAnswer};
+ghost use Rattle.found_texts.specs.Reduced.{IsStateAnswer};
 ghost use Rattle.listings.specs.Meaning.{listing_meaning};
 ghost use Rattle.order_texts.specs.OrderTexts.{orders_of};
-ghost use Rattle.outcome_texts.specs.Answers.{IsListedAnswer, IsShownAnswer};
+ghost use Rattle.outcome_texts.specs.Answers.{IsListedAnswer};
 ghost use Rattle.shown_states.specs.Endings.{failures_of, IsUnwritten, IsWritten};
 ghost use Rattle.shown_states.specs.declared.form.Ending.{Ending};
 ghost use Rattle.explore_program.specs.Listings.{listed_of};
@@ -20,11 +21,12 @@ use authority_texts::authority;
 use cheri_model::{Image, NoMemory};
 use conditions::{Condition, Items};
 use explained_orders::explain_orders;
-use explore_checks::check;
 use explore_properties::Property;
-use found_texts::{Told, find};
+use forgotten_checks::check_states;
+use forgotten_outcomes::{Manner, show_states};
+use found_texts::{Told, find_state};
 use graph_search::Progress;
-use outcome_texts::{list_outcomes, show_outcomes};
+use outcome_texts::list_outcomes;
 use shown_states::{Ending, Format, put_answer};
 use sinks::{MemSink, Sink, WriteFault, put_whole};
 use states::Search;
@@ -155,13 +157,15 @@ fn put_told<S: Sink>(
     }
 }
 
-/// Which state is the first in which a condition holds?
+/// Which state is the first in which a condition holds, where states are told apart by all
+/// registers, or by those that matter?
 #[derive(Clone, Copy)]
 pub struct Find<'a, 'b, 't> {
     pub search: Search<'a>,
     pub format: Format,
     pub explaining: Explaining<'t>,
     pub condition: &'b Condition,
+    pub keeps_registers: bool,
 }
 
 impl<'a, 'b, 't> SearchQuestion for Find<'a, 'b, 't> {
@@ -169,7 +173,8 @@ impl<'a, 'b, 't> SearchQuestion for Find<'a, 'b, 't> {
         × (listing_meaning q.explaining.listed.text.now ≡ Ok q.search.image.now) };
 
     ghost answers = { λ q. IsExplained q.explaining.explained (listed_of q.explaining.listed)
-        q.search.image.now (IsFindAnswer (search_of q.search) q.condition.now q.format) };
+        q.search.image.now (IsStateAnswer q.keeps_registers (search_of q.search) q.condition.now
+        q.format) };
 
     fn write<P: Progress, S: Sink>(
         &self,
@@ -177,7 +182,14 @@ impl<'a, 'b, 't> SearchQuestion for Find<'a, 'b, 't> {
         progress: &mut P,
         sink: &mut S,
     ) -> Result<Ending, WriteFault> {
-        let told = find(alloc, &self.search, self.condition, self.format, progress)?;
+        let told = find_state(
+            alloc,
+            &self.search,
+            self.condition,
+            self.keeps_registers,
+            self.format,
+            progress,
+        )?;
         put_told(alloc, self.explaining, self.search.image, &told, sink)
     }
 }
@@ -226,18 +238,21 @@ impl<'a> SearchQuestion for Outcomes<'a> {
     }
 }
 
-/// What do items hold in the states in which no hart runs?
+/// What do items hold in the states in which no hart runs, where states are told apart by all
+/// registers, or by those that matter?
 #[derive(Clone, Copy)]
 pub struct ShownOutcomes<'a, 'b, 'c> {
     pub search: Search<'a>,
     pub format: Format,
     pub items: &'b Items<'c>,
+    pub keeps_registers: bool,
 }
 
 impl<'a, 'b, 'c> SearchQuestion for ShownOutcomes<'a, 'b, 'c> {
     ghost is_askable = { λ q. IsSearchable (search_of q.search) };
 
-    ghost answers = { λ q. IsShownAnswer (search_of q.search) (list_of q.items.now) q.format };
+    ghost answers = { λ q. IsShownStatesAnswer q.keeps_registers (search_of q.search)
+        (list_of q.items.now) q.format };
 
     fn write<P: Progress, S: Sink>(
         &self,
@@ -245,17 +260,23 @@ impl<'a, 'b, 'c> SearchQuestion for ShownOutcomes<'a, 'b, 'c> {
         progress: &mut P,
         sink: &mut S,
     ) -> Result<Ending, WriteFault> {
-        show_outcomes(alloc, &self.search, self.items, self.format, progress, sink)
+        let manner = Manner {
+            format: self.format,
+            keeps_registers: self.keeps_registers,
+        };
+        show_states(alloc, &self.search, self.items, manner, progress, sink)
     }
 }
 
-/// Do the properties hold that the listing carries?
+/// Do the properties hold that the listing carries, where states are told apart by all registers, or
+/// by those that matter?
 #[derive(Clone, Copy)]
 pub struct Check<'a, 'b, 'c, 't> {
     pub search: Search<'a>,
     pub format: Format,
     pub explaining: Explaining<'t>,
     pub properties: &'b [Property<'c>],
+    pub keeps_registers: bool,
 }
 
 impl<'a, 'b, 'c, 't> SearchQuestion for Check<'a, 'b, 'c, 't> {
@@ -263,7 +284,8 @@ impl<'a, 'b, 'c, 't> SearchQuestion for Check<'a, 'b, 'c, 't> {
         × (listing_meaning q.explaining.listed.text.now ≡ Ok q.search.image.now) };
 
     ghost answers = { λ q. IsExplained q.explaining.explained (listed_of q.explaining.listed)
-        q.search.image.now (IsCheckAnswer (search_of q.search) q.properties.now q.format) };
+        q.search.image.now (IsCheckStatesAnswer q.keeps_registers (search_of q.search)
+        q.properties.now q.format) };
 
     fn write<P: Progress, S: Sink>(
         &self,
@@ -271,7 +293,14 @@ impl<'a, 'b, 'c, 't> SearchQuestion for Check<'a, 'b, 'c, 't> {
         progress: &mut P,
         sink: &mut S,
     ) -> Result<Ending, WriteFault> {
-        let told = check(alloc, &self.search, self.properties, self.format, progress)?;
+        let told = check_states(
+            alloc,
+            &self.search,
+            self.properties,
+            self.keeps_registers,
+            self.format,
+            progress,
+        )?;
         put_told(alloc, self.explaining, self.search.image, &told, sink)
     }
 }

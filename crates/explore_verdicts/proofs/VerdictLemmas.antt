@@ -1,8 +1,10 @@
 -- What the kept states say of all orders, and verdicts one more at a time.
-use Rattle.std.proofs.Common.{◌≡◌, ℕ, zero, suc, ◌+◌, ◌<◌, List, [], ◌∷◌, ◌++◌, length, take, ap, sym, ◌∙◌, refl, subst, arith, inl, inr}
-use Rattle.std.specs.Prelude.{Bool, true, false, not, ◌&&◌, Some, None, Option, slice_index_or}
+use Rattle.std.proofs.Common.{◌≡◌, ℕ, ◌+◌, ◌<◌, List, [], ◌∷◌, ◌++◌, length, take, ap, sym, ◌∙◌, refl, subst, inl, inr}
+use Rattle.std.specs.Prelude.{Bool, true, false, not, ◌&&◌, Some, None, Option, slice_index_or, Vec}
+use Rattle.std.specs.Global.{Global}
 use Rattle.std.proofs.lemmas.Bool.{both_ways, cases_Bool}
 use Rattle.std.proofs.lemmas.List.{take_more}
+use Rattle.cheri_model.specs.declared.operation.Op.{Op}
 use Rattle.cheri_model.specs.runs.Machine.{MachineState}
 use Rattle.cheri_model.specs.runs.Replay.{replayed_state}
 use Rattle.conditions.specs.Holding.{holds}
@@ -11,7 +13,7 @@ use Rattle.explore_properties.specs.Properties.{PropertyParts}
 use Rattle.explore_properties.specs.declared.claims.When.{When}
 use Rattle.explore_properties.specs.declared.claims.When.TheVariants.{Never, Always, Sometimes, Finally}
 use Rattle.explore_verdicts.specs.Deciding.{decides, IsSeen}
-use Rattle.explore_verdicts.specs.Verdicts.{absent_verdict, AreVerdicts, IsFoundVerdict, IsPropertyVerdict, IsStateVerdict, Says}
+use Rattle.explore_verdicts.specs.Verdicts.{absent_verdict, AreVerdicts, found_verdict, IsFoundVerdict, IsOrderTo, IsPropertyVerdict, IsStateVerdict}
 use Rattle.explore_verdicts.specs.declared.verdict.PropertyVerdict.{PropertyVerdict}
 use Rattle.explore_verdicts.specs.declared.verdict.Verdict.{Verdict}
 use Rattle.graph_search.specs.Trees.{IsFound}
@@ -51,6 +53,14 @@ pub decided_within : (kept : KeptParts) (when : When) (condition : List Node) (f
 decided_within kept when condition found number first is =
     (subst (λ (o : Option ℕ). IsFirstPassing kept (decides when condition) o) is first).0
 
+-- the verdict by its witness
+pub witness_is : (kept : KeptParts) (when : When) (number : ℕ) (order : Vec Op Global) (verdict : Verdict) →
+    verdict ≡ found_verdict when order → IsOrderTo kept number order.items → IsFoundVerdict kept when number verdict
+witness_is kept Never number order verdict is leads = rw is leads
+witness_is kept Always number order verdict is leads = rw is leads
+witness_is kept Sometimes number order verdict is leads = rw is leads
+witness_is kept Finally number order verdict is leads = rw is leads
+
 -- the verdict of the first state that decides
 pub found_is : (kept : KeptParts) (when : When) (condition : List Node) (found : Option ℕ) (number : ℕ) (verdict : Verdict) →
     IsFirstPassing kept (decides when condition) found → found ≡ Some number → IsFoundVerdict kept when number verdict →
@@ -78,17 +88,19 @@ absent_is kept when condition found complete verdict seen first is complete_is a
 
 -- ---- one more property
 
-verdict_more : (kept : KeptParts) (forever : Endless) (ps : List PropertyParts) (vs : List PropertyVerdict) (p : PropertyParts) (v : PropertyVerdict) →
-    AreVerdicts kept forever ps vs → IsPropertyVerdict kept forever p v → AreVerdicts kept forever (ps ++ p ∷ []) (vs ++ v ∷ [])
-verdict_more kept forever [] [] p v are is = (is, tt)
-verdict_more kept forever [] (w ∷ vs) p v are is = absurd are
-verdict_more kept forever (q ∷ ps) [] p v are is = absurd are
-verdict_more kept forever (q ∷ ps) (w ∷ vs) p v are is = (are.0, verdict_more kept forever ps vs p v are.1 is)
+module _ (judged : When → List Node → Verdict → Type 0) (forever : Endless) where
+  verdict_more : (ps : List PropertyParts) (vs : List PropertyVerdict) (p : PropertyParts) (v : PropertyVerdict) →
+      AreVerdicts judged forever ps vs → IsPropertyVerdict judged forever p v →
+      AreVerdicts judged forever (ps ++ p ∷ []) (vs ++ v ∷ [])
+  verdict_more [] [] p v are is = (is, tt)
+  verdict_more [] (w ∷ vs) p v are is = absurd are
+  verdict_more (q ∷ ps) [] p v are is = absurd are
+  verdict_more (q ∷ ps) (w ∷ vs) p v are is = (are.0, verdict_more ps vs p v are.1 is)
 
-pub verdict_step : (kept : KeptParts) (forever : Endless) (list : List PropertyParts) (i : ℕ) (d : PropertyParts)
-    (vs new : List PropertyVerdict) (v : PropertyVerdict) → i < length list → new ≡ vs ++ v ∷ [] → AreVerdicts kept forever (take i list) vs →
-    IsPropertyVerdict kept forever (slice_index_or list i d) v → AreVerdicts kept forever (take (i + 1) list) new
-verdict_step kept forever list i d vs new v within pushed are is =
-    subst (λ (xs : List PropertyParts). AreVerdicts kept forever xs new) (sym (take_more list i d within))
-    (subst (λ (us : List PropertyVerdict). AreVerdicts kept forever (take i list ++ slice_index_or list i d ∷ []) us) (sym pushed)
-    (verdict_more kept forever (take i list) vs (slice_index_or list i d) v are is))
+  pub verdict_step : (list : List PropertyParts) (i : ℕ) (d : PropertyParts) (vs new : List PropertyVerdict) (v : PropertyVerdict) →
+      i < length list → new ≡ vs ++ v ∷ [] → AreVerdicts judged forever (take i list) vs →
+      IsPropertyVerdict judged forever (slice_index_or list i d) v → AreVerdicts judged forever (take (i + 1) list) new
+  verdict_step list i d vs new v within pushed are is =
+      subst (λ (xs : List PropertyParts). AreVerdicts judged forever xs new) (sym (take_more list i d within))
+      (subst (λ (us : List PropertyVerdict). AreVerdicts judged forever (take i list ++ slice_index_or list i d ∷ []) us) (sym pushed)
+      (verdict_more (take i list) vs (slice_index_or list i d) v are is))

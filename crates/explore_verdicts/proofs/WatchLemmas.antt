@@ -1,16 +1,13 @@
 -- A search that sees what properties ask for passes over no state that decides one.
 use Rattle.std.proofs.Common.{◌≡◌, ℕ, zero, suc, ◌+◌, ◌<◌, List, [], ◌∷◌, ◌++◌, length, take, slice_get, ap, sym, ◌∙◌, refl, subst, arith, append_assoc, append-nil}
-use Rattle.std.specs.Prelude.{Bool, true, false, not, Some, Option, slice_index_or}
+use Rattle.std.specs.Prelude.{Bool, true, false, not, Some, slice_index_or}
 use Rattle.std.proofs.lemmas.List.{take_more}
-use Rattle.std.proofs.lemmas.Option.{none-some}
 use Rattle.cheri_model.specs.runs.Machine.{MachineState}
-use Rattle.cheri_model.specs.steps.Hart.{HartState}
 use Rattle.conditions.specs.Holding.{holds}
 use Rattle.conditions.specs.declared.parts.Node.{Node}
 use Rattle.explore_properties.specs.Properties.{PropertyParts}
 use Rattle.explore_properties.specs.declared.claims.Claim.{Claim}
 use Rattle.explore_properties.specs.declared.claims.Claim.TheVariants.{Holds, Ends, EndsFairly}
-use Rattle.explore_properties.specs.declared.claims.When.{When}
 use Rattle.explore_properties.specs.declared.claims.When.TheVariants.{Never, Always, Sometimes, Finally}
 use Rattle.explore_sights.specs.Sights.{hides, sight_of}
 use Rattle.explore_sights.specs.declared.sights.Sight.{Sight}

@@ -1,7 +1,8 @@
 -- What the kept states of a search say of a property. All of it is said of the machine's own
 -- replay.
 use Rattle.std.specs.Prelude.{◌≡◌, ℕ, Bool, true, false, if◌then◌else◌, List, [], ◌∷◌, Option, Some}
-use Rattle.std.specs.Prelude.{None}
+use Rattle.std.specs.Prelude.{None, Vec}
+use Rattle.std.specs.Global.{Global}
 use Rattle.cheri_model.specs.declared.operation.Op.{Op}
 use Rattle.cheri_model.specs.runs.Machine.{MachineState}
 use Rattle.conditions.specs.declared.parts.Node.{Node}
@@ -28,6 +29,13 @@ use Rattle.states.specs.Kept.{KeptParts, at, IsFirstPassing, IsWitnessOrder, Non
 abbrev pub IsOrderTo : KeptParts → ℕ → List Op → Type 0
 IsOrderTo kept number order = (state : MachineState) → at kept number ≡ Some state →
     IsWitnessOrder kept.image kept.sweeps kept.sight state order
+
+-- the verdict where this order leads to a state that decides
+abbrev pub found_verdict : When → Vec Op Global → Verdict
+found_verdict Never order = ViolatedAfter order
+found_verdict Always order = ViolatedAfter order
+found_verdict Sometimes order = HoldsAfter order
+found_verdict Finally order = ViolatedAfter order
 
 -- the verdict where the state of this number is the first that decides
 abbrev pub IsFoundVerdict : KeptParts → When → ℕ → Verdict → Type 0
@@ -80,22 +88,24 @@ IsEndsVerdict fairly endless.No verdict = verdict ≡ Holds
 
 -- ---- on properties
 
-abbrev pub IsVerdict : KeptParts → Endless → Claim → Verdict → Type 0
-IsVerdict kept forever (claim.Holds when condition) verdict =
-    IsStateVerdict kept when condition verdict
-IsVerdict kept forever claim.Ends verdict = IsEndsVerdict false forever verdict
-IsVerdict kept forever claim.EndsFairly verdict = IsEndsVerdict true forever verdict
+-- on a claim, where this is what a verdict says on when a condition holds
+abbrev pub IsVerdict : (When → List Node → Verdict → Type 0) → Endless → Claim → Verdict → Type 0
+IsVerdict judged forever (claim.Holds when condition) verdict =
+    judged when condition verdict
+IsVerdict judged forever claim.Ends verdict = IsEndsVerdict false forever verdict
+IsVerdict judged forever claim.EndsFairly verdict = IsEndsVerdict true forever verdict
 
 -- of this property, by what it claims
-pub record IsPropertyVerdict (kept : KeptParts) (forever : Endless) (property : PropertyParts)
-    (told : PropertyVerdict) : Type 0 where
+pub record IsPropertyVerdict (judged : When → List Node → Verdict → Type 0)
+    (forever : Endless) (property : PropertyParts) (told : PropertyVerdict) : Type 0 where
   pub property_is : told.property.now ≡ property
-  pub verdict_is : IsVerdict kept forever property.claim told.verdict
+  pub verdict_is : IsVerdict judged forever property.claim told.verdict
 
 -- one after another
-abbrev pub AreVerdicts : KeptParts → Endless → List PropertyParts → List PropertyVerdict → Type 0
-AreVerdicts kept forever [] [] = Unit {0}
-AreVerdicts kept forever [] (v ∷ vs) = ⊥
-AreVerdicts kept forever (p ∷ ps) [] = ⊥
-AreVerdicts kept forever (p ∷ ps) (v ∷ vs) =
-    IsPropertyVerdict kept forever p v × AreVerdicts kept forever ps vs
+abbrev pub AreVerdicts : (When → List Node → Verdict → Type 0) → Endless → List PropertyParts
+    → List PropertyVerdict → Type 0
+AreVerdicts judged forever [] [] = Unit {0}
+AreVerdicts judged forever [] (v ∷ vs) = ⊥
+AreVerdicts judged forever (p ∷ ps) [] = ⊥
+AreVerdicts judged forever (p ∷ ps) (v ∷ vs) =
+    IsPropertyVerdict judged forever p v × AreVerdicts judged forever ps vs

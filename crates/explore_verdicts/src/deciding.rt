@@ -11,11 +11,11 @@ use shown_states::SeenState;
 use state_store::State;
 use states::{Kept, Room, StateTest};
 
-/// Whether a state decides when a condition holds.
+/// Whether a state decides when a condition holds, as a test of states.
 #[derive(Clone, Copy)]
-struct Decision<'a> {
-    when: When,
-    condition: &'a Condition,
+pub struct Decision<'a> {
+    pub when: When,
+    pub condition: &'a Condition,
 }
 
 impl Decision<'_> {

@@ -5,6 +5,7 @@ ghost use Rattle.explore_verdicts.specs.Deciding.{AreSeen, IsClaimSeen, IsSeen};
 ghost use Rattle.explore_verdicts.specs.Verdicts.{
   absent_verdict,
   AreVerdicts,
+  found_verdict,
   IsEndsVerdict,
   IsFoundVerdict,
   IsLassoVerdict,
@@ -16,26 +17,39 @@ ghost use Rattle.states.specs.Kept.{count};
 
 use crate::deciding::first_deciding;
 use crate::verdict::{PropertyVerdict, Verdict};
+use cheri_model::Op;
 use conditions::Condition;
 use explore_properties::{Claim, Property, When};
 use state_loops::{Endless, Lasso};
 use states::Kept;
 use std::alloc::{AllocError, Global};
 
+/// The verdict where this order leads to a state that decides.
+pub fn found_verdict(when: When, order: Vec<Op>) -> Verdict
+    ensures { result ≡ found_verdict when order }
+{
+    match when {
+        When::Sometimes => Verdict::HoldsAfter(order),
+        When::Never | When::Always | When::Finally => Verdict::ViolatedAfter(order),
+    }
+}
+
 /// The verdict where the state of this number is the first that decides.
-fn found_verdict(alloc: Global, kept: &Kept, when: When, number: u32) -> Result<Verdict, AllocError>
+fn witness_verdict(
+    alloc: Global,
+    kept: &Kept,
+    when: When,
+    number: u32,
+) -> Result<Verdict, AllocError>
     requires { number < count kept.now }
     ensures { IfOk result (IsFoundVerdict kept.now when number) }
 {
     let order = kept.witness(alloc, number)?;
-    match when {
-        When::Sometimes => Ok(Verdict::HoldsAfter(order)),
-        When::Never | When::Always | When::Finally => Ok(Verdict::ViolatedAfter(order)),
-    }
+    Ok(found_verdict(when, order))
 }
 
 /// The verdict where no kept state decides, which may be all there are.
-fn absent_verdict(when: When, complete: bool) -> Verdict
+pub fn absent_verdict(when: When, complete: bool) -> Verdict
     ensures { result ≡ absent_verdict when complete }
 {
     if !complete {
@@ -58,7 +72,7 @@ fn judge_states(
     ensures { IfOk result (IsStateVerdict kept.now when condition.now) }
 {
     match first_deciding(kept, when, condition) {
-        Some(number) => found_verdict(alloc, kept, when, number),
+        Some(number) => witness_verdict(alloc, kept, when, number),
         None => Ok(absent_verdict(when, kept.is_complete())),
     }
 }
@@ -73,8 +87,9 @@ fn violated_by(alloc: Global, lasso: &Lasso) -> Result<Verdict, AllocError>
     }))
 }
 
-/// The verdict on whether every run ends, or every run in which each hart is let on.
-fn judge_ends(alloc: Global, endless: &Endless, fairly: bool) -> Result<Verdict, AllocError>
+/// The verdict on whether every run ends, or every run in which each hart is let on. Fails only when
+/// out of memory.
+pub fn judge_ends(alloc: Global, endless: &Endless, fairly: bool) -> Result<Verdict, AllocError>
     ensures { IfOk result (IsEndsVerdict fairly endless.now) }
 {
     match endless {
@@ -94,7 +109,7 @@ fn judge(
     claim: &Claim,
 ) -> Result<Verdict, AllocError>
     requires seen { IsClaimSeen kept.now.sight claim.now }
-    ensures { IfOk result (IsVerdict kept.now endless.now claim.now) }
+    ensures { IfOk result (IsVerdict (IsStateVerdict kept.now) endless.now claim.now) }
 {
     match claim {
         Claim::Holds(when, condition) => judge_states(alloc, kept, *when, condition),
@@ -111,7 +126,7 @@ fn judge_property<'p, 'a>(
     property: &'p Property<'a>,
 ) -> Result<PropertyVerdict<'p, 'a>, AllocError>
     requires seen { IsClaimSeen kept.now.sight property.now.claim }
-    ensures { IfOk result (IsPropertyVerdict kept.now endless.now property.now) }
+    ensures { IfOk result (IsPropertyVerdict (IsStateVerdict kept.now) endless.now property.now) }
 {
     let verdict = judge(alloc, kept, endless, property.claim())?;
     Ok(PropertyVerdict { property, verdict })
@@ -127,7 +142,7 @@ pub fn judge_all<'p, 'a>(
 ) -> Result<Vec<PropertyVerdict<'p, 'a>>, AllocError>
     requires seen { AreSeen kept.now.sight properties.now }
     ensures { IfOk result (λ verdicts.
-        AreVerdicts kept.now endless.now properties.now verdicts.items) }
+        AreVerdicts (IsStateVerdict kept.now) endless.now properties.now verdicts.items) }
 {
     let mut verdicts = Vec::with_capacity(alloc, properties.len())?;
     for property in properties {

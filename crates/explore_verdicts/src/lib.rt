@@ -6,6 +6,7 @@ mod judging;
 mod verdict;
 mod watching;
 
-pub use judging::judge_all;
+pub use deciding::Decision;
+pub use judging::{absent_verdict, found_verdict, judge_all, judge_ends};
 pub use verdict::{PropertyVerdict, Verdict};
 pub use watching::watches_of;

@@ -16,7 +16,7 @@ use Rattle.shown_states.specs.declared.form.Ending.TheVariants.{Done, Unfinished
 use Rattle.shown_states.specs.declared.form.Format.{Format}
 use Rattle.states.specs.Kept.{KeptParts, count, at, IsKeptOf, IsSearch, IsWitnessOrder, IsFirstPassing, IsWhole}
 use Rattle.states.specs.Searches.{SearchParts}
-use Rattle.found_texts.specs.FoundTexts.{found, absent, absent_ending}
+use Rattle.found_texts.specs.FoundTexts.{found, absent_ending}
 use Rattle.found_texts.specs.FoundTexts as texts
 use Rattle.found_texts.specs.Find.{IsLed, IsShortened, IsShown, Says, IsFindAnswer}
 use Rattle.found_texts.specs.declared.finding.Told.{Told}
@@ -74,18 +74,6 @@ answer_is search kept condition format number orders text ending kept_of searche
   whole = whole;
   says = says;
 }
-
-none_says : (format : Format) (kept : KeptParts) (complete : Bool) (image : ImageParts) (states : ℕ) → complete ≡ kept.complete
-    → image ≡ kept.image → states ≡ count kept
-    → absent format complete image states ≡ absent format kept.complete kept.image (count kept)
-none_says format kept complete image states complete_is image_is states_are = rw (complete_is, image_is, states_are) refl
-
--- that no state was found
-pub none_said : (format : Format) (kept : KeptParts) (complete : Bool) (image : ImageParts) (states : ℕ) (text : List ℕ)
-    → complete ≡ kept.complete → image ≡ kept.image → states ≡ count kept → text ≡ absent format complete image states
-    → text ≡ absent format kept.complete kept.image (count kept)
-none_said format kept complete image states text complete_is image_is states_are text_is =
-    text_is ∙ none_says format kept complete image states complete_is image_is states_are
 
 pub nowhere_complete : (complete : Bool) (ending : Ending) → ending ≡ absent_ending complete → ending ≡ Nowhere → complete ≡ true
 nowhere_complete true ending is none = refl

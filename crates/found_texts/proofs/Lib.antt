@@ -1,3 +1,5 @@
 pub mod RunLemmas
+pub mod ReplayLemmas
 pub mod FoundLemmas
 pub mod FindLemmas
+pub mod ReducedLemmas

@@ -1,17 +1,23 @@
 //! What is said where no kept state is one that was looked for.
 
-ghost use Rattle.std.specs.Prelude.{◌≡◌, ◌++◌, IfOk, OnOk, string_bytes};
+ghost use Rattle.std.specs.Prelude.{◌≡◌, ◌++◌, if◌then◌else◌, [], IfOk, OnOk, string_bytes};
 ghost use Rattle.serde_json.specs.View.{view as data_of};
 ghost use Rattle.serde_json.specs.Written.{compact_text};
 ghost use Rattle.found_texts.specs.FoundTexts.{
-  absent,
   absent_answer,
   absent_data,
   absent_joint,
   absent_line,
 };
+ghost use Rattle.found_texts.specs.ReducedTexts.{
+  reduced_absent_data,
+  reduced_line,
+  said_absent,
+  said_absent_data,
+};
 ghost use Rattle.report_lines.specs.Texts.{line};
 
+use crate::reduced::reduced_line;
 use cheri_model::{Image, NoMemory};
 use report_lines::{image_json, write_json_value};
 use serde_json::{Value, json};
@@ -32,19 +38,27 @@ fn absent_joint(complete: bool) -> &'static str
     if complete { "in" } else { "after" }
 }
 
-/// Appends the line.
+/// The lines.
 #[tactic(auto, unfolding(crate::specs::FoundTexts::absent_line))]
-fn write_line(out: &mut String, complete: bool, states: u32) -> Result<(), NoMemory>
-    ensures { OnOk result (string_bytes out.new
-        ≡ string_bytes out.old ++ absent_line complete states) }
+fn absent_lines(
+    alloc: Global,
+    reduced: bool,
+    complete: bool,
+    states: u32,
+) -> Result<String, NoMemory>
+    ensures { IfOk result (λ text. string_bytes text
+        ≡ (if reduced then reduced_line else []) ++ absent_line complete states) }
 {
     let (answer, joint) = (absent_answer(complete), absent_joint(complete));
-    writeln!(out, "{answer} {joint} {states} states")
+    let mut out = String::new(alloc);
+    out.push_str(reduced_line(reduced))?;
+    writeln!(out, "{answer} {joint} {states} states")?;
+    Ok(out)
 }
 
-/// The object.
+/// The object where nothing was forgotten.
 #[tactic(auto, unfolding(crate::specs::FoundTexts::absent_data))]
-fn absent_json(alloc: Global, complete: bool, image: &Image, states: u32) -> Result<Value, NoMemory>
+fn plain_json(alloc: Global, complete: bool, image: &Image, states: u32) -> Result<Value, NoMemory>
     ensures { IfOk result (λ v. data_of v ≡ absent_data complete image.now states) }
 {
     let answer = absent_answer(complete);
@@ -55,53 +69,76 @@ fn absent_json(alloc: Global, complete: bool, image: &Image, states: u32) -> Res
     })
 }
 
-/// Appends the object's line.
-#[tactic(auto, using(crate::proofs::FoundLemmas::absent_no_float))]
-fn write_json_line(
+/// The object where registers were forgotten.
+#[tactic(auto, unfolding(crate::specs::ReducedTexts::reduced_absent_data))]
+fn reduced_json(
     alloc: Global,
-    out: &mut String,
     complete: bool,
     image: &Image,
     states: u32,
-) -> Result<(), NoMemory>
-    ensures { OnOk result (string_bytes out.new ≡ string_bytes out.old
-        ++ line (compact_text (absent_data complete image.now states))) }
+) -> Result<Value, NoMemory>
+    ensures { IfOk result (λ v. data_of v ≡ reduced_absent_data complete image.now states) }
 {
-    write_json_value(alloc, out, absent_json(alloc, complete, image, states)?)?;
-    out.push_str("\n")
+    let answer = absent_answer(complete);
+    let version: u8 = 2;
+    let image = image_json(alloc, image)?;
+    let reduced = json!(in alloc; ["registers"])?;
+    json!(in alloc; {
+        "answer": answer, "explore": version, "image": image, "reduced": reduced, "states": states
+    })
 }
 
-/// Appends what is said.
-fn write_said(
+/// The object.
+fn absent_json(
     alloc: Global,
-    format: Format,
-    out: &mut String,
+    reduced: bool,
     complete: bool,
     image: &Image,
     states: u32,
-) -> Result<(), NoMemory>
-    ensures { OnOk result (string_bytes out.new
-        ≡ string_bytes out.old ++ absent format complete image.now states) }
+) -> Result<Value, NoMemory>
+    ensures { IfOk result (λ v. data_of v ≡ said_absent_data reduced complete image.now states) }
 {
-    match format {
-        Format::Text => write_line(out, complete, states),
-        Format::Json => write_json_line(alloc, out, complete, image, states),
+    if reduced {
+        reduced_json(alloc, complete, image, states)
+    } else {
+        plain_json(alloc, complete, image, states)
     }
 }
 
-/// That no state is one that was looked for, of so many states: of all, or of those that were
-/// kept. Fails only when out of memory.
-pub fn absent_text(
+/// The object's line.
+#[tactic(auto, using(crate::proofs::FoundLemmas::absent_no_float))]
+fn json_line(
     alloc: Global,
-    format: Format,
+    reduced: bool,
     complete: bool,
     image: &Image,
     states: u32,
 ) -> Result<String, NoMemory>
     ensures { IfOk result (λ text. string_bytes text
-        ≡ absent format complete image.now states) }
+        ≡ line (compact_text (said_absent_data reduced complete image.now states))) }
 {
+    let value = absent_json(alloc, reduced, complete, image, states)?;
     let mut out = String::new(alloc);
-    write_said(alloc, format, &mut out, complete, image, states)?;
+    write_json_value(alloc, &mut out, value)?;
+    out.push_str("\n")?;
     Ok(out)
+}
+
+/// That no state is one that was looked for, of so many states: of all, or of those that were
+/// kept; and that registers were forgotten, where they were. Fails only when out of memory.
+pub fn absent_text(
+    alloc: Global,
+    format: Format,
+    reduced: bool,
+    complete: bool,
+    image: &Image,
+    states: u32,
+) -> Result<String, NoMemory>
+    ensures { IfOk result (λ text. string_bytes text
+        ≡ said_absent reduced format complete image.now states) }
+{
+    match format {
+        Format::Text => absent_lines(alloc, reduced, complete, states),
+        Format::Json => json_line(alloc, reduced, complete, image, states),
+    }
 }

@@ -22,7 +22,8 @@ ghost use Rattle.found_texts.specs.Find.{
   IsShortened,
   Says,
 };
-ghost use Rattle.found_texts.specs.FoundTexts.{absent, absent_ending, found};
+ghost use Rattle.found_texts.specs.FoundTexts.{absent, absent_ending};
+ghost use Rattle.found_texts.specs.ReducedTexts.{said_absent, said_found};
 ghost use Rattle.shown_states.specs.declared.form.Ending.{Ending};
 ghost use Rattle.order_texts.specs.OrderTexts.{orders_of};
 ghost use Rattle.states.specs.Kept.{at, count, IsFirstPassing, IsKeptOf, IsWitnessOrder};
@@ -50,9 +51,9 @@ pub struct Told {
 
 /// An order, and the state that it leaves.
 #[derive(Drop)]
-struct Led {
-    order: Vec<Op>,
-    state: Loaded,
+pub(crate) struct Led {
+    pub(crate) order: Vec<Op>,
+    pub(crate) state: Loaded,
 }
 
 /// The witness of a kept state, and this state.
@@ -74,7 +75,7 @@ fn witnessed(alloc: Global, core: &Core, kept: &Kept, number: u32) -> Result<Led
 
 /// An order without steps that the condition doesn't need, and the state that it leaves, by the
 /// machine's own run; none where the condition doesn't hold there.
-fn shortened(
+pub(crate) fn shortened(
     alloc: Global,
     search: &Search<'_>,
     condition: &Condition,
@@ -140,6 +141,29 @@ fn absent_ending(complete: bool) -> Ending
 }
 
 /// That answer, which tells of no order.
+pub(crate) fn absent_told(
+    alloc: Global,
+    format: Format,
+    reduced: bool,
+    complete: bool,
+    image: &Image,
+    states: u32,
+) -> Result<Told, NoMemory>
+    ensures says { IfOk result (λ told. (orders_of told.orders.items ≡ [])
+        × (string_bytes told.answer.text ≡ said_absent reduced format complete image.now states)
+        × (told.answer.ending ≡ absent_ending complete)) }
+    ensures complete { IfOk result (λ told. told.answer.ending ≡ Ending.Nowhere
+        → complete ≡ true) }
+{
+    let text = absent_text(alloc, format, reduced, complete, image, states)?;
+    let ending = absent_ending(complete);
+    Ok(Told {
+        answer: Answer { text, ending },
+        orders: Vec::new(alloc),
+    })
+}
+
+/// The same of what a search kept.
 fn none_found(alloc: Global, format: Format, kept: &Kept) -> Result<Told, NoMemory>
     ensures says { IfOk result (λ told. (orders_of told.orders.items ≡ [])
         × (string_bytes told.answer.text
@@ -149,21 +173,30 @@ fn none_found(alloc: Global, format: Format, kept: &Kept) -> Result<Told, NoMemo
         → kept.now.complete ≡ true) }
 {
     let complete = kept.is_complete();
-    let text = absent_text(alloc, format, complete, kept.image(), kept.len())?;
-    let ending = absent_ending(complete);
-    Ok(Told {
-        answer: Answer { text, ending },
-        orders: Vec::new(alloc),
-    })
+    absent_told(alloc, format, false, complete, kept.image(), kept.len())
 }
 
 /// The answer that a state was found, which tells of the order that leads there.
-fn state_found(alloc: Global, format: Format, image: &Image, led: Led) -> Result<Told, NoMemory>
+pub(crate) fn found_told(
+    alloc: Global,
+    format: Format,
+    reduced: bool,
+    image: &Image,
+    led: Led,
+) -> Result<Told, NoMemory>
     ensures says { IfOk result (λ told. (orders_of told.orders.items ≡ led.order.items ∷ [])
-        × (string_bytes told.answer.text ≡ found format image.now led.order.items led.state)) }
+        × (string_bytes told.answer.text
+        ≡ said_found reduced format image.now led.order.items led.state)) }
     ensures done { IfOk result (λ told. told.answer.ending ≡ Ending.Done) }
 {
-    let text = found_text(alloc, format, image, led.order.as_slice(), &led.state)?;
+    let text = found_text(
+        alloc,
+        format,
+        reduced,
+        image,
+        led.order.as_slice(),
+        &led.state,
+    )?;
     let mut orders = Vec::new(alloc);
     orders.push(led.order)?;
     Ok(Told {
@@ -198,7 +231,7 @@ fn answer_of(
     match found.state {
         Some(number) => {
             let led = led_to(alloc, search, condition, core, &found.kept, number)?;
-            state_found(alloc, format, found.kept.image(), led)
+            found_told(alloc, format, false, found.kept.image(), led)
         }
         None => none_found(alloc, format, &found.kept),
     }

@@ -3,8 +3,13 @@
 
 mod absent;
 mod finding;
+mod reduced;
+mod reducing;
+mod replaying;
 mod running;
 mod shown;
 mod trimming;
 
 pub use finding::{Told, find, opened};
+pub use reduced::{reduced_line, reduced_version};
+pub use reducing::{find_state, keeps_all};

@@ -1,27 +1,32 @@
 //! What is said of a state that was found.
 
 ghost use Rattle.std.specs.Prelude.{◌≡◌, ◌++◌, IfOk, OnOk, string_bytes};
-ghost use Rattle.found_texts.specs.FoundTexts.{found, found_line};
 ghost use Rattle.found_texts.specs.FoundParts.{
   found_head,
   found_tail,
   image_members,
   json_head,
   order_member,
+  state_opening,
+  text_head,
 };
+ghost use Rattle.found_texts.specs.ReducedTexts.{said_found};
 ghost use Rattle.order_texts.specs.OrderTexts.{order_text};
 
+use crate::reduced::{reduced_line, reduced_version};
 use cheri_model::{Image, NoMemory, Op};
 use order_texts::write_order;
 use report_lines::{image_json, write_json_value};
 use shown_states::{Format, Loaded, write_json_string, write_state};
 use std::alloc::Global;
 
-/// Appends the line before the state.
+/// Appends the lines before the state.
 #[tactic(auto, unfolding(crate::specs::FoundTexts::found_line))]
-fn write_text_head(out: &mut String, order: &[Op]) -> Result<(), NoMemory>
-    ensures { OnOk result (string_bytes out.new ≡ string_bytes out.old ++ found_line order.now) }
+fn write_text_head(out: &mut String, reduced: bool, order: &[Op]) -> Result<(), NoMemory>
+    ensures { OnOk result (string_bytes out.new
+        ≡ string_bytes out.old ++ text_head reduced order.now) }
 {
+    out.push_str(reduced_line(reduced))?;
     out.push_str("found order=")?;
     write_order(out, order)?;
     out.push_str("\n")
@@ -29,11 +34,16 @@ fn write_text_head(out: &mut String, order: &[Op]) -> Result<(), NoMemory>
 
 /// Appends the members up to the image.
 #[tactic(auto, using(report_lines::proofs::JsonLemmas::floatless))]
-fn write_image_members(alloc: Global, out: &mut String, image: &Image) -> Result<(), NoMemory>
+fn write_image_members(
+    alloc: Global,
+    out: &mut String,
+    reduced: bool,
+    image: &Image,
+) -> Result<(), NoMemory>
     ensures { OnOk result (string_bytes out.new
-        ≡ string_bytes out.old ++ image_members image.now) }
+        ≡ string_bytes out.old ++ image_members reduced image.now) }
 {
-    let version: u8 = 1;
+    let version = reduced_version(reduced);
     write!(
         out,
         "{{\"answer\":\"found\",\"explore\":{version},\"image\":"
@@ -51,29 +61,41 @@ fn order_text(alloc: Global, order: &[Op]) -> Result<String, NoMemory>
     Ok(text)
 }
 
-/// Appends the member of the order, and the beginning of the state.
+/// Appends the member of the order.
 #[tactic(auto, unfolding(crate::specs::FoundParts::order_member))]
 fn write_order_member(alloc: Global, out: &mut String, order: &[Op]) -> Result<(), NoMemory>
     ensures { OnOk result (string_bytes out.new ≡ string_bytes out.old ++ order_member order.now) }
 {
     let text = order_text(alloc, order)?;
     out.push_str(",\"order\":")?;
-    write_json_string(alloc, out, text)?;
-    out.push_str(",\"state\":{")
+    write_json_string(alloc, out, text)
+}
+
+/// The member of what was forgotten, if anything was, and the beginning of the state.
+fn state_opening(reduced: bool) -> &'static str
+    ensures { result.now ≡ state_opening reduced }
+{
+    if reduced {
+        ",\"reduced\":[\"registers\"],\"state\":{"
+    } else {
+        ",\"state\":{"
+    }
 }
 
 /// Appends the members before the state, and its beginning.
 fn write_json_head(
     alloc: Global,
     out: &mut String,
+    reduced: bool,
     image: &Image,
     order: &[Op],
 ) -> Result<(), NoMemory>
     ensures { OnOk result (string_bytes out.new
-        ≡ string_bytes out.old ++ json_head image.now order.now) }
+        ≡ string_bytes out.old ++ json_head reduced image.now order.now) }
 {
-    write_image_members(alloc, out, image)?;
-    write_order_member(alloc, out, order)
+    write_image_members(alloc, out, reduced, image)?;
+    write_order_member(alloc, out, order)?;
+    out.push_str(state_opening(reduced))
 }
 
 /// Appends what stands before the state.
@@ -81,15 +103,16 @@ fn write_head(
     alloc: Global,
     format: Format,
     out: &mut String,
+    reduced: bool,
     image: &Image,
     order: &[Op],
 ) -> Result<(), NoMemory>
     ensures { OnOk result (string_bytes out.new
-        ≡ string_bytes out.old ++ found_head format image.now order.now) }
+        ≡ string_bytes out.old ++ found_head format reduced image.now order.now) }
 {
     match format {
-        Format::Text => write_text_head(out, order),
-        Format::Json => write_json_head(alloc, out, image, order),
+        Format::Text => write_text_head(out, reduced, order),
+        Format::Json => write_json_head(alloc, out, reduced, image, order),
     }
 }
 
@@ -103,19 +126,21 @@ fn tail(format: Format) -> &'static str
     }
 }
 
-/// The state that was found, and the order that leads to it. Fails only when out of memory.
+/// The state that was found, and the order that leads to it; and that registers were forgotten,
+/// where they were. Fails only when out of memory.
 pub fn found_text(
     alloc: Global,
     format: Format,
+    reduced: bool,
     image: &Image,
     order: &[Op],
     state: &Loaded,
 ) -> Result<String, NoMemory>
     ensures { IfOk result (λ text. string_bytes text
-        ≡ found format image.now order.now state.now) }
+        ≡ said_found reduced format image.now order.now state.now) }
 {
     let mut out = String::new(alloc);
-    write_head(alloc, format, &mut out, image, order)?;
+    write_head(alloc, format, &mut out, reduced, image, order)?;
     write_state(alloc, format, &mut out, state)?;
     out.push_str(tail(format))?;
     Ok(out)

@@ -2,6 +2,7 @@
 -- here reads before it writes them, but for what only serves to compute others.
 use Rattle.std.specs.Prelude.{◌≡◌, ℕ, ◌-◌, ◌/◌, ◌%◌, ◌==◌, nat_le, Bool, true, false, ◌&&◌}
 use Rattle.std.specs.Prelude.{if◌then◌else◌, List, All, slice_get, slice_index_or, Some, ◌⊎◌}
+use Rattle.std.specs.List.{list_any}
 use Rattle.cap_model.specs.values.CapValue.{tag_of}
 use Rattle.cap_model.specs.results.Addresses.{address_of}
 use Rattle.cheri_model.specs.declared.code.TheConstants.{INSTRUCTION_BYTES}
@@ -11,7 +12,7 @@ use Rattle.cheri_model.specs.instructions.Form.{form_of}
 use Rattle.cheri_model.specs.runs.Machine.{is_running}
 use Rattle.cheri_model.specs.steps.Checks.{code_base}
 use Rattle.cheri_model.specs.steps.Hart.{HartState}
-use Rattle.live_registers.specs.RegisterSets.{has, IsWithin, IsWithinBut, forgotten}
+use Rattle.live_registers.specs.RegisterSets.{has, lacks_any, IsWithin, IsWithinBut, forgotten}
 use Rattle.live_registers.specs.Operands.{reads, writes, only_computes, way_of, may_lead_to}
 
 -- the registers that a question looks at in any hart, and of each instruction those that matter
@@ -38,6 +39,10 @@ set_of live hart =
 -- the hart with each register that doesn't matter null
 unfoldable pub forgotten_hart : LiveSets → HartState → HartState
 forgotten_hart live hart = forgotten (set_of live hart) hart
+
+-- some register doesn't matter before some instruction
+unfoldable pub forgets_any : LiveSets → Bool
+forgets_any live = list_any lacks_any live.sets
 
 -- an instruction's register matters in no place behind it
 abbrev pub IsUnneeded : LiveSets → ℕ → Form → Type 0

@@ -1,7 +1,7 @@
 -- Sets of registers, and a hart that keeps those of a set.
 use Rattle.std.specs.Prelude.{◌≡◌, ◌≢◌, ℕ, ◌==◌, Bool, true, ◌||◌, if◌then◌else◌, List, map}
-use Rattle.std.specs.Prelude.{slice_index_or}
-use Rattle.std.specs.List.{enumerate_from}
+use Rattle.std.specs.Prelude.{false, slice_index_or, slice_set}
+use Rattle.std.specs.List.{enumerate_from, list_any}
 use Rattle.cap_model.specs.values.CapValue.{CapValue}
 use Rattle.cheri_model.specs.steps.Hart.{HartState, null}
 
@@ -9,6 +9,10 @@ use Rattle.cheri_model.specs.steps.Hart.{HartState, null}
 -- hart, is in each set, and so is a register of which the list says nothing.
 abbrev pub has : List Bool → ℕ → Bool
 has set reg = (reg == 0) || slice_index_or set reg true
+
+-- some register is not in the set, other than c0
+unfoldable pub lacks_any : List Bool → Bool
+lacks_any set = list_any (λ member. if member then false else true) (slice_set set 0 true)
 
 -- each register of the first set is in the second
 abbrev pub IsWithin : List Bool → List Bool → Type 0

@@ -2,7 +2,7 @@
 
 ghost use Rattle.std.specs.Prelude.{◌≡◌, ◌^◌, ◌≤◌, slice_index_or};
 ghost use Rattle.cheri_model.specs.steps.Actions.{address_of_target};
-ghost use Rattle.live_registers.specs.LiveSets.{forgotten_hart, set_at, set_of};
+ghost use Rattle.live_registers.specs.LiveSets.{forgets_any, forgotten_hart, set_at, set_of};
 
 use crate::register_set::RegisterSet;
 use cheri_model::{CODE_BASE, INSTRUCTION_BYTES, Status};
@@ -54,6 +54,15 @@ impl LiveRegisters {
         ensures { result ≡ set_at self.now (address_of_target number) }
     {
         self.set_at(CODE_BASE + INSTRUCTION_BYTES * number)
+    }
+
+    /// Whether some register doesn't matter before some instruction. Where none does, nothing is
+    /// ever forgotten.
+    #[tactic(auto, unfolding(crate::specs::LiveSets::forgets_any))]
+    pub fn forgets_any(&self) -> bool
+        ensures { result ≡ forgets_any self.now }
+    {
+        self.sets.iter().any(|set| set.lacks_any())
     }
 
     /// Those that matter to a hart.

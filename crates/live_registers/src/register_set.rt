@@ -1,7 +1,7 @@
 //! Sets of registers.
 
 ghost use Rattle.std.specs.Prelude.{◌≡◌, ℕ, ◌||◌, replicate, slice_set, true, false};
-ghost use Rattle.live_registers.specs.RegisterSets.{IsWithinBut, forgotten, has};
+ghost use Rattle.live_registers.specs.RegisterSets.{IsWithinBut, forgotten, has, lacks_any};
 
 use cap_ops::Cap;
 use cheri_model::Reg;
@@ -54,6 +54,16 @@ impl RegisterSet {
     {
         let number = reg.number();
         number == 0 || self.members[usize::from(number)]
+    }
+
+    /// Whether some register is not in the set, other than c0.
+    #[tactic(auto, unfolding(crate::specs::RegisterSets::lacks_any))]
+    pub(crate) fn lacks_any(&self) -> bool
+        ensures { result ≡ lacks_any self.now }
+    {
+        let mut members = self.members;
+        members[0] = true;
+        members.iter().any(|member| !*member)
     }
 
     /// The set with this register.

@@ -1,5 +1,5 @@
 -- What was found is an answer.
-use Rattle.std.proofs.Common.{◌≡◌, ℕ, List, length, Bool, true, refl, sym, ◌∙◌, subst}
+use Rattle.std.proofs.Common.{◌≡◌, ℕ, List, length, Bool, true, false, refl, sym, ◌∙◌, subst}
 use Rattle.cheri_model.specs.runs.Image.{ImageParts}
 use Rattle.cheri_model.specs.runs.Machine.{MachineState}
 use Rattle.cheri_model.specs.runs.Replay.{replayed_state}
@@ -10,7 +10,7 @@ use Rattle.outcomes.specs.Rows.{AreRows, values_at}
 use Rattle.outcomes.specs.declared.rows.Row.{Row}
 use Rattle.outcomes.proofs.OutcomeLemmas.{at_within}
 use Rattle.outcome_texts.specs.Answers.{IsSearched, IsListedAnswer, IsShownAnswer}
-use Rattle.outcome_texts.specs.OutcomeTexts.{listed, shown}
+use Rattle.outcome_texts.specs.OutcomeTexts.{shown}
 use Rattle.outcome_texts.specs.OutcomeParts.{listed_whole, shown_whole}
 use Rattle.outcome_texts.proofs.ListedLemmas.{listed_is, shown_is}
 use Rattle.outcome_texts.proofs.ToldLemmas.{all_below, all_rows_below}
@@ -87,10 +87,10 @@ listed_said search kept endless told numbers format outcomes complete image stat
 
 -- of lists as slices
 pub rows_distinct : (kept : KeptParts) (items shown : List Shown) (numbers outcomes : List ℕ) (rows : List Row) → shown ≡ items
-    → outcomes ≡ numbers → AreRows (values_at kept shown) outcomes rows → AreRows (values_at kept items) numbers rows
+    → outcomes ≡ numbers → AreRows (values_at (at kept) shown) outcomes rows → AreRows (values_at (at kept) items) numbers rows
 rows_distinct kept items shown numbers outcomes rows shown_is outcomes_are distinct =
-    subst (λ (ns : List ℕ). AreRows (values_at kept items) ns rows) outcomes_are
-    (subst (λ (i : List Shown). AreRows (values_at kept i) outcomes rows) shown_is distinct)
+    subst (λ (ns : List ℕ). AreRows (values_at (at kept) items) ns rows) outcomes_are
+    (subst (λ (i : List Shown). AreRows (values_at (at kept) i) outcomes rows) shown_is distinct)
 
 pub rows_known : (kept : KeptParts) (items shown : List Shown) (rows given : List Row) (told shown_rows : List ShownRow) → shown ≡ items
     → given ≡ rows → shown_rows ≡ told → AreRowsTold kept shown given told → AreRowsTold kept items rows shown_rows
@@ -100,13 +100,14 @@ rows_known kept items shown rows given told shown_rows shown_is given_are rows_a
     (subst (λ (i : List Shown). AreRowsTold kept i given told) shown_is known))
 
 pub shown_said : (search : SearchParts) (kept : KeptParts) (items : ItemList) (endless told : Endless) (numbers : List ℕ) (format : Format) (rows : List Row)
-    (shown_rows : List ShownRow) (complete : Bool) (image : ImageParts) (states outcomes : ℕ) (names : List (List ℕ))
-    → IsSearched search kept endless numbers → AreRows (values_at kept items.shown) numbers rows
-    → AreRowsTold kept items.shown rows shown_rows → complete ≡ kept.complete → image ≡ kept.image → states ≡ count kept → told ≡ endless
+    (shown_rows : List ShownRow) (reduced complete : Bool) (image : ImageParts) (states outcomes : ℕ) (names : List (List ℕ))
+    → IsSearched search kept endless numbers → AreRows (values_at (at kept) items.shown) numbers rows
+    → AreRowsTold kept items.shown rows shown_rows → reduced ≡ false → complete ≡ kept.complete → image ≡ kept.image → states ≡ count kept → told ≡ endless
     → outcomes ≡ length numbers → names ≡ items.names
     → IsShownAnswer search items format
-    (shown_whole format complete image states told outcomes names shown_rows) (ending_of kept.complete)
-shown_said search kept items endless told numbers format rows shown_rows complete image states outcomes names searched distinct rows_told
+    (shown_whole format reduced complete image states told outcomes names shown_rows) (ending_of kept.complete)
+shown_said search kept items endless told numbers format rows shown_rows reduced complete image states outcomes names searched distinct rows_told
+    nothing
     complete_is image_is states_are told_is outcomes_are names_are =
     record {
       kept = kept;
@@ -118,7 +119,7 @@ shown_said search kept items endless told numbers format rows shown_rows complet
       shown_rows = shown_rows;
       told = rows_told;
       text_is =
-          rw (complete_is, image_is, states_are, told_is, outcomes_are, names_are)
+          rw (nothing, complete_is, image_is, states_are, told_is, outcomes_are, names_are)
           (sym (shown_is format items.names kept endless (length numbers) shown_rows));
       ending_is = refl;
     }

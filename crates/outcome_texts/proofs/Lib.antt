@@ -1,5 +1,6 @@
 pub mod Unfold
 pub mod EndlessLemmas
+pub mod HeadLemmas
 pub mod ToldLemmas
 pub mod PartLemmas
 pub mod ListedLemmas

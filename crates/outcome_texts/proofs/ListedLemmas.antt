@@ -5,10 +5,13 @@ use Rattle.serde_json.proofs.OnLiterals.{serde_json_on_literals}
 use Rattle.serde_json.specs.Data.{Data, string, boolean, array, object, no_members, member}
 use Rattle.serde_json.specs.View.{items_of}
 use Rattle.serde_json.specs.Written.{comma_if, compact_text}
+use Rattle.cheri_model.specs.runs.Image.{ImageParts}
 use Rattle.cheri_model.specs.runs.Machine.{MachineState}
 use Rattle.outcome_texts.specs.EndlessTexts.{endless_data}
 use Rattle.outcome_texts.specs.OutcomeTexts.{head_lines, listed, listed_text, listed_data, kept_lines, kept_data, outcome_line, outcome_lines, outcome_data, shown, shown_text, shown_data, row_data}
 use Rattle.outcome_texts.specs.OutcomeParts.{complete_text, json_head, kept_part, listed_parts, listed_whole, outcome_part, outcome_before, outcome_after, shown_whole, shown_lines, shown_json}
+use Rattle.found_texts.specs.ReducedTexts.{reduced_data}
+use Rattle.outcome_texts.specs.ReducedTexts.{reduced_row_data, reduced_shown, reduced_shown_data, reduced_shown_text}
 use Rattle.outcome_texts.specs.declared.told.Outcome.{Outcome}
 use Rattle.outcome_texts.specs.declared.told.ShownRow.{ShownRow}
 use Rattle.report_lines.specs.EventData.{image_data}
@@ -100,7 +103,7 @@ rows_in_parts a complete b e c one d i f items g n = simp append_assoc
 
 pub shown_is : (format : Format) (names : List (List ℕ)) (kept : KeptParts) (endless : Endless) (outcomes : ℕ) (rows : List ShownRow)
     → shown format names kept endless outcomes rows
-    ≡ shown_whole format kept.complete kept.image (kept_states.count kept) endless outcomes names rows
+    ≡ shown_whole format false kept.complete kept.image (kept_states.count kept) endless outcomes names rows
 unfolding shown_text shown_data shown_lines shown_json json_head
 shown_is Text names kept endless outcomes rows = refl
 shown_is Json names kept endless outcomes rows =
@@ -112,3 +115,33 @@ shown_is Json names kept endless outcomes rows =
     ∙ rows_in_parts (codes "{\"complete\":") (complete_text kept.complete) (codes ",\"endless\":") (compact_text (endless_data endless))
     (codes ",\"explore\":") (decimal 1) (codes ",\"image\":") (compact_text (image_data kept.image)) (codes ",\"shown\":")
     (numbered (item_text (row_data names)) 0 rows) (codes ",\"states\":") (decimal (kept_states.count kept))
+
+-- ---- the same where registers were forgotten
+
+reduced_object : (complete : Bool) (e i a : Data) (n : ℕ)
+    → compact_text (object (member (codes "complete") (boolean complete) (member (codes "endless") e (member (codes "explore") (count 2)
+    (member (codes "image") i (member (codes "reduced") reduced_data (member (codes "shown") a (member (codes "states") (count n) no_members))))))))
+    ≡ codes "{\"complete\":" ++ (complete_text complete ++ (codes ",\"endless\":" ++ (compact_text e ++ (codes ",\"explore\":" ++ (decimal 2
+    ++ (codes ",\"image\":" ++ (compact_text i ++ (codes ",\"reduced\":[\"registers\"],\"shown\":" ++ (compact_text a
+    ++ (codes ",\"states\":" ++ (decimal n ++ codes "}")))))))))))
+unfolding serde_json_on_literals
+reduced_object true e i a n = refl
+reduced_object false e i a n = refl
+
+pub reduced_is : (format : Format) (names : List (List ℕ)) (complete : Bool) (image : ImageParts) (states : ℕ) (endless : Endless)
+    (outcomes : ℕ) (rows : List ShownRow)
+    → reduced_shown format names complete image states endless rows
+    ≡ shown_whole format true complete image states endless outcomes names rows
+unfolding reduced_shown_text reduced_shown_data shown_lines shown_json json_head
+reduced_is Text names complete image states endless outcomes rows = refl
+reduced_is Json names complete image states endless outcomes rows =
+    ap (λ (l : List ℕ). l ++ 10 ∷ []) (reduced_object complete (endless_data endless) (image_data image)
+    (array (items_of (map (reduced_row_data names) rows))) states
+    ∙ ap (λ (l : List ℕ). codes "{\"complete\":" ++ (complete_text complete ++ (codes ",\"endless\":" ++ (compact_text (endless_data endless)
+    ++ (codes ",\"explore\":" ++ (decimal 2 ++ (codes ",\"image\":" ++ (compact_text (image_data image)
+    ++ (codes ",\"reduced\":[\"registers\"],\"shown\":" ++ (l ++ (codes ",\"states\":" ++ (decimal states ++ codes "}"))))))))))))
+    (list_text (reduced_row_data names) rows))
+    ∙ rows_in_parts (codes "{\"complete\":") (complete_text complete) (codes ",\"endless\":") (compact_text (endless_data endless))
+    (codes ",\"explore\":") (decimal 2) (codes ",\"image\":") (compact_text (image_data image))
+    (codes ",\"reduced\":[\"registers\"],\"shown\":") (numbered (item_text (reduced_row_data names)) 0 rows) (codes ",\"states\":")
+    (decimal states)

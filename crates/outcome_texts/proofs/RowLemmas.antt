@@ -1,11 +1,12 @@
 -- What items hold, one more at a time.
-use Rattle.std.proofs.Common.{◌≡◌, ℕ, ◌+◌, ◌<◌, ◌≤◌, false, List, [], ◌∷◌, ◌++◌, length, drop, map, arith, refl, sym, ◌∙◌, append_assoc, append-nil, add-one, drop-cons, inl, inr, ◌⊎◌}
+use Rattle.std.proofs.Common.{◌≡◌, ℕ, ◌+◌, ◌<◌, ◌≤◌, Bool, false, true, List, [], ◌∷◌, ◌++◌, length, drop, map, arith, refl, sym, ◌∙◌, append_assoc, append-nil, add-one, drop-cons, inl, inr, ◌⊎◌}
 use Rattle.std.proofs.Math.ListN.{drop_of_length-le}
 use Rattle.std.proofs.lemmas.Bool.{cases_lt}
 use Rattle.std.specs.Prelude.{min, slice_index_or}
 use Rattle.serde_json.specs.Data.{Members, string, no_members, put}
 use Rattle.serde_json.specs.Written.{has_float, members_have_float}
 use Rattle.outcome_texts.specs.OutcomeTexts.{items_text, item_value_text, put_items, row_data}
+use Rattle.outcome_texts.specs.ReducedTexts.{reduced_row_data, said_row_data}
 use Rattle.outcome_texts.specs.OutcomeParts.{item_part}
 use Rattle.outcome_texts.specs.declared.told.ShownRow.{ShownRow}
 use Rattle.outcomes.specs.declared.items.ItemValue.{ItemValue}
@@ -20,9 +21,10 @@ items_no_float (name ∷ names) [] members none = none
 items_no_float (name ∷ names) (v ∷ values) members none =
     items_no_float names values (put name (string (item_value_text v)) members) (put_no_float name (string (item_value_text v)) members refl none)
 
-pub row_no_float : (names : List (List ℕ)) (row : ShownRow) → has_float (row_data names row) ≡ false
-unfolding row_data
-row_no_float names row = rw (items_no_float names row.values.items no_members refl) refl
+pub row_no_float : (reduced : Bool) (names : List (List ℕ)) (row : ShownRow) → has_float (said_row_data reduced names row) ≡ false
+unfolding row_data reduced_row_data
+row_no_float false names row = rw (items_no_float names row.values.items no_members refl) refl
+row_no_float true names row = rw (items_no_float names row.values.items no_members refl) refl
 
 -- the item at a place was written
 no_items : (names : List (List ℕ)) → items_text names [] ≡ []

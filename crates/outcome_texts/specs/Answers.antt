@@ -66,7 +66,7 @@ pub record IsShownAnswer (search : SearchParts) (items : ItemList) (format : For
   pub numbers : List ℕ
   pub searched : IsSearched search kept endless numbers
   pub rows : List Row
-  pub distinct : AreRows (values_at kept items.shown) numbers rows
+  pub distinct : AreRows (values_at (at kept) items.shown) numbers rows
   pub shown_rows : List ShownRow
   pub told : AreRowsTold kept items.shown rows shown_rows
   pub text_is : text ≡ shown format items.names kept endless (length numbers) shown_rows

@@ -1,5 +1,5 @@
 -- What is said of outcomes, in the parts in which it is written.
-use Rattle.std.specs.Prelude.{ℕ, Bool, if◌then◌else◌, nat_lt, List, ◌++◌, codes, decimal}
+use Rattle.std.specs.Prelude.{ℕ, Bool, false, if◌then◌else◌, nat_lt, List, ◌++◌, codes, decimal}
 use Rattle.std.specs.Prelude.{length}
 use Rattle.serde_json.specs.Data.{string}
 use Rattle.serde_json.specs.Written.{comma_if, compact_text}
@@ -7,7 +7,8 @@ use Rattle.cheri_model.specs.runs.Image.{ImageParts}
 use Rattle.cheri_model.specs.runs.Machine.{MachineState}
 use Rattle.outcome_texts.specs.EndlessTexts.{endless_data}
 use Rattle.outcome_texts.specs.OutcomeTexts.{head_lines, outcome_line, outcome_lines}
-use Rattle.outcome_texts.specs.OutcomeTexts.{outcome_data, item_value_text, row_line, row_data}
+use Rattle.outcome_texts.specs.OutcomeTexts.{outcome_data, item_value_text}
+use Rattle.outcome_texts.specs.ReducedTexts.{said_head_lines, said_row_line, said_row_data}
 use Rattle.outcome_texts.specs.declared.told.ShownRow.{ShownRow}
 use Rattle.outcomes.specs.declared.items.ItemValue.{ItemValue}
 use Rattle.outcome_texts.specs.Told.{kept_state}
@@ -24,11 +25,12 @@ abbrev pub complete_text : Bool → List ℕ
 complete_text complete = if complete then codes "true" else codes "false"
 
 -- the object's first part, up to the image
-unfoldable pub json_head : Bool → ImageParts → Endless → List ℕ
-json_head complete image endless =
+unfoldable pub json_head : Bool → Bool → ImageParts → Endless → List ℕ
+json_head reduced complete image endless =
     codes "{\"complete\":" +++ complete_text complete +++ codes ",\"endless\":"
-    +++ compact_text (endless_data endless) +++ codes ",\"explore\":" +++ decimal 1
-    +++ codes ",\"image\":" +++ compact_text (image_data image)
+    +++ compact_text (endless_data endless) +++ codes ",\"explore\":"
+    +++ decimal (if reduced then 2 else 1) +++ codes ",\"image\":"
+    +++ compact_text (image_data image)
 
 -- ---- outcomes as states
 
@@ -37,7 +39,7 @@ abbrev pub listed_head : Format → Bool → ImageParts → ℕ → Endless → 
 listed_head Text complete image states endless outcomes =
     head_lines complete image states endless outcomes
 listed_head Json complete image states endless outcomes =
-    json_head complete image endless ++ codes ",\"outcomes\":["
+    json_head false complete image endless ++ codes ",\"outcomes\":["
 
 -- what stands before an outcome's state, and what after it
 abbrev pub outcome_before : Format → ℕ → List ℕ → List ℕ
@@ -79,24 +81,34 @@ listed_whole format complete image states endless kept outcomes =
 abbrev pub item_part : List ℕ → ItemValue → List ℕ
 item_part name value = codes " " +++ name +++ codes "=" +++ item_value_text value
 
--- the whole text, and the whole line of JSON
-unfoldable pub shown_lines : Bool → ImageParts → ℕ → Endless → ℕ → List (List ℕ) → List ShownRow →
-    List ℕ
-shown_lines complete image states endless outcomes names rows =
-    head_lines complete image states endless outcomes
-    +++ line (codes "shown " +++ decimal (length rows)) +++ numbered (row_line names) 0 rows
-    +++ line (codes "end")
+-- what stands before a row's items, and before the rows in JSON
+abbrev pub row_opening : Bool → ℕ → ℕ → List ℕ
+row_opening reduced number states =
+    if reduced then decimal number else (decimal number ++ codes " states=" ++ decimal states)
 
-unfoldable pub shown_json : Bool → ImageParts → ℕ → Endless → List (List ℕ) → List ShownRow →
-    List ℕ
-shown_json complete image states endless names rows =
-    json_head complete image endless +++ codes ",\"shown\":["
-    +++ numbered (item_text (row_data names)) 0 rows
+abbrev pub shown_opening : Bool → List ℕ
+shown_opening reduced =
+    if reduced then codes ",\"reduced\":[\"registers\"],\"shown\":["
+    else codes ",\"shown\":["
+
+-- the whole text, and the whole line of JSON
+unfoldable pub shown_lines : Bool → Bool → ImageParts → ℕ → Endless → ℕ → List (List ℕ) →
+    List ShownRow → List ℕ
+shown_lines reduced complete image states endless outcomes names rows =
+    said_head_lines reduced complete image states endless outcomes
+    +++ line (codes "shown " +++ decimal (length rows))
+    +++ numbered (said_row_line reduced names) 0 rows +++ line (codes "end")
+
+unfoldable pub shown_json : Bool → Bool → ImageParts → ℕ → Endless → List (List ℕ) →
+    List ShownRow → List ℕ
+shown_json reduced complete image states endless names rows =
+    json_head reduced complete image endless +++ shown_opening reduced
+    +++ numbered (item_text (said_row_data reduced names)) 0 rows
     +++ codes "],\"states\":" +++ decimal states +++ codes "}\n"
 
-abbrev pub shown_whole : Format → Bool → ImageParts → ℕ → Endless → ℕ → List (List ℕ) →
+abbrev pub shown_whole : Format → Bool → Bool → ImageParts → ℕ → Endless → ℕ → List (List ℕ) →
     List ShownRow → List ℕ
-shown_whole Text complete image states endless outcomes names rows =
-    shown_lines complete image states endless outcomes names rows
-shown_whole Json complete image states endless outcomes names rows =
-    shown_json complete image states endless names rows
+shown_whole Text reduced complete image states endless outcomes names rows =
+    shown_lines reduced complete image states endless outcomes names rows
+shown_whole Json reduced complete image states endless outcomes names rows =
+    shown_json reduced complete image states endless names rows

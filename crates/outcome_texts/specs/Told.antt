@@ -37,7 +37,7 @@ AreOutcomesTold kept (n ∷ ns) (t ∷ ts) = IsOutcomeTold kept n t × AreOutcom
 pub record IsRowTold (kept : KeptParts) (shown : List Shown) (row : Row) (told : ShownRow)
     : Type 0 where
   pub states : told.states ≡ row.states
-  pub values : told.values.items ≡ values_at kept shown row.first
+  pub values : told.values.items ≡ values_at (at kept) shown row.first
   pub order : IsWitnessText kept row.first (string_bytes told.order)
 
 abbrev pub AreRowsTold : KeptParts → List Shown → List Row → List ShownRow → Type 0

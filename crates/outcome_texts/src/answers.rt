@@ -1,6 +1,6 @@
 //! The answers.
 
-ghost use Rattle.std.specs.Prelude.{◌≡◌, ◌+◌, IfOk, IfErr, string_bytes};
+ghost use Rattle.std.specs.Prelude.{◌≡◌, ◌+◌, IfOk, IfErr, false, string_bytes};
 ghost use Rattle.cheri_model.specs.runs.Machine.{opening_state};
 ghost use Rattle.conditions.specs.Items.{list_of};
 ghost use Rattle.outcome_texts.specs.Answers.{IsFound, IsListedAnswer, IsShownAnswer};
@@ -34,14 +34,16 @@ impl Searched {
     }
 }
 
-/// What an answer begins with.
+/// What an answer begins with: nothing was forgotten.
 fn head_of(searched: &Searched) -> Head<'_>
+    ensures reduced { result.reduced ≡ false }
     ensures image { result.image.now ≡ searched.now.kept.image }
     ensures complete { result.complete ≡ searched.now.kept.complete }
     ensures states { result.states ≡ count searched.now.kept }
     ensures endless { result.endless.now ≡ searched.now.endless }
 {
     Head {
+        reduced: false,
         image: searched.kept.image(),
         complete: searched.kept.is_complete(),
         states: searched.kept.len(),

@@ -10,3 +10,6 @@ mod shown;
 mod told;
 
 pub use answers::{list_outcomes, show_outcomes};
+pub use heads::Head;
+pub use shown::shown_text;
+pub use told::ShownRow;

@@ -1,7 +1,18 @@
 //! Outcomes as states.
 #![tactic(auto, unfolding(crate::proofs::Unfold::listed))]
 
-ghost use Rattle.std.specs.Prelude.{◌≡◌, ◌*◌, ◌<◌, ◌++◌, length, IfOk, OnOk, codes, string_bytes};
+ghost use Rattle.std.specs.Prelude.{
+  ◌≡◌,
+  ◌*◌,
+  ◌<◌,
+  ◌++◌,
+  false,
+  length,
+  IfOk,
+  OnOk,
+  codes,
+  string_bytes,
+};
 ghost use Rattle.outcome_texts.specs.OutcomeParts.{
   json_head,
   kept_part,
@@ -124,8 +135,9 @@ fn write_outcomes(
 
 /// Appends what stands before the outcomes in JSON.
 fn write_json_before(alloc: Global, out: &mut String, head: Head<'_>) -> Result<(), NoMemory>
+    requires { head.reduced ≡ false }
     ensures { OnOk result (string_bytes out.new ≡ string_bytes out.old
-        ++ (json_head head.entry.complete head.entry.image.now
+        ++ (json_head false head.entry.complete head.entry.image.now
         head.entry.endless.now ++ codes ",\"outcomes\":[")) }
 {
     write_json_head(alloc, out, head)?;
@@ -140,6 +152,7 @@ fn write_head(
     head: Head<'_>,
     outcomes: usize,
 ) -> Result<(), NoMemory>
+    requires { head.reduced ≡ false }
     ensures { OnOk result (string_bytes out.new ≡ string_bytes out.old
         ++ listed_head format head.entry.complete head.entry.image.now
         head.entry.states head.entry.endless.now outcomes) }
@@ -161,8 +174,8 @@ fn write_tail(format: Format, out: &mut String, states: u32) -> Result<(), NoMem
     }
 }
 
-/// Outcomes as states, each with its order. Each is loaded into `state`, which has as many harts
-/// and granules. Fails only when out of memory.
+/// Outcomes as states, each with its order, where no register was forgotten. Each is loaded into
+/// `state`, which has as many harts and granules. Fails only when out of memory.
 pub fn listed_text(
     alloc: Global,
     format: Format,
@@ -171,6 +184,7 @@ pub fn listed_text(
     kept: &Kept,
     outcomes: &[Outcome],
 ) -> Result<String, NoMemory>
+    requires whole { head.reduced ≡ false }
     requires there { AreOutcomesBelow (count kept.now) outcomes.now }
     requires harts { length state.old.harts ≡ length kept.now.image.harts }
     requires granules { 16 * length state.old.memory ≡ kept.now.image.ram }

@@ -4,19 +4,16 @@
 ghost use Rattle.std.specs.Prelude.{◌≡◌, ◌++◌, IfOk, OnOk, map, string_bytes};
 ghost use Rattle.serde_json.specs.Data.{no_members, object};
 ghost use Rattle.serde_json.specs.View.{view as data_of};
-ghost use Rattle.outcome_texts.specs.OutcomeTexts.{
-  item_value_text,
-  items_text,
-  put_items,
-  row_data,
-  row_line,
-};
+ghost use Rattle.outcome_texts.specs.OutcomeTexts.{item_value_text, items_text, put_items};
 ghost use Rattle.outcome_texts.specs.OutcomeParts.{
   item_part,
+  row_opening,
   shown_json,
   shown_lines,
+  shown_opening,
   shown_whole,
 };
+ghost use Rattle.outcome_texts.specs.ReducedTexts.{said_row_data, said_row_line};
 ghost use Rattle.report_lines.specs.JsonText.{item_text};
 ghost use Rattle.report_lines.specs.Texts.{numbered};
 
@@ -70,17 +67,35 @@ fn write_items(out: &mut String, names: &[&str], values: &[ItemValue]) -> Result
     Ok(())
 }
 
+/// Appends what stands before the items of a row: its number, and how many outcomes have it, where
+/// they are counted.
+fn write_opening(
+    out: &mut String,
+    reduced: bool,
+    number: usize,
+    states: usize,
+) -> Result<(), NoMemory>
+    ensures { OnOk result (string_bytes out.new ≡ string_bytes out.old
+        ++ row_opening reduced number states) }
+{
+    if reduced {
+        return write!(out, "{number}");
+    }
+    write!(out, "{number} states={states}")
+}
+
 /// Appends the line of a row, by its number.
 fn write_row(
     out: &mut String,
+    reduced: bool,
     names: &[&str],
     number: usize,
     row: &ShownRow,
 ) -> Result<(), NoMemory>
     ensures { OnOk result (string_bytes out.new ≡ string_bytes out.old
-        ++ row_line (map (λ name. name.now) names.now) number row.now) }
+        ++ said_row_line reduced (map (λ name. name.now) names.now) number row.now) }
 {
-    write!(out, "{number} states={}", row.states)?;
+    write_opening(out, reduced, number, row.states)?;
     write_items(out, names, row.values.as_slice())?;
     out.push_str(" order=")?;
     out.push_str(row.order.as_str())?;
@@ -88,12 +103,17 @@ fn write_row(
 }
 
 /// Appends the lines of rows.
-fn write_rows(out: &mut String, names: &[&str], rows: &[ShownRow]) -> Result<(), NoMemory>
+fn write_rows(
+    out: &mut String,
+    reduced: bool,
+    names: &[&str],
+    rows: &[ShownRow],
+) -> Result<(), NoMemory>
     ensures { OnOk result (string_bytes out.new ≡ string_bytes out.old
-        ++ numbered (row_line (map (λ name. name.now) names.now)) 0 rows.now) }
+        ++ numbered (said_row_line reduced (map (λ name. name.now) names.now)) 0 rows.now) }
 {
     for (number, row) in rows.iter().enumerate() {
-        write_row(out, names, number, row)?;
+        write_row(out, reduced, names, number, row)?;
     }
     Ok(())
 }
@@ -107,13 +127,13 @@ fn write_text(
     rows: &[ShownRow],
 ) -> Result<(), NoMemory>
     ensures { OnOk result (string_bytes out.new ≡ string_bytes out.old
-        ++ shown_lines head.entry.complete head.entry.image.now
+        ++ shown_lines head.entry.reduced head.entry.complete head.entry.image.now
         head.entry.states head.entry.endless.now outcomes
         (map (λ name. name.now) names.now) rows.now) }
 {
     write_head_lines(out, head, outcomes)?;
     writeln!(out, "shown {}", rows.len())?;
-    write_rows(out, names, rows)?;
+    write_rows(out, head.reduced, names, rows)?;
     out.push_str("end\n")
 }
 
@@ -138,13 +158,16 @@ fn items_json(alloc: Global, names: &[&str], values: &[ItemValue]) -> Result<Val
 }
 
 /// A row.
-fn row_json(alloc: Global, names: &[&str], row: &ShownRow) -> Result<Value, NoMemory>
+fn row_json(alloc: Global, reduced: bool, names: &[&str], row: &ShownRow) -> Result<Value, NoMemory>
     ensures { IfOk result (λ v. data_of v
-        ≡ row_data (map (λ name. name.now) names.now) row.now) }
+        ≡ said_row_data reduced (map (λ name. name.now) names.now) row.now) }
 {
     let values = items_json(alloc, names, row.values.as_slice())?;
-    let states = row.states;
     let order = row.order.clone()?;
+    if reduced {
+        return json!(in alloc; {"order": order, "values": values});
+    }
+    let states = row.states;
     json!(in alloc; {"order": order, "states": states, "values": values})
 }
 
@@ -152,31 +175,45 @@ fn row_json(alloc: Global, names: &[&str], row: &ShownRow) -> Result<Value, NoMe
 fn write_row_json(
     alloc: Global,
     out: &mut String,
+    reduced: bool,
     names: &[&str],
     number: usize,
     row: &ShownRow,
 ) -> Result<(), NoMemory>
     ensures { OnOk result (string_bytes out.new ≡ string_bytes out.old
-        ++ item_text (row_data (map (λ name. name.now) names.now)) number row.now) }
+        ++ item_text (said_row_data reduced (map (λ name. name.now) names.now)) number row.now) }
 {
     write_comma(out, number > 0)?;
-    write_json_value(alloc, out, row_json(alloc, names, row)?)
+    write_json_value(alloc, out, row_json(alloc, reduced, names, row)?)
 }
 
 /// Appends rows in JSON.
 fn write_rows_json(
     alloc: Global,
     out: &mut String,
+    reduced: bool,
     names: &[&str],
     rows: &[ShownRow],
 ) -> Result<(), NoMemory>
     ensures { OnOk result (string_bytes out.new ≡ string_bytes out.old
-        ++ numbered (item_text (row_data (map (λ name. name.now) names.now))) 0 rows.now) }
+        ++ numbered (item_text (said_row_data reduced (map (λ name. name.now) names.now))) 0
+        rows.now) }
 {
     for (number, row) in rows.iter().enumerate() {
-        write_row_json(alloc, out, names, number, row)?;
+        write_row_json(alloc, out, reduced, names, number, row)?;
     }
     Ok(())
+}
+
+/// The member of what was forgotten, if anything was, and the beginning of the rows.
+fn shown_opening(reduced: bool) -> &'static str
+    ensures { result.now ≡ shown_opening reduced }
+{
+    if reduced {
+        ",\"reduced\":[\"registers\"],\"shown\":["
+    } else {
+        ",\"shown\":["
+    }
 }
 
 /// Appends the object's line.
@@ -188,17 +225,18 @@ fn write_json(
     rows: &[ShownRow],
 ) -> Result<(), NoMemory>
     ensures { OnOk result (string_bytes out.new ≡ string_bytes out.old
-        ++ shown_json head.entry.complete head.entry.image.now
+        ++ shown_json head.entry.reduced head.entry.complete head.entry.image.now
         head.entry.states head.entry.endless.now
         (map (λ name. name.now) names.now) rows.now) }
 {
     write_json_head(alloc, out, head)?;
-    out.push_str(",\"shown\":[")?;
-    write_rows_json(alloc, out, names, rows)?;
+    out.push_str(shown_opening(head.reduced))?;
+    write_rows_json(alloc, out, head.reduced, names, rows)?;
     writeln!(out, "],\"states\":{}}}", head.states)
 }
 
-/// Outcomes as rows of values. Fails only when out of memory.
+/// Outcomes as rows of values; and that registers were forgotten, where they were. Fails only when
+/// out of memory.
 pub fn shown_text(
     alloc: Global,
     format: Format,
@@ -208,7 +246,7 @@ pub fn shown_text(
     rows: &[ShownRow],
 ) -> Result<String, NoMemory>
     ensures { IfOk result (λ text. string_bytes text
-        ≡ shown_whole format head.entry.complete head.entry.image.now
+        ≡ shown_whole format head.entry.reduced head.entry.complete head.entry.image.now
         head.entry.states head.entry.endless.now outcomes
         (map (λ name. name.now) names.now) rows.now) }
 {

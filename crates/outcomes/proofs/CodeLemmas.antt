@@ -1,7 +1,8 @@
 -- The numbers that stand for values are those of no other values.
 use Rattle.std.proofs.Common.{◌≡◌, ℕ, suc, ◌+◌, ◌*◌, ◌/◌, ◌%◌, ◌^◌, ◌<◌, ◌≤◌, List, [], ◌∷◌, ◌++◌, length, map, refl, sym, ap, ◌∙◌, arith, add-one, drop-cons, append_assoc, append-nil}
 use Rattle.std.proofs.Math.ListN.{drop_of_length-le}
-use Rattle.std.specs.Prelude.{slice_index_or, drop}
+use Rattle.std.specs.Prelude.{slice_index_or, drop, Option}
+use Rattle.cheri_model.specs.runs.Machine.{MachineState}
 use Rattle.std.proofs.lemmas.List.{length-map}
 use Rattle.conditions.specs.declared.parts.Shown.{Shown}
 use Rattle.outcomes.specs.declared.items.ItemValue.{ItemValue}
@@ -9,7 +10,6 @@ use Rattle.outcomes.specs.declared.items.ItemValue.TheVariants.{Number, Running,
 use Rattle.outcomes.specs.Items.{five, code_of, codes_of, value_of, values_of}
 use Rattle.outcomes.specs.Rows.{values_at}
 use Rattle.shown_states.specs.Meant.{state_meant}
-use Rattle.states.specs.Kept.{KeptParts, at}
 
 -- the number at a place of two lists that are the same
 at_place : (xs ys : List ℕ) (i : ℕ) → xs ≡ ys → slice_index_or xs i 0 ≡ slice_index_or ys i 0
@@ -63,11 +63,11 @@ codes_same (v ∷ vs) (w ∷ ws) even same =
     ap (λ (u : ItemValue). u ∷ vs) p.0 ∙ ap (λ (us : List ItemValue). w ∷ us) (codes_same vs ws (omega (arith, even)) p.1)
 
 -- rows of values with the same numbers are the same
-pub rows_same : (kept : KeptParts) (items : List Shown) (m n : ℕ) → codes_of (values_at kept items m) ≡ codes_of (values_at kept items n)
-    → values_at kept items m ≡ values_at kept items n
+pub rows_same : (at : ℕ → Option MachineState) (items : List Shown) (m n : ℕ)
+    → codes_of (values_at at items m) ≡ codes_of (values_at at items n) → values_at at items m ≡ values_at at items n
 unfolding values_at values_of
-rows_same kept items m n same = codes_same (values_at kept items m) (values_at kept items n)
-    (length-map items (value_of (state_meant (at kept m))) ∙ sym (length-map items (value_of (state_meant (at kept n))))) same
+rows_same at items m n same = codes_same (values_at at items m) (values_at at items n)
+    (length-map items (value_of (state_meant (at m))) ∙ sym (length-map items (value_of (state_meant (at n))))) same
 
 code_size : (v : ItemValue) (xs : List ℕ) → length (code_of v ++ xs) ≡ 5 + length xs
 unfolding code_of
@@ -82,11 +82,10 @@ codes_size [] = refl
 codes_size (v ∷ vs) = let more = codes_size vs in omega (arith, code_size v (codes_of vs), more)
 
 -- and they are as many
-pub row_size : (kept : KeptParts) (items : List Shown) (n : ℕ) → length (codes_of (values_at kept items n)) ≡ 5 * length items
+pub row_size : (at : ℕ → Option MachineState) (items : List Shown) (n : ℕ) → length (codes_of (values_at at items n)) ≡ 5 * length items
 unfolding values_at values_of
-row_size kept items n =
-    codes_size (map (value_of (state_meant (at kept n))) items)
-    ∙ ap (λ (k : ℕ). 5 * k) (length-map items (value_of (state_meant (at kept n))))
+row_size at items n =
+    codes_size (map (value_of (state_meant (at n))) items) ∙ ap (λ (k : ℕ). 5 * k) (length-map items (value_of (state_meant (at n))))
 
 -- the numbers of one value more
 pub code_more : (vs : List ItemValue) (i : ℕ) (d v : ItemValue) (before after all : List ℕ) → i < length vs → v ≡ slice_index_or vs i d

@@ -10,7 +10,7 @@ use Rattle.cheri_model.specs.steps.Hart.{HartState}
 use Rattle.cheri_model.specs.runs.Machine.{hart_at, is_running, no_hart}
 use Rattle.std.proofs.lemmas.Option.{none-some, slice_get_within, slice_get_past}
 use Rattle.cheri_model.specs.runs.Machine.{MachineState}
-use Rattle.outcomes.specs.Outcomes.{AreOutcomes, AreOutcomesBelow, is_final, is_stopped}
+use Rattle.outcomes.specs.Outcomes.{AreOutcomesBelow, is_final, is_stopped}
 use Rattle.states.specs.Graphs.{state_in}
 use Rattle.states.specs.Kept.{KeptParts, count, at, graph_of}
 use Rattle.outcomes.proofs.TableLemmas.{get_more, get_last}
@@ -108,24 +108,25 @@ at_within kept i s is = elim (cases_lt i (count kept)) [
       (slice_get_past kept.nodes i past)) ∙ is))
 ]
 
-pub finals_end : (kept : KeptParts) (end : ℕ) (xs : List ℕ) → end ≡ count kept → AreOutcomesBelow (at kept) end xs → AreOutcomes kept xs
-finals_end kept end xs is are = subst (λ (e : ℕ). AreOutcomesBelow (at kept) e xs) is are
+pub finals_end : (at : ℕ → Option MachineState) (count end : ℕ) (xs : List ℕ) → end ≡ count → AreOutcomesBelow at end xs
+    → AreOutcomesBelow at count xs
+finals_end at count end xs is are = subst (λ (e : ℕ). AreOutcomesBelow at e xs) is are
 
--- the state that was seen is the one that is kept
+-- the state that was seen is the one of the number
 pub meant_is : (there row : Option MachineState) (seen : MachineState) → there ≡ row → IsSome row
     → ((s : MachineState) → row ≡ Some s → seen ≡ s) → seen ≡ state_meant there
 meant_is there row seen same some is =
     let s = some_of row some in is s.0 s.1 ∙ sym (ap state_meant (same ∙ s.1))
 
 -- one state more was judged
-pub finals_judged : (kept : KeptParts) (number : ℕ) (seen : MachineState) (xs : List ℕ) → seen ≡ state_meant (at kept number)
-    → is_final seen ≡ true → AreOutcomesBelow (at kept) number xs → AreOutcomesBelow (at kept) (number + 1) (xs ++ number ∷ [])
-finals_judged kept number seen xs same final are =
-    finals_pushed (at kept) number xs are (λ s there. ap is_final (sym (same ∙ ap state_meant there)) ∙ final)
+pub finals_judged : (at : ℕ → Option MachineState) (number : ℕ) (seen : MachineState) (xs : List ℕ) → seen ≡ state_meant (at number)
+    → is_final seen ≡ true → AreOutcomesBelow at number xs → AreOutcomesBelow at (number + 1) (xs ++ number ∷ [])
+finals_judged at number seen xs same final are =
+    finals_pushed at number xs are (λ s there. ap is_final (sym (same ∙ ap state_meant there)) ∙ final)
 
-pub others_judged : (kept : KeptParts) (number : ℕ) (seen : MachineState) (xs : List ℕ) → seen ≡ state_meant (at kept number)
-    → is_final seen ≡ false → AreOutcomesBelow (at kept) number xs → AreOutcomesBelow (at kept) (number + 1) xs
-others_judged kept number seen xs same running are =
-    finals_same (at kept) number xs are (λ s there. ap is_final (sym (same ∙ ap state_meant there)) ∙ running)
+pub others_judged : (at : ℕ → Option MachineState) (number : ℕ) (seen : MachineState) (xs : List ℕ) → seen ≡ state_meant (at number)
+    → is_final seen ≡ false → AreOutcomesBelow at number xs → AreOutcomesBelow at (number + 1) xs
+others_judged at number seen xs same running are =
+    finals_same at number xs are (λ s there. ap is_final (sym (same ∙ ap state_meant there)) ∙ running)
 
 pub ruleset finals = (finals_none, finals_end, stopped_more, one_runs, all_stopped, finals_judged, others_judged, meant_is)

@@ -1,16 +1,17 @@
 -- The rows of values that outcomes show, and how many outcomes have each.
 use Rattle.std.specs.Prelude.{◌≡◌, ◌≢◌, ℕ, ◌+◌, ◌<◌, suc, List, [], ◌∷◌, ◌++◌, length, nat_lt}
-use Rattle.std.specs.Prelude.{slice_get, slice_index_or, slice_set, Some, ◌⊎◌, if◌then◌else◌}
+use Rattle.std.specs.Prelude.{slice_get, slice_index_or, slice_set, Option, Some, ◌⊎◌}
+use Rattle.std.specs.Prelude.{if◌then◌else◌}
+use Rattle.cheri_model.specs.runs.Machine.{MachineState}
 use Rattle.conditions.specs.declared.parts.Shown.{Shown}
 use Rattle.outcomes.specs.declared.items.ItemValue.{ItemValue}
 use Rattle.outcomes.specs.declared.rows.Row.{Row}
 use Rattle.outcomes.specs.Items.{values_of}
 use Rattle.shown_states.specs.Meant.{state_meant}
-use Rattle.states.specs.Kept.{KeptParts, at}
 
--- the row of values that items hold in the kept state of a number
-unfoldable pub values_at : KeptParts → List Shown → ℕ → List ItemValue
-values_at kept items number = values_of items (state_meant (at kept number))
+-- the row of values that items hold in the state of a number
+unfoldable pub values_at : (ℕ → Option MachineState) → List Shown → ℕ → List ItemValue
+values_at at items number = values_of items (state_meant (at number))
 
 -- just so many of a list are so
 abbrev pub IsCount : (ℕ → Type 0) → List ℕ → ℕ → Type 0

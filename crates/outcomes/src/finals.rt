@@ -3,13 +3,13 @@
 
 ghost use Rattle.std.specs.Prelude.{◌≡◌, ◌+◌, ◌<◌, not, IfOk, OnOk};
 ghost use Rattle.cheri_model.specs.runs.Machine.{is_running};
-ghost use Rattle.outcomes.specs.Outcomes.{is_final, AreOutcomes, AreOutcomesBelow};
-ghost use Rattle.states.specs.Kept.{at, count};
+ghost use Rattle.outcomes.specs.Outcomes.{is_final, AreOutcomesBelow};
 
+use crate::numbered::NumberedStates;
 use cheri_model::Status;
 use conditions::StateView;
 use shown_states::SeenState;
-use states::{Kept, Room};
+use states::Room;
 use std::alloc::{AllocError, Global};
 
 /// Whether a hart of this status does not run.
@@ -35,13 +35,17 @@ pub fn is_final<V: StateView>(view: &V) -> bool
 }
 
 /// Adds the next state to the outcomes of those before it, if no hart runs in it.
-fn judge(kept: &Kept, number: u32, numbers: &mut Vec<u32>) -> Result<(), AllocError>
-    requires there { number < count kept.now }
-    requires before { AreOutcomesBelow (at kept.now) number numbers.old.items }
-    ensures { OnOk result (AreOutcomesBelow (at kept.now) (number + 1) numbers.new.items) }
+fn judge<S: NumberedStates>(
+    states: &S,
+    number: u32,
+    numbers: &mut Vec<u32>,
+) -> Result<(), AllocError>
+    requires there { number < S.count states.now }
+    requires before { AreOutcomesBelow (S.at states.now) number numbers.old.items }
+    ensures { OnOk result (AreOutcomesBelow (S.at states.now) (number + 1) numbers.new.items) }
 {
     let mut room = Room::new();
-    let state = SeenState::new(kept.state(number, &mut room));
+    let state = SeenState::new(states.state(number, &mut room));
     if !is_final(&state) {
         return Ok(());
     }
@@ -49,13 +53,14 @@ fn judge(kept: &Kept, number: u32, numbers: &mut Vec<u32>) -> Result<(), AllocEr
     Ok(())
 }
 
-/// The numbers of the kept states in which no hart runs, ascending. Fails only when out of memory.
-pub fn outcomes_of(alloc: Global, kept: &Kept) -> Result<Vec<u32>, AllocError>
-    ensures { IfOk result (λ numbers. AreOutcomes kept.now numbers.items) }
+/// The numbers of the states in which no hart runs, ascending. Fails only when out of memory.
+pub fn outcomes_of<S: NumberedStates>(alloc: Global, states: &S) -> Result<Vec<u32>, AllocError>
+    ensures { IfOk result (λ numbers.
+        AreOutcomesBelow (S.at states.now) (S.count states.now) numbers.items) }
 {
     let mut numbers = Vec::new(alloc);
-    for number in 0..kept.len() {
-        judge(kept, number, &mut numbers)?;
+    for number in 0..states.len() {
+        judge(states, number, &mut numbers)?;
     }
     Ok(numbers)
 }

@@ -3,14 +3,22 @@
 
 ghost use Rattle.std.specs.Prelude.{◌≡◌, ◌++◌, ◌<◌, ◌^◌, OnOk, IfOk};
 ghost use Rattle.cheri_model.specs.runs.Machine.{hart_at};
-ghost use Rattle.outcomes.specs.Items.{above, code_of, digit, five, status_value, value_of};
+ghost use Rattle.outcomes.specs.Items.{
+  above,
+  code_of,
+  digit,
+  five,
+  status_value,
+  value_of,
+  values_of,
+};
 ghost use Rattle.outcomes.specs.Rows.{values_at};
-ghost use Rattle.states.specs.Kept.{count};
 
+use crate::numbered::NumberedStates;
 use cheri_model::Status;
 use conditions::{Shown, StateView};
 use shown_states::SeenState;
-use states::{Kept, Room};
+use states::Room;
 use std::alloc::{AllocError, Global};
 
 /// What an item holds in a state: a number, or the status of a hart, of a trap its cause.
@@ -93,21 +101,32 @@ fn value_of<V: StateView>(shown: Shown, view: &V) -> ItemValue
     }
 }
 
-/// What items hold in a kept state. Fails only when out of memory.
-pub fn values_of(
+/// What items hold in a state. Fails only when out of memory.
+pub fn values_in<V: StateView>(
     alloc: Global,
-    kept: &Kept,
+    shown: &[Shown],
+    view: &V,
+) -> Result<Vec<ItemValue>, AllocError>
+    ensures { IfOk result (λ values. values.items ≡ values_of shown.now (V.state view.now)) }
+{
+    let mut values = Vec::with_capacity(alloc, shown.len())?;
+    for item in shown {
+        values.push(value_of(*item, view))?;
+    }
+    Ok(values)
+}
+
+/// What items hold in the state of a number. Fails only when out of memory.
+pub fn values_of<S: NumberedStates>(
+    alloc: Global,
+    states: &S,
     shown: &[Shown],
     number: u32,
 ) -> Result<Vec<ItemValue>, AllocError>
-    requires { number < count kept.now }
-    ensures { IfOk result (λ values. values.items ≡ values_at kept.now shown.now number) }
+    requires { number < S.count states.now }
+    ensures { IfOk result (λ values. values.items ≡ values_at (S.at states.now) shown.now number) }
 {
     let mut room = Room::new();
-    let state = SeenState::new(kept.state(number, &mut room));
-    let mut values = Vec::with_capacity(alloc, shown.len())?;
-    for item in shown {
-        values.push(value_of(*item, &state))?;
-    }
-    Ok(values)
+    let state = SeenState::new(states.state(number, &mut room));
+    values_in(alloc, shown, &state)
 }

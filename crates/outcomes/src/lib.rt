@@ -1,11 +1,13 @@
-//! Outcomes: the states that a search kept in which no hart runs, and the rows of values that they
-//! show.
+//! Outcomes: of states that have numbers, as those that a search kept, the ones in which no hart runs,
+//! and the rows of values that they show.
 #![tactic(auto)]
 
 mod finals;
 mod items;
+mod numbered;
 mod rows;
 
 pub use finals::{is_final, outcomes_of};
-pub use items::{ItemValue, values_of};
+pub use items::{ItemValue, values_in, values_of};
+pub use numbered::NumberedStates;
 pub use rows::{Row, rows_of};

@@ -4,13 +4,12 @@ ghost use Rattle.std.specs.Prelude.{◌≡◌, ℕ, ◌*◌, ◌<◌, ◌≤◌,
 ghost use Rattle.outcomes.specs.Items.{codes_of};
 ghost use Rattle.outcomes.specs.declared.rows.Row.{Row};
 ghost use Rattle.outcomes.specs.Rows.{AreRows, counted, values_at};
-ghost use Rattle.outcomes.specs.Outcomes.{AreOutcomes};
-ghost use Rattle.states.specs.Kept.{count};
+ghost use Rattle.outcomes.specs.Outcomes.{AreOutcomesBelow};
 
 use crate::items::{ItemValue, values_of};
+use crate::numbered::NumberedStates;
 use conditions::Shown;
 use interner::Interner;
-use states::Kept;
 use std::alloc::{AllocError, Global};
 
 /// A row of values that outcomes have: the first outcome that has it, and how many do.
@@ -31,35 +30,35 @@ fn code_of(alloc: Global, values: &[ItemValue]) -> Result<Vec<u32>, AllocError>
     Ok(code)
 }
 
-/// The numbers that stand for the values of a kept state.
-fn row_code(
+/// The numbers that stand for the values of the state of a number.
+fn row_code<S: NumberedStates>(
     alloc: Global,
-    kept: &Kept,
+    states: &S,
     shown: &[Shown],
     number: u32,
 ) -> Result<Vec<u32>, AllocError>
-    requires { number < count kept.now }
+    requires { number < S.count states.now }
     ensures { IfOk result (λ code.
-        code.items ≡ codes_of (values_at kept.now shown.now number)) }
+        code.items ≡ codes_of (values_at (S.at states.now) shown.now number)) }
 {
-    let values = values_of(alloc, kept, shown, number)?;
+    let values = values_of(alloc, states, shown, number)?;
     code_of(alloc, values.as_slice())
 }
 
 /// How many numbers stand for the values of an outcome; 0 where there is none.
 #[tactic(auto, using(crate::proofs::CodeLemmas::row_size))]
-fn row_width(
+fn row_width<S: NumberedStates>(
     alloc: Global,
-    kept: &Kept,
+    states: &S,
     shown: &[Shown],
     outcomes: &[u32],
 ) -> Result<usize, AllocError>
-    requires { AreOutcomes kept.now outcomes.now }
+    requires { AreOutcomesBelow (S.at states.now) (S.count states.now) outcomes.now }
     ensures { IfOk result (λ width. 0 < length outcomes.now → width ≡ 5 * length shown.now) }
 {
     match outcomes.first() {
         Some(first) => {
-            let code = row_code(alloc, kept, shown, *first)?;
+            let code = row_code(alloc, states, shown, *first)?;
             Ok(code.as_slice().len())
         }
         None => Ok(0),
@@ -88,21 +87,21 @@ fn count(rows: &mut Vec<Row>, number: u32, outcome: u32, most: usize) -> Result<
 
 /// The distinct rows of values that items hold in outcomes, in the order of the first outcomes that
 /// have them. Fails only when out of memory, or of numbers past 2^32.
-pub fn rows_of(
+pub fn rows_of<S: NumberedStates>(
     alloc: Global,
-    kept: &Kept,
+    states: &S,
     shown: &[Shown],
     outcomes: &[u32],
 ) -> Result<Vec<Row>, AllocError>
-    requires outcomes { AreOutcomes kept.now outcomes.now }
+    requires outcomes { AreOutcomesBelow (S.at states.now) (S.count states.now) outcomes.now }
     ensures { IfOk result (λ rows.
-        AreRows (values_at kept.now shown.now) outcomes.now rows.items) }
+        AreRows (values_at (S.at states.now) shown.now) outcomes.now rows.items) }
 {
-    let width = row_width(alloc, kept, shown, outcomes)?;
+    let width = row_width(alloc, states, shown, outcomes)?;
     let mut codes = Interner::new(alloc, width);
     let mut rows = Vec::new(alloc);
     for outcome in outcomes {
-        let code = row_code(alloc, kept, shown, *outcome)?;
+        let code = row_code(alloc, states, shown, *outcome)?;
         let number = codes.insert(code.as_slice())?;
         // Its clause says that no two rows are the same.
         let _count = codes.len();

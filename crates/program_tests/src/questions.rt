@@ -33,6 +33,19 @@ c5 0 0000000000000000_0000000000000001
 end
 ";
 
+/// The state in which both have halted, by the registers that matter.
+const HALTED: &str = "\
+reduced registers
+found order=0011
+hart 0 halted
+pcc 1 0002000004038004_0000000010000004 0000000010000000 00000000010000008 00002 unsealed
+c5 0 0000000000000000_0000000000000001
+hart 1 halted
+pcc 1 0002000004038004_0000000010000004 0000000010000000 00000000010000008 00002 unsealed
+c5 0 0000000000000000_0000000000000001
+end
+";
+
 /// The state after a sweep of the code, in JSON.
 const SWEPT_JSON: &str = "\
 {\"answer\":\"found\",\"explore\":1,\"image\":{\"code\":2,\"harts\":2,\"ram\":16},\
@@ -222,7 +235,8 @@ fn questions_are_answered(rt: HostRuntime) -> Result<(), Fail> {
         "9",
         "--steps",
     ];
-    let rows: [(&[&str], &str, (u8, &str)); 7] = [
+    let halted = ["find", "listing", "0 is halted and 1 is halted"];
+    let rows: [(&[&str], &str, (u8, &str)); 9] = [
         (&["outcomes", "listing", "--steps"], COUNTING, (0, LISTED)),
         (&shown, ADDING, (0, ROWS)),
         (&found, COUNTING, (0, COUNTED)),
@@ -233,6 +247,12 @@ fn questions_are_answered(rt: HostRuntime) -> Result<(), Fail> {
             (5, "none in 9 states\n"),
         ),
         (&cut, COUNTING, (4, "unknown after 3 states\n")),
+        (&halted, COUNTING, (0, HALTED)),
+        (
+            &["find", "listing", "0.c6 = 2"],
+            COUNTING,
+            (5, "reduced registers\nnone in 1 states\n"),
+        ),
         (&["authority", "listing", "--steps"], COUNTING, (0, HELD)),
     ];
     for (words, listing, (status, answer)) in rows {

@@ -164,6 +164,7 @@ impl Draws {
     }
 
     /// The next operation: one of these sweeps, or a step of one of the harts that run.
+    #[inline(always)]
     pub fn choose(&mut self, sweeps: &[SweepRange], running: &[u8]) -> Op
         requires few { length sweeps.now ≤ MAX_SWEEPS }
         requires some { 0 < length running.now }

@@ -110,6 +110,7 @@ impl RunMemory {
     }
 
     /// Steps a hart in place, and says whether that changed memory.
+    #[inline(always)]
     pub fn step(&mut self, program: &[Instr], hart: &mut Hart) -> bool
         ensures hart { hart.new ≡ (hart_step program.now hart.old self.old.now).hart }
         ensures memory { self.new.now ≡ (hart_step program.now hart.old self.old.now).memory }

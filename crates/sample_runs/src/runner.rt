@@ -144,6 +144,7 @@ impl Runner {
     }
 
     /// Steps a hart, and tells it to what draws the operations after it.
+    #[inline(always)]
     fn step(&mut self, number: u8, draws: &mut Draws)
         requires hart { number < length self.old.harts }
         requires steps { steps_of draws.old.priorities < MAX_LENGTH }
@@ -171,6 +172,7 @@ impl Runner {
     }
 
     /// Takes an operation, and tells it to what draws those after it.
+    #[inline(always)]
     #[tactic(auto, unfolding(crate::proofs::Unfold::operation))]
     fn take(&mut self, op: Op, draws: &mut Draws)
         requires may { may_take (state_of self.old) op ≡ true }
@@ -186,7 +188,8 @@ impl Runner {
         }
     }
 
-    /// Takes the operation that is chosen next, unless no hart runs.
+    /// Takes the operation that is chosen next, unless no hart runs. Inlined into the loops of runs.
+    #[inline(always)]
     fn advance(&mut self, drawing: &Drawing, draws: &mut Draws) -> Option<Op>
         requires { steps_of draws.old.priorities < MAX_LENGTH }
         ensures image { self.new.image ≡ self.old.image }

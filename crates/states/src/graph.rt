@@ -187,7 +187,7 @@ impl MachineGraph {
     }
 
     /// The number of a hart at its rest.
-    fn number_hart(&mut self, hart: &Hart) -> Result<u32, AllocError>
+    pub fn number_hart(&mut self, hart: &Hart) -> Result<u32, AllocError>
         ensures continues { Continues self.old self.new }
         ensures numbered { IfOk result (λ id.
             hart_at self.new.store id ≡ Some (rests_in self.old hart.now)) }
@@ -282,8 +282,9 @@ impl MachineGraph {
         self.steps.keep(KnownStep { hart, value, after })
     }
 
-    /// Follows the edge of a label.
-    fn follow(&mut self, node: &[u32], label: u32, to: &mut [u32]) -> Result<bool, AllocError>
+    /// Follows the edge of a label, as the graph's `step` does. Its clauses also say that the graph
+    /// is of the same image, sweeps and sight, and that nothing gets another number.
+    pub fn follow(&mut self, node: &[u32], label: u32, to: &mut [u32]) -> Result<bool, AllocError>
         requires meant { IsSome (state_in self.old node.now) }
         requires labelled { label < length self.old.image.harts + length self.old.sweeps }
         requires room { length to.old ≡ length self.old.image.harts + 1 }

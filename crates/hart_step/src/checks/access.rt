@@ -69,6 +69,7 @@ fn stored_kind(kind: Access, stored: Option<Cap>) -> (bool, bool)
 }
 
 /// The table of the checks of an access.
+#[inline(always)]
 #[tactic(auto, unfolding(cheri_model::specs::steps::Checks::access_table))]
 fn table_verdict(
     auth: Cap,
@@ -97,7 +98,8 @@ fn table_verdict(
 
 /// The first check that fails of an access at `addr` through the register with the number `reg`,
 /// which holds `auth`. `stored` is the capability to be stored, which counts only where the access
-/// stores one. An access that passes fits the memory.
+/// stores one. An access that passes fits the memory. Inlined, since each caller has one kind.
+#[inline(always)]
 pub fn access_check(
     auth: Cap,
     reg: u8,

@@ -23,6 +23,7 @@ use cheri_model::form::{ImmediateOp, ShiftOp, UpperOp, WordShiftOp};
 use hart::Hart;
 
 /// What an instruction with a signed immediate asks for.
+#[inline(always)]
 pub fn immediate_action(op: ImmediateOp, cd: Reg, c1: Reg, imm: i16, hart: &Hart) -> Action
     ensures { action_of result ≡ action (immediate_instr op cd c1 imm) hart.now }
 {
@@ -41,6 +42,7 @@ pub fn immediate_action(op: ImmediateOp, cd: Reg, c1: Reg, imm: i16, hart: &Hart
 }
 
 /// What a shift by an amount asks for.
+#[inline(always)]
 pub fn shift_action(op: ShiftOp, cd: Reg, c1: Reg, amount: u8, hart: &Hart) -> Action
     ensures { action_of result ≡ action (shift_instr op cd c1 amount) hart.now }
 {
@@ -53,6 +55,7 @@ pub fn shift_action(op: ShiftOp, cd: Reg, c1: Reg, amount: u8, hart: &Hart) -> A
 }
 
 /// What a shift of 32 bits by an amount asks for.
+#[inline(always)]
 pub fn word_shift_action(op: WordShiftOp, cd: Reg, c1: Reg, amount: u8, hart: &Hart) -> Action
     ensures { action_of result ≡ action (word_shift_instr op cd c1 amount) hart.now }
 {
@@ -65,6 +68,7 @@ pub fn word_shift_action(op: WordShiftOp, cd: Reg, c1: Reg, amount: u8, hart: &H
 }
 
 /// What CSetBounds with an immediate asks for.
+#[inline(always)]
 pub fn set_bounds_action(cd: Reg, c1: Reg, len: u16, hart: &Hart) -> Action
     ensures { action_of result ≡ action (CSetBoundsImm cd c1 len) hart.now }
 {
@@ -72,6 +76,7 @@ pub fn set_bounds_action(cd: Reg, c1: Reg, len: u16, hart: &Hart) -> Action
 }
 
 /// What an instruction with an immediate for the upper bits asks for.
+#[inline(always)]
 pub fn upper_action(op: UpperOp, cd: Reg, imm: u32, hart: &Hart) -> Action
     ensures { action_of result ≡ action (upper_instr op cd imm) hart.now }
 {

@@ -22,6 +22,7 @@ pub fn address_of_target(target: Target) -> u64
 }
 
 /// What a branch asks for.
+#[inline(always)]
 pub fn branch_action(op: BranchOp, c1: Reg, c2: Reg, target: Target, hart: &Hart) -> Action
     ensures { action_of result ≡ action (branch_instr op c1 c2 target) hart.now }
 {
@@ -41,6 +42,7 @@ pub fn branch_action(op: BranchOp, c1: Reg, c2: Reg, target: Target, hart: &Hart
 }
 
 /// What CInvoke asks for.
+#[inline(always)]
 pub fn invoke_action(c1: Reg, c2: Reg, hart: &Hart) -> Action
     ensures { action_of result ≡ action (CInvoke c1 c2) hart.now }
 {

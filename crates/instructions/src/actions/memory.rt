@@ -21,6 +21,7 @@ pub fn even(addr: u64) -> u64
 }
 
 /// What a load, or CJALR, asks for.
+#[inline(always)]
 pub fn load_action(op: LoadOp, cd: Reg, c1: Reg, imm: i16, hart: &Hart) -> Action
     ensures { action_of result ≡ action (load_instr op cd c1 imm) hart.now }
 {
@@ -52,6 +53,7 @@ pub fn load_action(op: LoadOp, cd: Reg, c1: Reg, imm: i16, hart: &Hart) -> Actio
 }
 
 /// What a store asks for.
+#[inline(always)]
 pub fn store_action(op: StoreOp, c2: Reg, c1: Reg, imm: i16, hart: &Hart) -> Action
     ensures { action_of result ≡ action (store_instr op c2 c1 imm) hart.now }
 {
@@ -74,6 +76,7 @@ pub fn store_action(op: StoreOp, c2: Reg, c1: Reg, imm: i16, hart: &Hart) -> Act
 }
 
 /// What AMOSWAP.C asks for.
+#[inline(always)]
 pub fn swap_action(cd: Reg, c2: Reg, c1: Reg, hart: &Hart) -> Action
     ensures { action_of result ≡ action (AmoSwapC cd c2 c1) hart.now }
 {

@@ -45,6 +45,7 @@ pub fn put_truth(cd: Reg, holds: bool) -> Action
 }
 
 /// What an instruction on three registers asks for.
+#[inline(always)]
 pub fn three_action(op: ThreeOp, cd: Reg, c1: Reg, c2: Reg, hart: &Hart) -> Action
     ensures { action_of result ≡ action (three_instr op cd c1 c2) hart.now }
 {
@@ -82,6 +83,7 @@ pub fn three_action(op: ThreeOp, cd: Reg, c1: Reg, c2: Reg, hart: &Hart) -> Acti
 }
 
 /// What an instruction on two registers asks for.
+#[inline(always)]
 pub fn two_action(op: TwoOp, cd: Reg, c1: Reg, hart: &Hart) -> Action
     ensures { action_of result ≡ action (two_instr op cd c1) hart.now }
 {

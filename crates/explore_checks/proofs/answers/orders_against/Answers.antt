@@ -1,5 +1,5 @@
-use Rattle.std.proofs.Common.{ap, ◌++◌, ◌∙◌, refl}
-use Rattle.explore_checks.specs.Checks.{order_against, orders_against}
+use Rattle.std.proofs.Common.{ap, ◌++◌, ◌∙◌}
+use Rattle.explore_checks.specs.Checks.{order_against}
 use Rattle.explore_checks.proofs.OrderLemmas.{order_end, order_step}
 use Rattle.explore_verdicts.specs.declared.verdict.PropertyVerdict.{PropertyVerdict}
 use Rattle.order_texts.specs.OrderTexts.{orders_of}

@@ -1,4 +1,4 @@
-use Rattle.explore_checks.proofs.JsonLemmas.{property_no_float}
+use Rattle.explore_checks.proofs.TextLemmas.{property_no_float}
 use Rattle.explore_checks.proofs.json.write_property.Goals as goal
 
 pub write_json_value-requires : goal.write_json_value-requires

@@ -1,3 +1,4 @@
+use Rattle.explore_verdicts.specs.Verdicts.{IsStateVerdict}
 use Rattle.explore_verdicts.proofs.VerdictLemmas.{verdict_step}
 use Rattle.explore_verdicts.proofs.WatchLemmas.{claim_at}
 use Rattle.explore_verdicts.proofs.judging.judge_all.Goals as goal
@@ -11,6 +12,6 @@ judge_property-requires c = record {
 
 pub loop-property-preserved : goal.loop-property-preserved
 loop-property-preserved c =
-    verdict_step c.args.kept.now c.args.endless.now c.args.properties.now c.loop-property.property-index _ c.loop-property.verdicts.items _
+    verdict_step (IsStateVerdict c.args.kept.now) c.args.endless.now c.args.properties.now c.loop-property.property-index _ c.loop-property.verdicts.items _
     c.in_ok-judge_property.field-0 c.loop-property-test.true c.in_ok-push.ensures.items c.loop-property.invariant
     (rw c.property-item.is at c.in_ok-judge_property.ensures)

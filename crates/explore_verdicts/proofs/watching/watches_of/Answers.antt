@@ -1,4 +1,4 @@
-use Rattle.std.proofs.Common.{◌≡◌, ◌∙◌, ◌++◌, ap, sym}
+use Rattle.std.proofs.Common.{◌∙◌, ◌++◌, ap, sym}
 use Rattle.explore_properties.specs.Properties.{PropertyParts}
 use Rattle.explore_properties.specs.declared.claims.Claim.{Claim}
 use Rattle.explore_verdicts.specs.Deciding.{watch_of}

@@ -17,11 +17,11 @@ led_to-requires c =
 pub returns-in_ok-led-in-Some-clause-says : goal.returns-in_ok-led-in-Some-clause-says
 returns-in_ok-led-in-Some-clause-says c =
     found_answers c.args.search.now.every_step c.args.condition.now c.args.format c.args.found.now.kept c.args.found.now.state
-    c.in-Some.number _ _ _ c.state_found.result c.in-Some.is c.in_ok-led-in-Some.ensures c.image.ensures c.state_found.ensures.says
-    c.state_found.ensures.done
+    c.in-Some.number _ _ _ c.found_told.result c.in-Some.is c.in_ok-led-in-Some.ensures c.image.ensures c.found_told.ensures.says
+    c.found_told.ensures.done
 
 pub returns-in_ok-led-in-Some-clause-nowhere : goal.returns-in_ok-led-in-Some-clause-nowhere
-returns-in_ok-led-in-Some-clause-nowhere c = done_somewhere _ c.state_found.result c.state_found.ensures.done
+returns-in_ok-led-in-Some-clause-nowhere c = done_somewhere _ c.found_told.result c.found_told.ensures.done
 
 pub returns-in-None-clause-says : goal.returns-in-None-clause-says
 returns-in-None-clause-says c =

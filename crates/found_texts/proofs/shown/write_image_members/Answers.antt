@@ -5,5 +5,5 @@ use Rattle.found_texts.proofs.shown.write_image_members.Goals as goal
 pub returns : goal.returns
 unfolding image_members
 returns c =
-    let e = simp (c.in_ok-image_json.ensures, c.in_ok-write.ensures.bytes) at c.in_ok-write_json_value.ensures in
+    let e = simp (c.in_ok-image_json.ensures, c.in_ok-write.ensures.bytes, c.reduced_version-version.ensures) at c.in_ok-write_json_value.ensures in
     simp append_assoc at e

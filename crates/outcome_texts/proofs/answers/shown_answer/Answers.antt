@@ -24,11 +24,11 @@ returns c =
     let items = list_of c.args.items.now in
     let search = search_of c.args.search.now in
     said_as (IsShownAnswer search items c.args.format) _ _ _ (ending_of kept.complete)
-    (shown_said search kept items found.endless _ found.outcomes.items c.args.format c.in_ok-rows.rows.items c.as_slice-2.result.now _ _ _ _ _
+    (shown_said search kept items found.endless _ found.outcomes.items c.args.format c.in_ok-rows.rows.items c.as_slice-2.result.now _ _ _ _ _ _
     c.requires.found
     (rows_distinct kept _ _ _ _ _ c.as_slice-shown.ensures.value c.as_slice-outcomes.ensures.value c.in_ok-rows.ensures)
     (rows_known kept _ _ _ _ _ _ c.as_slice-shown.ensures.value c.as_slice.ensures.value c.as_slice-2.ensures.value c.in_ok-told.ensures)
-    c.head_of-head.ensures.complete c.head_of-head.ensures.image c.head_of-head.ensures.states c.head_of-head.ensures.endless
+    c.head_of-head.ensures.reduced c.head_of-head.ensures.complete c.head_of-head.ensures.image c.head_of-head.ensures.states c.head_of-head.ensures.endless
     (ap length c.as_slice-outcomes.ensures.value)
     (ap (map (λ name. name.now)) c.as_slice-names.ensures.value))
     c.in_ok-text.ensures c.ending-ending.ensures

@@ -15,6 +15,7 @@ unfolding json_head
 returns c =
     let e = simp (
       c.in_ok-write.ensures.bytes,
+      c.reduced_version-version.ensures,
       c.in_ok-write_json_value.ensures,
       c.in_ok-push_str-3.ensures.bytes,
       c.in_ok-push_str-2.ensures.bytes,

@@ -9,27 +9,34 @@ use Rattle.outcomes.proofs.TableLemmas.{interned_rows, number_within, rows_by, t
 use Rattle.outcomes.proofs.rows.rows_of.Goals as goal
 
 pub row_code-requires : goal.row_code-requires
-row_code-requires c =
+row_code-requires g c =
     let i = c.loop-outcome.outcome-index in
     (c.requires.outcomes.each i (slice_index_or c.args.outcomes.now i 0) (slice_get-get_or c.args.outcomes.now i 0 c.loop-outcome-test.true)).0
 
 pub insert-requires : goal.insert-requires
-insert-requires c =
+insert-requires g c =
     let i = c.loop-outcome.outcome-index in
     ap length c.as_slice.ensures.value
-    ∙ (ap length c.in_ok-code.ensures ∙ (row_size c.args.kept.now c.args.shown.now (slice_index_or c.args.outcomes.now i 0)
+    ∙ (ap length c.in_ok-code.ensures
+    ∙ (row_size (g.S.NumberedStates.at c.args.states.now) c.args.shown.now (slice_index_or c.args.outcomes.now i 0)
     ∙ sym (c.loop-outcome.invariant.width ∙ c.in_ok-width.ensures (omega (arith, c.loop-outcome-test.true)))))
 
 pub count-requires-clause-within : goal.count-requires-clause-within
-count-requires-clause-within c =
+count-requires-clause-within g c =
     number_within c.loop-outcome.codes c.insert.new.self c.as_slice.result.now c.in_ok-number.number (length c.loop-outcome.rows.items)
     c.in_ok-number.ensures.interned c.loop-outcome.invariant.table.even
 
+pub count-requires-clause-room : goal.count-requires-clause-room
+count-requires-clause-room g c k r at =
+    let code : ℕ → List ℕ = λ n. codes_of (values_at (g.S.NumberedStates.at c.args.states.now) c.args.shown.now n) in
+    row_room code c.args.outcomes.now c.loop-outcome.outcome-index k c.loop-outcome.codes.rows c.loop-outcome.rows.items r
+    c.loop-outcome-test.true c.loop-outcome.invariant.table at
+
 pub loop-outcome-preserved : goal.loop-outcome-preserved
-loop-outcome-preserved c =
+loop-outcome-preserved g c =
     let i = c.loop-outcome.outcome-index in
     let x = slice_index_or c.args.outcomes.now i 0 in
-    let code : ℕ → List ℕ = λ n. codes_of (values_at c.args.kept.now c.args.shown.now n) in
+    let code : ℕ → List ℕ = λ n. codes_of (values_at (g.S.NumberedStates.at c.args.states.now) c.args.shown.now n) in
     let same : c.as_slice.result.now ≡ code x = c.as_slice.ensures.value ∙ c.in_ok-code.ensures in
     let interned = subst (λ (row : List ℕ). IsInterned c.loop-outcome.codes c.insert.new.self row c.in_ok-number.number) same
     c.in_ok-number.ensures.interned in
@@ -44,15 +51,10 @@ loop-outcome-preserved c =
     }
 
 pub returns : goal.returns
-returns c =
-    let code : ℕ → List ℕ = λ n. codes_of (values_at c.args.kept.now c.args.shown.now n) in
-    rows_by (values_at c.args.kept.now c.args.shown.now) code c.args.outcomes.now c.loop-outcome.codes.rows c.loop-outcome.rows.items
-    (rows_same c.args.kept.now c.args.shown.now) (λ m n same. ap codes_of same)
+returns g c =
+    let at = g.S.NumberedStates.at c.args.states.now in
+    let code : ℕ → List ℕ = λ n. codes_of (values_at at c.args.shown.now n) in
+    rows_by (values_at at c.args.shown.now) code c.args.outcomes.now c.loop-outcome.codes.rows c.loop-outcome.rows.items
+    (rows_same at c.args.shown.now) (λ m n same. ap codes_of same)
     (table_end code c.args.outcomes.now c.loop-outcome.outcome-index c.loop-outcome.codes.rows c.loop-outcome.rows.items
     c.loop-outcome-test.false c.loop-outcome.invariant.table) c.loop-outcome.invariant.distinct
-
-pub count-requires-clause-room : goal.count-requires-clause-room
-count-requires-clause-room c k r at =
-    let code : ℕ → List ℕ = λ n. codes_of (values_at c.args.kept.now c.args.shown.now n) in
-    row_room code c.args.outcomes.now c.loop-outcome.outcome-index k c.loop-outcome.codes.rows c.loop-outcome.rows.items r
-    c.loop-outcome-test.true c.loop-outcome.invariant.table at

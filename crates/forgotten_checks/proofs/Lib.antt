@@ -1,0 +1,3 @@
+pub mod AskedLemmas
+pub mod VerdictLemmas
+pub mod CheckLemmas

@@ -1,0 +1,3 @@
+pub mod ForgetLemmas
+pub mod ToldLemmas
+pub mod AnswerLemmas

@@ -1,0 +1,6 @@
+pub mod KnownLemmas
+pub mod GraphLemmas
+pub mod RowLemmas
+pub mod NodeLemmas
+pub mod SoughtLemmas
+pub mod SurveyLemmas

@@ -1,0 +1,68 @@
+-- What a search for a state gives.
+use Rattle.std.proofs.Common.{◌≡◌, ℕ, ◌≤◌, List, length, ap, sym, ◌∙◌, subst, ◌⊎◌, arith}
+use Rattle.std.specs.Prelude.{Option, Some, None, Bool, true}
+use Rattle.cheri_model.specs.declared.operation.Op.{Op}
+use Rattle.cheri_model.specs.runs.Machine.{MachineState, opening_state}
+use Rattle.cheri_model.specs.runs.Replay.{is_legal, replayed_state}
+use Rattle.explore_sights.specs.declared.sights.Sight.{Sight}
+use Rattle.forgotten_turns.specs.ForgottenTurns.{PassesForgotten}
+use Rattle.graph_search.specs.Trees.{Found, edge_at}
+use Rattle.live_registers.specs.LiveSets.{LiveSets}
+use Rattle.states.specs.Searches.{SearchParts}
+use Rattle.forgotten_states.specs.Graphs.{ForgottenParts}
+use Rattle.forgotten_states.specs.Nodes.{AreNodes, IsFirstPassing, NonePassesBefore, at}
+use Rattle.forgotten_states.specs.Sought.{IsOrderTo, IsOrderToFirst, IsSoughtBy}
+
+-- no node comes before the first
+pub none_before : (nodes : ℕ → Option MachineState) (passing : MachineState → Bool) → NonePassesBefore nodes passing 0
+none_before nodes passing i s below there = absurd (omega arith)
+
+module _ (search : SearchParts) (sees : Sight) (live : LiveSets) (passing : MachineState → Bool) (g : ForgottenParts) (found : Found)
+    (limit : ℕ) (are : AreNodes search.image sees live g found limit) (within : limit ≤ search.limit) where
+  sought : (order : Option (List Op)) (count : ℕ) (complete : Bool) → count ≡ length found.nodes → complete ≡ found.complete →
+      IsOrderToFirst search.image sees live (at g found) passing order →
+      (order ≡ None → (found.complete ≡ true) ⊎ (limit ≡ search.limit)) →
+      IsSoughtBy search sees live passing order count complete
+  sought order count complete count_is complete_is first whole =
+      let made : IsSoughtBy search sees live passing order (length found.nodes) found.complete = record {
+        limit = limit;
+        at = at g found;
+        edge = edge_at found.edges;
+        within = within;
+        nodes = are.nodes;
+        first = first;
+        whole = whole;
+      } in
+      subst (λ (n : ℕ). IsSoughtBy search sees live passing order n complete) (sym count_is)
+      (subst (λ (b : Bool). IsSoughtBy search sees live passing order (length found.nodes) b) (sym complete_is) made)
+
+  pub sought_none : (count : ℕ) (complete : Bool) → count ≡ length found.nodes → complete ≡ found.complete →
+      IsFirstPassing (at g found) (length found.nodes) passing None →
+      (found.complete ≡ true) ⊎ (limit ≡ search.limit) →
+      IsSoughtBy search sees live passing None count complete
+  sought_none count complete count_is complete_is none whole =
+      sought None count complete count_is complete_is (λ i s there. none i s there) (λ same. whole)
+
+  pub sought_some : (number : ℕ) (order : List Op) (count : ℕ) (complete : Bool) → count ≡ length found.nodes →
+      complete ≡ found.complete → IsFirstPassing (at g found) (length found.nodes) passing (Some number) →
+      ((s : MachineState) → at g found number ≡ Some s → IsOrderTo search.image sees live s order) →
+      IsSoughtBy search sees live passing (Some order) count complete
+  sought_some number order count complete count_is complete_is first leads =
+      let meant = are.nodes.meant number first.0 in
+      sought (Some order) count complete count_is complete_is
+      (number, meant.0, meant.1, first.1 meant.0 meant.1, first.2, leads meant.0 meant.1) (λ same. absurd (cc))
+
+  -- the machine takes the order, and what it leaves passes
+  pub found_passes : PassesForgotten live passing → (number : ℕ) (order : List Op) →
+      IsFirstPassing (at g found) (length found.nodes) passing (Some number) →
+      ((s : MachineState) → at g found number ≡ Some s → IsOrderTo search.image sees live s order) →
+      (is_legal search.image (opening_state search.image) order ≡ true) × (passing (replayed_state search.image order) ≡ true)
+  found_passes same number order first leads =
+      let meant = are.nodes.meant number first.0 in
+      let to = leads meant.0 meant.1 in (
+        to.legal,
+        sym (same (replayed_state search.image order)) ∙ (ap passing to.leads ∙ first.1 meant.0 meant.1),
+      )
+
+  pub count_within : (count : ℕ) → count ≡ length found.nodes → count ≤ search.limit
+  count_within count is = let few = are.nodes.within in omega arith

@@ -1,0 +1,4 @@
+pub mod Graphs
+pub mod Nodes
+pub mod Sought
+pub mod Surveys

@@ -1,0 +1,15 @@
+//! Searches for a state, where each hart forgets the registers that don't matter to the question:
+//! states that differ in nothing else are one.
+#![tactic(auto)]
+
+mod graph;
+mod known;
+pub mod laws;
+mod nodes;
+mod seeking;
+mod surveying;
+mod surveys;
+
+pub use seeking::{Matters, Sought, seek};
+pub use surveying::survey;
+pub use surveys::{Looped, Survey};

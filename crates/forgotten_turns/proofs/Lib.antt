@@ -1,0 +1,4 @@
+pub mod ForgettingLemmas
+pub mod TurnLemmas
+pub mod OrderLemmas
+pub mod SightLemmas

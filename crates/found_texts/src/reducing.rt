@@ -1,0 +1,184 @@
+//! The search where harts forget the registers that don't matter to a condition, and its answer.
+
+ghost use Rattle.std.specs.Prelude.{
+  ◌≡◌,
+  string_bytes,
+  false,
+  true,
+  [],
+  IfOk,
+  IfSome,
+  None,
+  option_map,
+};
+ghost use Rattle.asked_registers.specs.Asked.{HasAsked, condition_asks};
+ghost use Rattle.cheri_model.specs.runs.Machine.{opening_state};
+ghost use Rattle.cheri_model.specs.runs.Replay.{is_legal, replayed_state};
+ghost use Rattle.conditions.specs.Holding.{holds};
+ghost use Rattle.found_texts.specs.Find.{IsNowhere, IsShortened};
+ghost use Rattle.found_texts.specs.Reduced.{
+  IsReducedAnswer,
+  IsStateAnswer,
+  SaysMet,
+  keeps_all,
+};
+ghost use Rattle.live_registers.specs.LiveSets.{IsRight};
+ghost use Rattle.order_texts.specs.OrderTexts.{orders_of};
+ghost use Rattle.schedules.specs.Schedules.{AreAllowed};
+ghost use Rattle.shown_states.specs.declared.form.Ending.{Ending};
+ghost use Rattle.states.specs.Searches.{IsSearchable, search_of};
+
+use crate::finding::{Led, Told, absent_told, find, found_told, opened, shortened};
+use crate::replaying::replayed;
+use asked_registers::with_nodes;
+use cheri_model::{Image, NoMemory, Op};
+use conditions::Condition;
+use explore_sights::Sight;
+use forgotten_states::{Matters, Sought, seek};
+use graph_search::Progress;
+use live_registers::{LiveRegisters, RegisterSet};
+use shown_states::{ConditionTest, Format};
+use states::Search;
+use std::alloc::Global;
+
+/// What leads to a state in which the condition holds, where this order does: the order without
+/// steps that the condition doesn't need.
+fn met(
+    alloc: Global,
+    search: &Search<'_>,
+    condition: &Condition,
+    order: Vec<Op>,
+) -> Result<Led, NoMemory>
+    requires unswept { search.now.sweeps.now ≡ [] }
+    requires allowed { AreAllowed [] order.items }
+    requires legal { is_legal search.now.image.now (opening_state search.now.image.now) order.items
+        ≡ true }
+    requires passing { holds (replayed_state search.now.image.now order.items) condition.now
+        ≡ true }
+    ensures { IfOk result (λ led. IsShortened search.now.image.now condition.now
+        search.now.sweeps.now led.order.items led.state) }
+{
+    if let Some(led) = shortened(alloc, search, condition, order.as_slice())? {
+        return Ok(led);
+    }
+    let state = replayed(alloc, search.image, order.as_slice())?;
+    Ok(Led { order, state })
+}
+
+/// The answer that a search gave.
+fn sought_told(
+    alloc: Global,
+    search: &Search<'_>,
+    condition: &Condition,
+    format: Format,
+    sought: Sought,
+) -> Result<Told, NoMemory>
+    requires unswept { search.now.sweeps.now ≡ [] }
+    requires met { IfSome sought.order (λ order. AreAllowed [] order.items
+        × (is_legal search.now.image.now (opening_state search.now.image.now) order.items ≡ true)
+        × (holds (replayed_state search.now.image.now order.items) condition.now ≡ true)) }
+    ensures says { IfOk result (λ told. SaysMet (search_of search.now) condition.now format
+        (option_map (λ order. order.items) sought.order) sought.count sought.complete
+        (orders_of told.orders.items) (string_bytes told.answer.text) told.answer.ending) }
+    ensures nowhere { IfOk result (λ told. told.answer.ending ≡ Ending.Nowhere
+        → (sought.order ≡ None) × (sought.complete ≡ true)) }
+{
+    match sought.order {
+        Some(order) => {
+            let led = met(alloc, search, condition, order)?;
+            found_told(alloc, format, true, search.image, led)
+        }
+        None => absent_told(
+            alloc,
+            format,
+            true,
+            sought.complete,
+            search.image,
+            sought.count,
+        ),
+    }
+}
+
+/// As `find`, where states are told apart only by the registers that matter: to the program, and to
+/// the condition.
+fn find_reduced<P: Progress>(
+    alloc: Global,
+    search: &Search<'_>,
+    condition: &Condition,
+    live: &LiveRegisters,
+    format: Format,
+    progress: &mut P,
+) -> Result<Told, NoMemory>
+    requires search { IsSearchable (search_of search.now) }
+    requires turns { search.now.every_step ≡ false }
+    requires unswept { search.now.sweeps.now ≡ [] }
+    requires right { IsRight search.now.image.now.program live.now }
+    requires asked { HasAsked live.now.asked (condition_asks condition.now) }
+    ensures says { IfOk result (λ told. IsReducedAnswer (search_of search.now) condition.now
+        live.now format (orders_of told.orders.items) (string_bytes told.answer.text)
+        told.answer.ending) }
+    ensures nowhere { IfOk result (λ told. told.answer.ending ≡ Ending.Nowhere
+        → IsNowhere (search_of search.now) condition.now) }
+{
+    let core = opened(alloc, search.image)?;
+    let seen = condition.copy(alloc)?;
+    let sees = Sight::Condition(seen);
+    let matters = Matters { sees: &sees, live };
+    let test = ConditionTest { condition };
+    let sought = seek(alloc, search, matters, &core, &test, progress)?;
+    sought_told(alloc, search, condition, format, sought)
+}
+
+/// The registers that matter to a program of an image, where a condition is asked for.
+fn live_for(alloc: Global, image: &Image, condition: &Condition) -> Result<LiveRegisters, NoMemory>
+    ensures right { IfOk result (λ live. IsRight image.now.program live) }
+    ensures asked { IfOk result (λ live. HasAsked live.asked (condition_asks condition.now)) }
+{
+    let nodes = condition.nodes(alloc)?;
+    let asked = with_nodes(RegisterSet::none(), nodes.as_slice());
+    LiveRegisters::guess(alloc, image.program(), asked)
+}
+
+/// Whether states are told apart by all registers. Where every step is asked for, nothing is left
+/// out; and whether a sweep changes a hart depends on registers that otherwise don't matter.
+pub fn keeps_all(keeps: bool, search: &Search<'_>) -> bool
+    ensures { result ≡ keeps_all keeps (search_of search.now) }
+{
+    if keeps {
+        return true;
+    }
+    if search.every_step {
+        return true;
+    }
+    !search.sweeps.is_empty()
+}
+
+/// Searches the states that an image reaches for one in which a condition holds, as `find`. States
+/// that differ only in registers which no longer matter count as one, if all are not to be kept and
+/// the search allows it; the answer says so where it is done. Fails only when out of memory, or of
+/// numbers past 2^32.
+pub fn find_state<P: Progress>(
+    alloc: Global,
+    search: &Search<'_>,
+    condition: &Condition,
+    keeps_registers: bool,
+    format: Format,
+    progress: &mut P,
+) -> Result<Told, NoMemory>
+    requires { IsSearchable (search_of search.now) }
+    ensures says { IfOk result (λ told. IsStateAnswer keeps_registers (search_of search.now)
+        condition.now format (orders_of told.orders.items) (string_bytes told.answer.text)
+        told.answer.ending) }
+    ensures nowhere { IfOk result (λ told. told.answer.ending ≡ Ending.Nowhere
+        → IsNowhere (search_of search.now) condition.now) }
+{
+    if keeps_all(keeps_registers, search) {
+        return find(alloc, search, condition, format, progress);
+    }
+    let live = live_for(alloc, search.image, condition)?;
+    if live.forgets_any() {
+        find_reduced(alloc, search, condition, &live, format, progress)
+    } else {
+        find(alloc, search, condition, format, progress)
+    }
+}
