@@ -43,6 +43,10 @@ const found = (() => {
       : element("p", { class: "cut" }, `Unknown after ${states(count)}: the search was cut at its limit. ${rest}`);
   }
 
+  /** What states are told apart without, where it is less than all that they hold. */
+  const reducedWords = ({ reduced = [] }) => (reduced.includes("registers")
+    ? paragraph("States that differ only in registers which nobody reads again count as one.") : null);
+
   const ENDLESS = {
     no: "Every run ends.",
     unfair: "A run goes on for ever only where a hart that runs is never let on.",
@@ -120,15 +124,16 @@ const found = (() => {
     ];
   }
 
-  /** The rows of values that the items have at the ends. */
+  /** The rows of values that the items have at the ends; these are counted where each is told apart from the others. */
   function rowsOf({ shown, count, endless, ...search }, items) {
+    const isCounted = !search.reduced;
     const rows = shown.map(({ states: ends, values: told, order }, number) => row({}, [String(number)],
-      cell("ends", plural(ends, "end")), ...items.map((item) => cell("value", element("code", {}, told[item]))),
-      ...orderCells(order, `row ${number}`)));
+      ...(isCounted ? [cell("ends", plural(ends, "end"))] : []),
+      ...items.map((item) => cell("value", element("code", {}, told[item]))), ...orderCells(order, `row ${number}`)));
     return [
-      reachWords(search, "There may be more rows than these."), endlessWords(endless),
+      reachWords(search, "There may be more rows than these."), reducedWords(search), endlessWords(endless),
       rows.length > 0 && tableOf(`${plural(count, "row")} of values at the ends, each with the first end's order`,
-        ["Row", "Ends", ...items, "Order", "Open"], rows),
+        ["Row", ...(isCounted ? ["Ends"] : []), ...items, "Order", "Open"], rows),
       moreWords(count, rows.length),
     ];
   }
@@ -136,14 +141,14 @@ const found = (() => {
   // ------------------------------------------------------------------ states and properties
 
   /** A state in which a condition holds, or that there is none. */
-  function state({ answer, order, states: count }) {
+  function state({ answer, order, states: count, ...search }) {
     if (answer === "found") {
       return [paragraph("Found: it holds after ", element("code", { title: order }, orderWords(order)), " ",
         buttonOf(order, "it leads to a state in which the condition holds"))];
     }
     return [answer === "none" ? paragraph(`None in ${states(count)}: it holds in no state that any order leads to.`)
       : element("p", { class: "cut" }, `Unknown after ${states(count)}: it holds in none of these, and there are more. `
-        + "Take a higher limit.")];
+        + "Take a higher limit."), reducedWords(search)];
   }
 
   const MARKS = { holds: "\u2713", violated: "\u2717", unknown: "?" };
@@ -157,7 +162,7 @@ const found = (() => {
         cell("property", element("code", {}, property)), ...orderCells(whole, `line ${line}, ${answer}`));
     });
     return [
-      reachWords(search, "What is not decided by then stays unknown."),
+      reachWords(search, "What is not decided by then stays unknown."), reducedWords(search),
       tableOf("The properties of the listing, each with the order that decides it",
         ["Line", "Answer", "Property", "Order", "Open"], rows),
     ];

@@ -10,8 +10,8 @@ const MOST_MS = 300;
 const MOST_SEARCH_MS = 3000;
 const MOST_TRIES = 5;
 
-/** A hart that counts without end: each count is a state. */
-const COUNTING = `${HEAD}again:\nlb c7, 0(c5)\naddi c6, c6, 1\ncjal c0, again\n`;
+/** A hart that counts without end, and looks at the count: each is a state. */
+const COUNTING = `${HEAD}again:\nlb c7, 0(c5)\naddi c6, c6, 1\nbne c6, c0, again\necall\n`;
 
 const submit = (one, form) => one.ask((form) => document.querySelector(`#${form} button`).click(), form);
 const doingOf = (one) => textOf(one, "every-doing");
@@ -60,12 +60,17 @@ async function checkEnds(one, say) {
   await enter(one, "every-items", "mem8[0x80000000], 0.status");
   await asked(one, "every-outcomes");
   const shown = await rowsOf(one);
-  say("items have their values, with how many ends have them", shown.length === 2
-    && shown[0].join("|") === "0|2 ends|0x2|halted|00001111|Open this order", shown);
+  say("items have their values", shown.length === 2 && shown[0].join("|") === "0|0x2|halted|00001111|Open this order", shown);
   await enter(one, "every-items", "0.c6,nothing");
   const fault = await asked(one, "every-outcomes");
   const marked = await one.ask(() => document.querySelector("#every-answer mark")?.textContent);
   say("an item that is none is marked", fault.includes("bad place at byte 5") && marked === "nothing", [fault, marked]);
+  await openOver(one, "spin_lock");
+  await enter(one, "every-items", "mem8[0x80000010]");
+  const counted = await asked(one, "every-outcomes");
+  const kept = await rowsOf(one);
+  say("tries that are counted, and never looked at, make no states", counted.includes("All 16 states")
+    && kept.join() === "0,0x2,0100000001111111,Open this order", [counted, kept]);
   await enter(one, "every-items", "");
 }
 
@@ -90,7 +95,8 @@ async function checkFound(one, say) {
   say("another text makes an answer old", (await textOf(one, "every-stale")).includes("ask again")
     && await one.ask(() => document.querySelector("#every-answer [data-order]").disabled));
   const none = await asked(one, "every-find");
-  say("that there is none is said", none.startsWith("None in 25 states") && await textOf(one, "every-stale") === "", none);
+  say("that there is none is said", none.startsWith("None in 16 states") && none.includes("count as one")
+    && await textOf(one, "every-stale") === "", none);
   await enter(one, "every-condition", "two harts in enter..nowhere");
   const fault = await asked(one, "every-find");
   const marked = await one.ask(() => document.querySelector("#every-answer mark")?.textContent);
@@ -103,7 +109,7 @@ async function checkProperties(one, say) {
   const words = await asked(one, "every-check");
   const rows = await rowsOf(one);
   say("each property has its answer", rows.map(([line, answer]) => `${line} ${answer.slice(2)}`).join()
-    === "26 violated,27 holds,28 violated,29 holds" && words.includes("62 states"), rows);
+    === "26 violated,27 holds,28 violated,29 holds" && words.includes("50 states"), rows);
   await openRow(one, 2);
   say("the order that violates one is opened", await valueOf(one, "order") === "0011000111000111",
     await valueOf(one, "order"));

@@ -49,7 +49,7 @@ function checkOutcomes(machine) {
 }
 
 function checkProperties(machine) {
-  const files = named(/^\w+\.kept\.check$/);
+  const files = named(/^\w+\.check$/);
   const wrong = files.filter(([name, told]) => {
     const found = JSON.parse(machine.verdicts(listingOf(name), LIMIT).text);
     const lines = [statesLine(found), ...found.properties.map(propertyLine)];
@@ -103,11 +103,9 @@ function checkBytes(machine, explore) {
     for (const states of [CUT, 2000]) {
       const limit = ["--states", String(states)];
       ask(name, machine.outcomes(listing, states), "outcomes", ...limit);
-      ask(name, machine.rows(listing, "0.status,0.c6", states), "outcomes", "--keep", "registers",
-        "--show", "0.status,0.c6", ...limit);
-      ask(name, machine.find(listing, "any hart is trapped", states), "find", "any hart is trapped",
-        "--keep", "registers", ...limit);
-      if (/^#! /m.test(listing)) ask(name, machine.verdicts(listing, states), "check", "--keep", "registers", ...limit);
+      ask(name, machine.rows(listing, "0.status,0.c6", states), "outcomes", "--show", "0.status,0.c6", ...limit);
+      ask(name, machine.find(listing, "any hart is trapped", states), "find", "any hart is trapped", ...limit);
+      if (/^#! /m.test(listing)) ask(name, machine.verdicts(listing, states), "check", ...limit);
     }
     for (const depth of [0, 1, 3]) {
       ask(name, machine.sample(listing, RUNS, SEED, LENGTH, depth), "sample", "--orders", String(RUNS),

@@ -1,7 +1,6 @@
 -- What the search for what violates properties answers, where harts may forget the registers that
 -- don't matter.
-use Rattle.std.specs.Prelude.{◌≡◌, ℕ, Bool, true, false, List}
-use Rattle.asked_registers.specs.Asked.{HasAsked}
+use Rattle.std.specs.Prelude.{◌≡◌, ℕ, Bool, true, List}
 use Rattle.cheri_model.specs.declared.operation.Op.{Op}
 use Rattle.explore_checks.specs.Checks.{ending_of, IsCheckAnswer, one_asks, orders_against}
 use Rattle.explore_checks.specs.ReducedChecks.{reduced_checked}
@@ -13,9 +12,9 @@ use Rattle.explore_verdicts.specs.declared.verdict.PropertyVerdict.{PropertyVerd
 use Rattle.forgotten_checks.specs.Asked.{properties_ask}
 use Rattle.forgotten_checks.specs.StateVerdicts.{IsForgottenStateVerdict}
 use Rattle.forgotten_loops.specs.ForgottenLoops.{IsForgottenEndless}
+use Rattle.forgotten_states.specs.Reductions.{MayReduce}
 use Rattle.forgotten_states.specs.Surveys.{IsSurvey, IsSurveyOf, SurveyParts, count}
-use Rattle.found_texts.specs.Reduced.{keeps_all}
-use Rattle.live_registers.specs.LiveSets.{forgets_any, IsRight, LiveSets}
+use Rattle.live_registers.specs.LiveSets.{LiveSets}
 use Rattle.shown_states.specs.declared.form.Ending.{Ending}
 use Rattle.shown_states.specs.declared.form.Format.{Format}
 use Rattle.state_loops.specs.declared.endless.Endless.{Endless}
@@ -50,34 +49,10 @@ pub record IsReducedCheckAnswer (search : SearchParts) (properties : List Proper
   pub found : IsSurveyed search properties live survey endless
   pub says : SaysChecked survey endless properties format orders text ending
 
--- by whether a register is forgotten anywhere
-abbrev pub IsAnswerBy : Bool → SearchParts → List PropertyParts → LiveSets → Format
-    → List (List Op) → List ℕ → Ending → Type 0
-IsAnswerBy false search properties live format orders text ending =
-    IsCheckAnswer search properties format orders text ending
-IsAnswerBy true search properties live format orders text ending =
-    IsReducedCheckAnswer search properties live format orders text ending
-
--- The answer where registers may be forgotten. Which ones matter may be found in any way, as long
--- as it is right for the program, and those that the properties ask for are among them.
-pub record IsLiveCheckAnswer (search : SearchParts) (properties : List PropertyParts)
-    (format : Format) (orders : List (List Op)) (text : List ℕ) (ending : Ending) : Type 0 where
-  pub live : LiveSets
-  pub right : IsRight search.image.program live
-  pub asked : HasAsked live.asked (properties_ask properties)
-  pub answer :
-      IsAnswerBy (forgets_any live) search properties live format orders text ending
-
--- the answer, by whether states are told apart by all registers
-abbrev pub IsAnswerOf : Bool → SearchParts → List PropertyParts → Format → List (List Op) → List ℕ
-    → Ending → Type 0
-IsAnswerOf true search properties format orders text ending =
-    IsCheckAnswer search properties format orders text ending
-IsAnswerOf false search properties format orders text ending =
-    IsLiveCheckAnswer search properties format orders text ending
-
--- the answer of a search that is told to keep all registers, or not
+-- the answer of a search that is told to keep all registers, or not: by all, or by those that matter
 abbrev pub IsCheckStatesAnswer : Bool → SearchParts → List PropertyParts → Format
     → List (List Op) → List ℕ → Ending → Type 0
 IsCheckStatesAnswer keeps search properties format orders text ending =
-    IsAnswerOf (keeps_all keeps search) search properties format orders text ending
+    MayReduce keeps search (properties_ask properties)
+    (IsCheckAnswer search properties format orders text ending)
+    (λ live. IsReducedCheckAnswer search properties live format orders text ending)

@@ -15,7 +15,7 @@ ghost use Rattle.live_registers.specs.LiveSets.{IsRight};
 ghost use Rattle.order_texts.specs.OrderTexts.{orders_of};
 ghost use Rattle.states.specs.Searches.{IsSearchable, search_of};
 
-use crate::asked::live_for;
+use crate::asked::asked_for;
 use crate::judging::judge_all;
 use cheri_model::NoMemory;
 use explore_checks::{Head, check, checked, ending_of, one_asks, orders_against};
@@ -23,8 +23,8 @@ use explore_properties::Property;
 use explore_sights::Sight;
 use explore_verdicts::watches_of;
 use forgotten_loops::{Judged, endless_of};
-use forgotten_states::{Matters, Survey, survey};
-use found_texts::{Told, keeps_all, opened};
+use forgotten_states::{Matters, Survey, reduction_of, survey};
+use found_texts::{Told, opened};
 use graph_search::Progress;
 use live_registers::LiveRegisters;
 use shown_states::{Answer, Format};
@@ -131,13 +131,9 @@ pub fn check_states<P: Progress>(
         properties.now format (orders_of told.orders.items) (string_bytes told.answer.text)
         told.answer.ending) }
 {
-    if keeps_all(keeps_registers, search) {
-        return check(alloc, search, properties, format, progress);
-    }
-    let live = live_for(alloc, search.image, properties)?;
-    if live.forgets_any() {
-        check_reduced(alloc, search, properties, &live, format, progress)
-    } else {
-        check(alloc, search, properties, format, progress)
+    let asked = asked_for(alloc, properties)?;
+    match reduction_of(alloc, search, keeps_registers, asked)? {
+        Some(live) => check_reduced(alloc, search, properties, &live, format, progress),
+        None => check(alloc, search, properties, format, progress),
     }
 }

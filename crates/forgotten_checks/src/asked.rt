@@ -3,12 +3,10 @@
 ghost use Rattle.std.specs.Prelude.{IfOk};
 ghost use Rattle.asked_registers.specs.Asked.{HasAsked, IsWith};
 ghost use Rattle.forgotten_checks.specs.Asked.{claim_asks, properties_ask};
-ghost use Rattle.live_registers.specs.LiveSets.{IsRight};
 
 use asked_registers::with_nodes;
-use cheri_model::Image;
 use explore_properties::{Claim, Property};
-use live_registers::{LiveRegisters, RegisterSet};
+use live_registers::RegisterSet;
 use std::alloc::{AllocError, Global};
 
 /// A set with the registers that a claim asks for.
@@ -24,8 +22,11 @@ fn with_claim(alloc: Global, set: RegisterSet, claim: &Claim) -> Result<Register
     }
 }
 
-/// The registers that properties ask for.
-fn asked_for(alloc: Global, properties: &[Property<'_>]) -> Result<RegisterSet, AllocError>
+/// The registers that properties ask for. Fails only when out of memory.
+pub(crate) fn asked_for(
+    alloc: Global,
+    properties: &[Property<'_>],
+) -> Result<RegisterSet, AllocError>
     ensures { IfOk result (λ set. HasAsked set (properties_ask properties.now)) }
 {
     let mut asked = RegisterSet::none();
@@ -33,18 +34,4 @@ fn asked_for(alloc: Global, properties: &[Property<'_>]) -> Result<RegisterSet, 
         asked = with_claim(alloc, asked, property.claim())?;
     }
     Ok(asked)
-}
-
-/// The registers that matter to the program of an image, where properties are asked for. Fails only
-/// when out of memory.
-pub(crate) fn live_for(
-    alloc: Global,
-    image: &Image,
-    properties: &[Property<'_>],
-) -> Result<LiveRegisters, AllocError>
-    ensures right { IfOk result (λ live. IsRight image.now.program live) }
-    ensures asked { IfOk result (λ live. HasAsked live.asked (properties_ask properties.now)) }
-{
-    let asked = asked_for(alloc, properties)?;
-    LiveRegisters::guess(alloc, image.program(), asked)
 }

@@ -12,8 +12,7 @@ use Rattle.forgotten_runs.specs.ForgottenRuns.{forgotten_state}
 use Rattle.forgotten_states.proofs.SurveyLemmas.{all_there}
 use Rattle.forgotten_states.specs.Surveys.{IsSurvey, SurveyParts, at, count}
 use Rattle.graph_search.specs.Trees.{IsFound}
-use Rattle.found_texts.specs.Reduced.{keeps_all}
-use Rattle.live_registers.specs.LiveSets.{IsRight, LiveSets, forgets_any}
+use Rattle.live_registers.specs.LiveSets.{LiveSets}
 use Rattle.outcomes.proofs.RestLemmas.{final_rests}
 use Rattle.outcomes.specs.Items.{values_of}
 use Rattle.outcomes.specs.Outcomes.{AreOutcomesBelow, is_final}
@@ -34,7 +33,7 @@ use Rattle.state_loops.specs.declared.endless.Endless.{Endless}
 use Rattle.states.specs.Searches.{SearchParts}
 use Rattle.forgotten_outcomes.proofs.ForgetLemmas.{final_same, values_same}
 use Rattle.forgotten_outcomes.proofs.ToldLemmas.{told_at, values_left}
-use Rattle.forgotten_outcomes.specs.ShownStates.{AreAllShown, AreFinalRows, AreRowsTold, IsReducedShownAnswer, IsRowTold, IsShownBy, IsShownOf, IsShownStatesAnswer, IsSurveyed}
+use Rattle.forgotten_outcomes.specs.ShownStates.{AreAllShown, AreFinalRows, AreRowsTold, IsReducedShownAnswer, IsRowTold, IsSurveyed}
 
 -- the first nodes of rows are outcomes
 pub rows_final : {X : Type 0} (survey : SurveyParts) (value : ℕ → X) (numbers : List ℕ) (rows : List Row) →
@@ -143,22 +142,3 @@ pub begun_as : (IsSo IsToo : List ℕ → Ending → Type 0) (result : Result En
 begun_as IsSo IsToo (Ok ending) old new also is = tt
 begun_as IsSo IsToo (Err Write) old new also is = (is.0, (is.1.0, also is.0 is.1.0 is.1.1), is.2)
 begun_as IsSo IsToo (Err NoMemory) old new also is = is
-
--- an answer by all registers, and by those that matter
-pub by_all : (keeps : Bool) (search : SearchParts) (items : ItemList) (format : Format) (text : List ℕ) (ending : Ending) →
-    keeps_all keeps search ≡ true → IsShownAnswer search items format text ending →
-    IsShownStatesAnswer keeps search items format text ending
-by_all keeps search items format text ending all answer =
-    subst (λ (b : Bool). IsShownOf b search items format text ending) (sym all) answer
-
-pub by_some : (keeps : Bool) (search : SearchParts) (items : ItemList) (live : LiveSets) (format : Format) (forgets : Bool) (text : List ℕ)
-    (ending : Ending) → keeps_all keeps search ≡ false → IsRight search.image.program live →
-    HasAsked live.asked (items_ask items.shown) → forgets_any live ≡ forgets →
-    IsShownBy forgets search items live format text ending → IsShownStatesAnswer keeps search items format text ending
-by_some keeps search items live format forgets text ending some right asked is answer =
-    subst (λ (b : Bool). IsShownOf b search items format text ending) (sym some) (record {
-      live = live;
-      right = right;
-      asked = asked;
-      answer = subst (λ (b : Bool). IsShownBy b search items live format text ending) (sym is) answer;
-    })

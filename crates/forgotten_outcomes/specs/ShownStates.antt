@@ -1,8 +1,8 @@
 -- What the search for outcomes of which items are shown answers where harts forget the registers that
 -- don't matter.
-use Rattle.std.specs.Prelude.{◌≡◌, ℕ, ◌<◌, Bool, true, false, List, [], ◌∷◌, Some, slice_get}
+use Rattle.std.specs.Prelude.{◌≡◌, ℕ, ◌<◌, Bool, true, List, [], ◌∷◌, Some, slice_get}
 use Rattle.std.specs.Prelude.{string_bytes}
-use Rattle.asked_registers.specs.Asked.{HasAsked, items_ask}
+use Rattle.asked_registers.specs.Asked.{items_ask}
 use Rattle.cheri_model.specs.declared.operation.Op.{Op}
 use Rattle.cheri_model.specs.runs.Image.{ImageParts}
 use Rattle.cheri_model.specs.runs.Machine.{MachineState, opening_state}
@@ -11,10 +11,10 @@ use Rattle.conditions.specs.Items.{ItemList}
 use Rattle.conditions.specs.declared.parts.Shown.{Shown}
 use Rattle.explore_sights.specs.declared.sights.Sight.TheVariants.{NoStep}
 use Rattle.forgotten_loops.specs.ForgottenLoops.{IsForgottenEndless}
+use Rattle.forgotten_states.specs.Reductions.{MayReduce}
 use Rattle.forgotten_states.specs.Sought.{IsOrderTo}
 use Rattle.forgotten_states.specs.Surveys.{IsSurvey, IsSurveyOf, SurveyParts, at, count}
-use Rattle.found_texts.specs.Reduced.{keeps_all}
-use Rattle.live_registers.specs.LiveSets.{IsRight, LiveSets, forgets_any}
+use Rattle.live_registers.specs.LiveSets.{LiveSets}
 use Rattle.order_texts.specs.OrderTexts.{order_text}
 use Rattle.outcomes.specs.Items.{values_of}
 use Rattle.outcomes.specs.Outcomes.{AreOutcomesBelow, is_final}
@@ -95,27 +95,8 @@ pub record IsReducedShownAnswer (search : SearchParts) (items : ItemList) (live 
       (count survey) endless shown_rows
   pub ending_is : ending ≡ ending_of survey.complete
 
--- by whether a register is forgotten anywhere
-abbrev pub IsShownBy : Bool → SearchParts → ItemList → LiveSets → Format → List ℕ → Ending → Type 0
-IsShownBy false search items live format text ending = IsShownAnswer search items format text ending
-IsShownBy true search items live format text ending =
-    IsReducedShownAnswer search items live format text ending
-
--- The answer where registers may be forgotten. Which ones matter may be found in any way, as long as
--- it is right for the program, and the items' own are among them.
-pub record IsLiveShownAnswer (search : SearchParts) (items : ItemList) (format : Format)
-    (text : List ℕ) (ending : Ending) : Type 0 where
-  pub live : LiveSets
-  pub right : IsRight search.image.program live
-  pub asked : HasAsked live.asked (items_ask items.shown)
-  pub answer : IsShownBy (forgets_any live) search items live format text ending
-
--- the answer, by whether states are told apart by all registers
-abbrev pub IsShownOf : Bool → SearchParts → ItemList → Format → List ℕ → Ending → Type 0
-IsShownOf true search items format text ending = IsShownAnswer search items format text ending
-IsShownOf false search items format text ending = IsLiveShownAnswer search items format text ending
-
--- the answer of a search that is told to keep all registers, or not
+-- the answer of a search that is told to keep all registers, or not: by all, or by those that matter
 abbrev pub IsShownStatesAnswer : Bool → SearchParts → ItemList → Format → List ℕ → Ending → Type 0
 IsShownStatesAnswer keeps search items format text ending =
-    IsShownOf (keeps_all keeps search) search items format text ending
+    MayReduce keeps search (items_ask items.shown) (IsShownAnswer search items format text ending)
+    (λ live. IsReducedShownAnswer search items live format text ending)

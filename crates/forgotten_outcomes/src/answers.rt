@@ -17,11 +17,11 @@ ghost use Rattle.states.specs.Searches.{IsSearchable, search_of};
 use crate::searching::{Nodes, Surveyed, survey_outcomes};
 use crate::told::rows_told;
 use asked_registers::with_items;
-use cheri_model::{Image, NoMemory};
+use cheri_model::NoMemory;
 use conditions::Items;
 use explore_sights::Sight;
-use forgotten_states::Matters;
-use found_texts::{keeps_all, opened};
+use forgotten_states::{Matters, reduction_of};
+use found_texts::opened;
 use graph_search::Progress;
 use live_registers::{LiveRegisters, RegisterSet};
 use outcome_texts::{Head, show_outcomes, shown_text};
@@ -39,13 +39,11 @@ pub struct Manner {
     pub keeps_registers: bool,
 }
 
-/// The registers that matter to a program of an image, where items are shown.
-fn live_for(alloc: Global, image: &Image, items: &Items<'_>) -> Result<LiveRegisters, NoMemory>
-    ensures right { IfOk result (λ live. IsRight image.now.program live) }
-    ensures asked { IfOk result (λ live. HasAsked live.asked (items_ask items.now.shown.items)) }
+/// The registers that items ask for.
+fn asked_for(items: &Items<'_>) -> RegisterSet
+    ensures { HasAsked result (items_ask items.now.shown.items) }
 {
-    let asked = with_items(RegisterSet::none(), items.shown.as_slice());
-    LiveRegisters::guess(alloc, image.program(), asked)
+    with_items(RegisterSet::none(), items.shown.as_slice())
 }
 
 /// What an answer begins with: registers were forgotten.
@@ -140,13 +138,10 @@ pub fn show_states<P: Progress, S: Sink>(
     ensures failures { S.failures sink.new ≡ S.failures sink.old + failures_of result }
     ensures identity { S.identity sink.new ≡ S.identity sink.old }
 {
-    if keeps_all(manner.keeps_registers, search) {
+    let asked = asked_for(items);
+    let Some(live) = reduction_of(alloc, search, manner.keeps_registers, asked)? else {
         return show_outcomes(alloc, search, items, manner.format, progress, sink);
-    }
-    let live = live_for(alloc, search.image, items)?;
-    if !live.forgets_any() {
-        return show_outcomes(alloc, search, items, manner.format, progress, sink);
-    }
+    };
     let answer = answer_reduced(alloc, search, items, &live, manner.format, progress)?;
     put_answer(sink, &answer)
 }

@@ -1,21 +1,27 @@
 -- What a search for a state gives.
-use Rattle.std.proofs.Common.{◌≡◌, ℕ, ◌≤◌, List, length, ap, sym, ◌∙◌, subst, ◌⊎◌, arith}
+use Rattle.std.proofs.Common.{◌≡◌, ℕ, ◌<◌, ◌≤◌, List, length, ap, sym, ◌∙◌, subst, ◌⊎◌, arith}
 use Rattle.std.specs.Prelude.{Option, Some, None, Bool, true}
+use Rattle.std.proofs.lemmas.Option.{slice_get_within}
 use Rattle.cheri_model.specs.declared.operation.Op.{Op}
 use Rattle.cheri_model.specs.runs.Machine.{MachineState, opening_state}
 use Rattle.cheri_model.specs.runs.Replay.{is_legal, replayed_state}
 use Rattle.explore_sights.specs.declared.sights.Sight.{Sight}
 use Rattle.forgotten_turns.specs.ForgottenTurns.{PassesForgotten}
 use Rattle.graph_search.specs.Trees.{Found, edge_at}
+use Rattle.graph_search.proofs.TreeLemmas.{row_of}
 use Rattle.live_registers.specs.LiveSets.{LiveSets}
 use Rattle.states.specs.Searches.{SearchParts}
-use Rattle.forgotten_states.specs.Graphs.{ForgottenParts}
+use Rattle.forgotten_states.specs.Graphs.{ForgottenParts, state_in}
 use Rattle.forgotten_states.specs.Nodes.{AreNodes, IsFirstPassing, NonePassesBefore, at}
 use Rattle.forgotten_states.specs.Sought.{IsOrderTo, IsOrderToFirst, IsSoughtBy}
 
 -- no node comes before the first
 pub none_before : (nodes : ℕ → Option MachineState) (passing : MachineState → Bool) → NonePassesBefore nodes passing 0
 none_before nodes passing i s below there = absurd (omega arith)
+
+-- nodes have the numbers below how many there are
+numbered : (g : ForgottenParts) (found : Found) (i : ℕ) (s : MachineState) → at g found i ≡ Some s → i < length found.nodes
+numbered g found i s there = let row = row_of (state_in g) found.nodes i s there in slice_get_within found.nodes i row.0 row.1
 
 module _ (search : SearchParts) (sees : Sight) (live : LiveSets) (passing : MachineState → Bool) (g : ForgottenParts) (found : Found)
     (limit : ℕ) (are : AreNodes search.image sees live g found limit) (within : limit ≤ search.limit) where
@@ -30,6 +36,7 @@ module _ (search : SearchParts) (sees : Sight) (live : LiveSets) (passing : Mach
         edge = edge_at found.edges;
         within = within;
         nodes = are.nodes;
+        counted = numbered g found;
         first = first;
         whole = whole;
       } in

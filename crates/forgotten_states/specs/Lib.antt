@@ -1,4 +1,5 @@
 pub mod Graphs
 pub mod Nodes
+pub mod Reductions
 pub mod Sought
 pub mod Surveys

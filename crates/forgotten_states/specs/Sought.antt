@@ -1,5 +1,5 @@
 -- What a search for a state finds where harts forget the registers that don't matter.
-use Rattle.std.specs.Prelude.{◌≡◌, ℕ, ◌≤◌, ◌⊎◌, List, [], Option, Some, None, Bool, true, false}
+use Rattle.std.specs.Prelude.{◌≡◌, ℕ, ◌<◌, ◌≤◌, ◌⊎◌, List, [], Option, Some, None, Bool, true, false}
 use Rattle.cheri_model.specs.declared.operation.Op.{Op}
 use Rattle.cheri_model.specs.runs.Image.{ImageParts}
 use Rattle.cheri_model.specs.runs.Machine.{MachineState, opening_state}
@@ -40,9 +40,9 @@ IsOrderToFirst image sight live at passing (Some order) =
     (i : ℕ) × (s : MachineState) × (at i ≡ Some s) × (passing s ≡ true)
     × NonePassesBefore at passing i × IsOrderTo image sight live s order
 
--- What a search gives, for a question that sees this and to which these registers matter: so many
--- nodes were kept, the first ones in the order of their witnesses, or all; and the order leads to the
--- first of them that passes. Where none passes these are all, or as many as may be kept.
+-- What a search gives, for a question that sees this and to which these registers matter: just so
+-- many nodes were kept, the first ones in the order of their witnesses, or all; and the order leads
+-- to the first of them that passes. Where none passes these are all, or as many as may be kept.
 pub record IsSoughtBy (search : SearchParts) (sees : Sight) (live : LiveSets)
     (passing : MachineState → Bool) (order : Option (List Op)) (count : ℕ) (complete : Bool)
     : Type 0 where
@@ -53,5 +53,6 @@ pub record IsSoughtBy (search : SearchParts) (sees : Sight) (live : LiveSets)
   pub nodes :
       IsExplored (forgotten_turn search.image sees live) (forgotten_start search.image sees live)
       limit at edge count complete
+  pub counted : (i : ℕ) (s : MachineState) → at i ≡ Some s → i < count
   pub first : IsOrderToFirst search.image sees live at passing order
   pub whole : order ≡ None → (complete ≡ true) ⊎ (limit ≡ search.limit)

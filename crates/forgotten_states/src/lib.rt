@@ -6,10 +6,12 @@ mod graph;
 mod known;
 pub mod laws;
 mod nodes;
+mod reduction;
 mod seeking;
 mod surveying;
 mod surveys;
 
+pub use reduction::reduction_of;
 pub use seeking::{Matters, Sought, seek};
 pub use surveying::survey;
 pub use surveys::{Looped, Survey};

@@ -1,14 +1,14 @@
 -- What the search for a state answers where harts forget the registers that don't matter.
-use Rattle.std.specs.Prelude.{◌≡◌, ℕ, ◌==◌, Bool, true, false, ◌||◌, not, List, [], ◌∷◌, length}
-use Rattle.std.specs.Prelude.{Option, Some, None}
-use Rattle.asked_registers.specs.Asked.{HasAsked, condition_asks}
+use Rattle.std.specs.Prelude.{◌≡◌, ℕ, Bool, List, [], ◌∷◌, Option, Some, None}
+use Rattle.asked_registers.specs.Asked.{condition_asks}
 use Rattle.cheri_model.specs.declared.operation.Op.{Op}
 use Rattle.cheri_model.specs.runs.Machine.{MachineState}
 use Rattle.conditions.specs.declared.parts.Node.{Node}
 use Rattle.conditions.specs.Holding.{holds}
 use Rattle.explore_sights.specs.declared.sights.Sight.TheVariants as sights
+use Rattle.forgotten_states.specs.Reductions.{MayReduce}
 use Rattle.forgotten_states.specs.Sought.{IsSoughtBy}
-use Rattle.live_registers.specs.LiveSets.{IsRight, LiveSets, forgets_any}
+use Rattle.live_registers.specs.LiveSets.{LiveSets}
 use Rattle.shown_states.specs.declared.form.Ending.{Ending}
 use Rattle.shown_states.specs.declared.form.Ending.TheVariants.{Done}
 use Rattle.shown_states.specs.declared.form.Format.{Format}
@@ -47,38 +47,10 @@ pub record IsReducedAnswer (search : SearchParts) (condition : List Node) (live 
       count complete
   pub says : SaysMet search condition format met count complete orders text ending
 
--- by whether a register is forgotten anywhere
-abbrev pub IsAnswerBy : Bool → SearchParts → List Node → LiveSets → Format → List (List Op)
-    → List ℕ → Ending → Type 0
-IsAnswerBy false search condition live format orders text ending =
-    IsFindAnswer search condition format orders text ending
-IsAnswerBy true search condition live format orders text ending =
-    IsReducedAnswer search condition live format orders text ending
-
--- The answer where registers may be forgotten. Which ones matter may be found in any way, as long as
--- it is right for the program, and the condition's own are among them.
-pub record IsLiveAnswer (search : SearchParts) (condition : List Node) (format : Format)
-    (orders : List (List Op)) (text : List ℕ) (ending : Ending) : Type 0 where
-  pub live : LiveSets
-  pub right : IsRight search.image.program live
-  pub asked : HasAsked live.asked (condition_asks condition)
-  pub answer : IsAnswerBy (forgets_any live) search condition live format orders text ending
-
--- Whether states are told apart by all registers: where these are to be kept, where every step is
--- asked for, and where there are sweeps.
-abbrev pub keeps_all : Bool → SearchParts → Bool
-keeps_all keeps search = keeps || (search.every_step || not (length search.sweeps == 0))
-
--- the answer, by whether states are told apart by all registers
-abbrev pub IsAnswerOf : Bool → SearchParts → List Node → Format → List (List Op) → List ℕ → Ending
-    → Type 0
-IsAnswerOf true search condition format orders text ending =
-    IsFindAnswer search condition format orders text ending
-IsAnswerOf false search condition format orders text ending =
-    IsLiveAnswer search condition format orders text ending
-
--- the answer of a search that is told to keep all registers, or not
+-- the answer of a search that is told to keep all registers, or not: by all, or by those that matter
 abbrev pub IsStateAnswer : Bool → SearchParts → List Node → Format → List (List Op) → List ℕ
     → Ending → Type 0
 IsStateAnswer keeps search condition format orders text ending =
-    IsAnswerOf (keeps_all keeps search) search condition format orders text ending
+    MayReduce keeps search (condition_asks condition)
+    (IsFindAnswer search condition format orders text ending)
+    (λ live. IsReducedAnswer search condition live format orders text ending)

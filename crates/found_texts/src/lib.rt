@@ -12,4 +12,4 @@ mod trimming;
 
 pub use finding::{Told, find, opened};
 pub use reduced::{reduced_line, reduced_version};
-pub use reducing::{find_state, keeps_all};
+pub use reducing::find_state;

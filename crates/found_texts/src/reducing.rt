@@ -16,12 +16,7 @@ ghost use Rattle.cheri_model.specs.runs.Machine.{opening_state};
 ghost use Rattle.cheri_model.specs.runs.Replay.{is_legal, replayed_state};
 ghost use Rattle.conditions.specs.Holding.{holds};
 ghost use Rattle.found_texts.specs.Find.{IsNowhere, IsShortened};
-ghost use Rattle.found_texts.specs.Reduced.{
-  IsReducedAnswer,
-  IsStateAnswer,
-  SaysMet,
-  keeps_all,
-};
+ghost use Rattle.found_texts.specs.Reduced.{IsReducedAnswer, IsStateAnswer, SaysMet};
 ghost use Rattle.live_registers.specs.LiveSets.{IsRight};
 ghost use Rattle.order_texts.specs.OrderTexts.{orders_of};
 ghost use Rattle.schedules.specs.Schedules.{AreAllowed};
@@ -31,10 +26,10 @@ ghost use Rattle.states.specs.Searches.{IsSearchable, search_of};
 use crate::finding::{Led, Told, absent_told, find, found_told, opened, shortened};
 use crate::replaying::replayed;
 use asked_registers::with_nodes;
-use cheri_model::{Image, NoMemory, Op};
+use cheri_model::{NoMemory, Op};
 use conditions::Condition;
 use explore_sights::Sight;
-use forgotten_states::{Matters, Sought, seek};
+use forgotten_states::{Matters, Sought, reduction_of, seek};
 use graph_search::Progress;
 use live_registers::{LiveRegisters, RegisterSet};
 use shown_states::{ConditionTest, Format};
@@ -129,28 +124,12 @@ fn find_reduced<P: Progress>(
     sought_told(alloc, search, condition, format, sought)
 }
 
-/// The registers that matter to a program of an image, where a condition is asked for.
-fn live_for(alloc: Global, image: &Image, condition: &Condition) -> Result<LiveRegisters, NoMemory>
-    ensures right { IfOk result (λ live. IsRight image.now.program live) }
-    ensures asked { IfOk result (λ live. HasAsked live.asked (condition_asks condition.now)) }
+/// The registers that a condition asks for.
+fn asked_for(alloc: Global, condition: &Condition) -> Result<RegisterSet, NoMemory>
+    ensures { IfOk result (λ asked. HasAsked asked (condition_asks condition.now)) }
 {
     let nodes = condition.nodes(alloc)?;
-    let asked = with_nodes(RegisterSet::none(), nodes.as_slice());
-    LiveRegisters::guess(alloc, image.program(), asked)
-}
-
-/// Whether states are told apart by all registers. Where every step is asked for, nothing is left
-/// out; and whether a sweep changes a hart depends on registers that otherwise don't matter.
-pub fn keeps_all(keeps: bool, search: &Search<'_>) -> bool
-    ensures { result ≡ keeps_all keeps (search_of search.now) }
-{
-    if keeps {
-        return true;
-    }
-    if search.every_step {
-        return true;
-    }
-    !search.sweeps.is_empty()
+    Ok(with_nodes(RegisterSet::none(), nodes.as_slice()))
 }
 
 /// Searches the states that an image reaches for one in which a condition holds, as `find`. States
@@ -172,13 +151,9 @@ pub fn find_state<P: Progress>(
     ensures nowhere { IfOk result (λ told. told.answer.ending ≡ Ending.Nowhere
         → IsNowhere (search_of search.now) condition.now) }
 {
-    if keeps_all(keeps_registers, search) {
-        return find(alloc, search, condition, format, progress);
-    }
-    let live = live_for(alloc, search.image, condition)?;
-    if live.forgets_any() {
-        find_reduced(alloc, search, condition, &live, format, progress)
-    } else {
-        find(alloc, search, condition, format, progress)
+    let asked = asked_for(alloc, condition)?;
+    match reduction_of(alloc, search, keeps_registers, asked)? {
+        Some(live) => find_reduced(alloc, search, condition, &live, format, progress),
+        None => find(alloc, search, condition, format, progress),
     }
 }

@@ -7,10 +7,9 @@ use Rattle.cheri_model.specs.runs.Image.{ImageParts}
 use Rattle.cheri_model.specs.runs.Machine.{MachineState}
 use Rattle.outcome_texts.specs.EndlessTexts.{endless_data}
 use Rattle.outcome_texts.specs.OutcomeTexts.{head_lines, outcome_line, outcome_lines}
-use Rattle.outcome_texts.specs.OutcomeTexts.{outcome_data, item_value_text}
+use Rattle.outcome_texts.specs.OutcomeTexts.{outcome_data}
 use Rattle.outcome_texts.specs.ReducedTexts.{said_head_lines, said_row_line, said_row_data}
 use Rattle.outcome_texts.specs.declared.told.ShownRow.{ShownRow}
-use Rattle.outcomes.specs.declared.items.ItemValue.{ItemValue}
 use Rattle.outcome_texts.specs.Told.{kept_state}
 use Rattle.outcome_texts.specs.declared.told.Outcome.{Outcome}
 use Rattle.report_lines.specs.EventData.{image_data}
@@ -77,9 +76,6 @@ listed_whole format complete image states endless kept outcomes =
     listed_parts format complete image states endless kept outcomes ++ listed_tail format states
 
 -- ---- outcomes as rows of values
-
-abbrev pub item_part : List ℕ → ItemValue → List ℕ
-item_part name value = codes " " +++ name +++ codes "=" +++ item_value_text value
 
 -- what stands before a row's items, and before the rows in JSON
 abbrev pub row_opening : Bool → ℕ → ℕ → List ℕ

@@ -1,15 +1,11 @@
 -- What is said of outcomes: of each its state, or of each row of values how many have it.
-use Rattle.std.specs.Prelude.{ℕ, Bool, List, [], ◌∷◌, ◌++◌, length, map, codes}
-use Rattle.std.specs.Prelude.{decimal, string_bytes}
-use Rattle.serde_json.specs.Data.{Data, Members, string, boolean, array, object, no_members}
-use Rattle.serde_json.specs.Data.{member, put}
+use Rattle.std.specs.Prelude.{ℕ, Bool, List, length, map, codes, decimal, string_bytes}
+use Rattle.serde_json.specs.Data.{Data, string, boolean, array, object, no_members, member}
 use Rattle.serde_json.specs.View.{items_of}
 use Rattle.serde_json.specs.Written.{compact_text}
 use Rattle.cheri_model.specs.runs.Image.{ImageParts}
 use Rattle.cheri_model.specs.runs.Machine.{MachineState}
-use Rattle.order_texts.specs.OrderTexts.{number_text}
-use Rattle.outcomes.specs.declared.items.ItemValue.{ItemValue}
-use Rattle.outcomes.specs.declared.items.ItemValue.TheVariants.{Number, Running, Halted, Trapped}
+use Rattle.outcomes.specs.ItemTexts.{items_text, put_items}
 use Rattle.outcome_texts.specs.EndlessTexts.{endless_line, endless_data}
 use Rattle.outcome_texts.specs.Told.{kept_state}
 use Rattle.outcome_texts.specs.declared.told.Outcome.{Outcome}
@@ -75,19 +71,6 @@ listed Json kept endless outcomes = line (compact_text (listed_data kept endless
 
 -- ---- outcomes as rows of values
 
-abbrev pub item_value_text : ItemValue → List ℕ
-item_value_text (Number number) = number_text number
-item_value_text Running = codes "running"
-item_value_text Halted = codes "halted"
-item_value_text (Trapped cause) = codes "trapped:" ++ decimal cause
-
--- what items hold, each by the text that it was given by
-unfoldable pub items_text : List (List ℕ) → List ItemValue → List ℕ
-items_text [] values = []
-items_text (name ∷ names) [] = []
-items_text (name ∷ names) (v ∷ values) =
-    (codes " " +++ name +++ codes "=" +++ item_value_text v) ++ items_text names values
-
 unfoldable pub row_line : List (List ℕ) → ℕ → ShownRow → List ℕ
 row_line names number row =
     line (decimal number +++ codes " states=" +++ decimal row.states
@@ -98,13 +81,6 @@ shown_text names kept endless outcomes rows =
     head_lines kept.complete kept.image (kept_states.count kept) endless outcomes
     +++ line (codes "shown " +++ decimal (length rows)) +++ numbered (row_line names) 0 rows
     +++ line (codes "end")
-
--- a name that is given twice is there once
-unfoldable pub put_items : List (List ℕ) → List ItemValue → Members → Members
-put_items [] values members = members
-put_items (name ∷ names) [] members = members
-put_items (name ∷ names) (v ∷ values) members =
-    put_items names values (put name (string (item_value_text v)) members)
 
 unfoldable pub row_data : List (List ℕ) → ShownRow → Data
 row_data names row = object

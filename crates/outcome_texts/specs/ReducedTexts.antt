@@ -8,8 +8,8 @@ use Rattle.serde_json.specs.Written.{compact_text}
 use Rattle.cheri_model.specs.runs.Image.{ImageParts}
 use Rattle.found_texts.specs.ReducedTexts.{reduced_line, reduced_data}
 use Rattle.outcome_texts.specs.EndlessTexts.{endless_line, endless_data}
-use Rattle.outcome_texts.specs.OutcomeTexts.{head_lines, items_text, put_items}
-use Rattle.outcome_texts.specs.OutcomeTexts.{row_data, row_line}
+use Rattle.outcomes.specs.ItemTexts.{items_text, put_items}
+use Rattle.outcome_texts.specs.OutcomeTexts.{head_lines, row_data, row_line}
 use Rattle.outcome_texts.specs.declared.told.ShownRow.{ShownRow}
 use Rattle.report_lines.specs.EventData.{image_data}
 use Rattle.report_lines.specs.Lines.{image_line}

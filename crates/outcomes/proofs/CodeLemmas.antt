@@ -1,5 +1,5 @@
 -- The numbers that stand for values are those of no other values.
-use Rattle.std.proofs.Common.{◌≡◌, ℕ, suc, ◌+◌, ◌*◌, ◌/◌, ◌%◌, ◌^◌, ◌<◌, ◌≤◌, List, [], ◌∷◌, ◌++◌, length, map, refl, sym, ap, ◌∙◌, arith, add-one, drop-cons, append_assoc, append-nil}
+use Rattle.std.proofs.Common.{◌≡◌, ℕ, ◌+◌, ◌*◌, ◌/◌, ◌%◌, ◌^◌, ◌<◌, ◌≤◌, List, [], ◌∷◌, ◌++◌, length, map, refl, sym, ap, ◌∙◌, arith, add-one, drop-cons, append_assoc, append-nil}
 use Rattle.std.proofs.Math.ListN.{drop_of_length-le}
 use Rattle.std.specs.Prelude.{slice_index_or, drop, Option}
 use Rattle.cheri_model.specs.runs.Machine.{MachineState}
@@ -50,25 +50,6 @@ code_same (Trapped a) Running xs ys same = different 3 1 a 0 xs ys (λ e. omega 
 code_same (Trapped a) Halted xs ys same = different 3 2 a 0 xs ys (λ e. omega (arith, e)) same
 code_same (Trapped a) (Trapped b) xs ys same = let p = five_number 3 3 a b xs ys same in (ap Trapped p.1, p.2)
 
-not_empty : (n : ℕ) → 0 ≡ suc n → ⊥
-not_empty n e = omega (arith, e)
-
-codes_same : (vs ws : List ItemValue) → length vs ≡ length ws → codes_of vs ≡ codes_of ws → vs ≡ ws
-unfolding codes_of
-codes_same [] [] even same = refl
-codes_same [] (w ∷ ws) even same = absurd (not_empty (length ws) even)
-codes_same (v ∷ vs) [] even same = absurd (not_empty (length vs) (sym even))
-codes_same (v ∷ vs) (w ∷ ws) even same =
-    let p = code_same v w (codes_of vs) (codes_of ws) same in
-    ap (λ (u : ItemValue). u ∷ vs) p.0 ∙ ap (λ (us : List ItemValue). w ∷ us) (codes_same vs ws (omega (arith, even)) p.1)
-
--- rows of values with the same numbers are the same
-pub rows_same : (at : ℕ → Option MachineState) (items : List Shown) (m n : ℕ)
-    → codes_of (values_at at items m) ≡ codes_of (values_at at items n) → values_at at items m ≡ values_at at items n
-unfolding values_at values_of
-rows_same at items m n same = codes_same (values_at at items m) (values_at at items n)
-    (length-map items (value_of (state_meant (at m))) ∙ sym (length-map items (value_of (state_meant (at n))))) same
-
 code_size : (v : ItemValue) (xs : List ℕ) → length (code_of v ++ xs) ≡ 5 + length xs
 unfolding code_of
 code_size (Number a) xs = omega arith
@@ -76,10 +57,32 @@ code_size Running xs = omega arith
 code_size Halted xs = omega arith
 code_size (Trapped a) xs = omega arith
 
-codes_size : (vs : List ItemValue) → length (codes_of vs) ≡ 5 * length vs
+none_or_more : {A : Type 0} (v : ItemValue) (xs : List ℕ) → [] ≡ code_of v ++ xs → A
+none_or_more v xs same =
+    let size = code_size v xs in
+    let none : 0 ≡ length (code_of v ++ xs) = ap length same in
+    absurd (omega (arith, size, none))
+
+-- values with the same numbers are the same
+pub codes_same : (vs ws : List ItemValue) → codes_of vs ≡ codes_of ws → vs ≡ ws
+unfolding codes_of
+codes_same [] [] same = refl
+codes_same [] (w ∷ ws) same = none_or_more w (codes_of ws) same
+codes_same (v ∷ vs) [] same = none_or_more v (codes_of vs) (sym same)
+codes_same (v ∷ vs) (w ∷ ws) same =
+    let p = code_same v w (codes_of vs) (codes_of ws) same in
+    ap (λ (u : ItemValue). u ∷ vs) p.0 ∙ ap (λ (us : List ItemValue). w ∷ us) (codes_same vs ws p.1)
+
+-- five numbers stand for a value
+pub codes_size : (vs : List ItemValue) → length (codes_of vs) ≡ 5 * length vs
 unfolding codes_of
 codes_size [] = refl
 codes_size (v ∷ vs) = let more = codes_size vs in omega (arith, code_size v (codes_of vs), more)
+
+-- so are rows of values
+pub rows_same : (at : ℕ → Option MachineState) (items : List Shown) (m n : ℕ)
+    → codes_of (values_at at items m) ≡ codes_of (values_at at items n) → values_at at items m ≡ values_at at items n
+rows_same at items m n same = codes_same (values_at at items m) (values_at at items n) same
 
 -- and they are as many
 pub row_size : (at : ℕ → Option MachineState) (items : List Shown) (n : ℕ) → length (codes_of (values_at at items n)) ≡ 5 * length items

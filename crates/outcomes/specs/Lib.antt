@@ -1,3 +1,4 @@
 pub mod Outcomes
 pub mod Items
+pub mod ItemTexts
 pub mod Rows

@@ -6,6 +6,7 @@ ghost use Rattle.cheri_model.specs.runs.Machine.{hart_at};
 ghost use Rattle.outcomes.specs.Items.{
   above,
   code_of,
+  codes_of,
   digit,
   five,
   status_value,
@@ -55,7 +56,7 @@ impl ItemValue {
     }
 
     /// Appends five numbers, which are those of no other value. Fails only when out of memory.
-    pub(crate) fn push_code(self, code: &mut Vec<u32>) -> Result<(), AllocError>
+    fn push_code(self, code: &mut Vec<u32>) -> Result<(), AllocError>
         ensures { OnOk result (code.new.items ≡ code.old.items ++ code_of self) }
     {
         let (kind, number) = self.parts();
@@ -80,7 +81,19 @@ fn split(number: u128) -> (u128, u32)
     (number >> 32, (number & u128::from(u32::MAX)) as u32)
 }
 
-/// Whether the hart of a number runs; halted where there is no such hart.
+/// The numbers that stand for values, five for each: those of no other values. Fails only when out
+/// of memory.
+pub fn codes_of(alloc: Global, values: &[ItemValue]) -> Result<Vec<u32>, AllocError>
+    ensures { IfOk result (λ code. code.items ≡ codes_of values.now) }
+{
+    let mut code = Vec::new(alloc);
+    for value in values {
+        value.push_code(&mut code)?;
+    }
+    Ok(code)
+}
+
+/// The status of the hart of a number; halted where there is no such hart.
 fn status_of_hart<V: StateView>(view: &V, hart: u8) -> Status
     ensures { result ≡ (hart_at (V.state view.now) hart).status }
 {

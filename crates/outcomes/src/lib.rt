@@ -3,11 +3,13 @@
 #![tactic(auto)]
 
 mod finals;
+mod item_texts;
 mod items;
 mod numbered;
 mod rows;
 
 pub use finals::{is_final, outcomes_of};
-pub use items::{ItemValue, values_in, values_of};
+pub use item_texts::{items_json, write_items};
+pub use items::{ItemValue, codes_of, values_in, values_of};
 pub use numbered::NumberedStates;
 pub use rows::{Row, rows_of};

@@ -6,7 +6,7 @@ ghost use Rattle.outcomes.specs.declared.rows.Row.{Row};
 ghost use Rattle.outcomes.specs.Rows.{AreRows, counted, values_at};
 ghost use Rattle.outcomes.specs.Outcomes.{AreOutcomesBelow};
 
-use crate::items::{ItemValue, values_of};
+use crate::items::{codes_of, values_of};
 use crate::numbered::NumberedStates;
 use conditions::Shown;
 use interner::Interner;
@@ -17,17 +17,6 @@ use std::alloc::{AllocError, Global};
 pub struct Row {
     pub first: u32,
     pub states: usize,
-}
-
-/// The numbers that stand for values.
-fn code_of(alloc: Global, values: &[ItemValue]) -> Result<Vec<u32>, AllocError>
-    ensures { IfOk result (λ code. code.items ≡ codes_of values.now) }
-{
-    let mut code = Vec::new(alloc);
-    for value in values {
-        value.push_code(&mut code)?;
-    }
-    Ok(code)
 }
 
 /// The numbers that stand for the values of the state of a number.
@@ -42,7 +31,7 @@ fn row_code<S: NumberedStates>(
         code.items ≡ codes_of (values_at (S.at states.now) shown.now number)) }
 {
     let values = values_of(alloc, states, shown, number)?;
-    code_of(alloc, values.as_slice())
+    codes_of(alloc, values.as_slice())
 }
 
 /// How many numbers stand for the values of an outcome; 0 where there is none.

@@ -1,12 +1,13 @@
 -- What is answered, in JSON.
-use Rattle.std.specs.Prelude.{◌≡◌, ℕ, ◌⊎◌, List, Result, Ok, Err}
+use Rattle.std.specs.Prelude.{◌≡◌, ℕ, ◌⊎◌, false, List, Result, Ok, Err}
 use Rattle.cheri_model.specs.declared.operation.Op.{Op}
 use Rattle.conditions.specs.Items.{ItemList}
 use Rattle.conditions.specs.declared.parts.Node.{Node}
-use Rattle.explore_checks.specs.Checks.{IsCheckAnswer}
 use Rattle.explore_properties.specs.Properties.{PropertyParts}
-use Rattle.found_texts.specs.Find.{IsFindAnswer}
-use Rattle.outcome_texts.specs.Answers.{IsListedAnswer, IsShownAnswer}
+use Rattle.forgotten_checks.specs.StateChecks.{IsCheckStatesAnswer}
+use Rattle.forgotten_outcomes.specs.ShownStates.{IsShownStatesAnswer}
+use Rattle.found_texts.specs.Reduced.{IsStateAnswer}
+use Rattle.outcome_texts.specs.Answers.{IsListedAnswer}
 use Rattle.shown_states.specs.declared.form.Ending.{Ending}
 use Rattle.shown_states.specs.declared.form.Format.TheVariants.{Json}
 use Rattle.sinks.specs.Sinks.{Memory}
@@ -15,7 +16,7 @@ use Rattle.page_searches.specs.Asked.{check_asked, find_asked, rows_asked, searc
 use Rattle.page_searches.specs.declared.fault.SearchFault.{SearchFault}
 use Rattle.page_searches.specs.declared.fault.SearchFault.TheVariants.{NoMemory}
 
--- ---- a text that answers what is asked
+-- ---- a text that answers what is asked: registers may be forgotten
 
 -- each outcome, with an order that leads to it
 abbrev pub AreOutcomes : SearchParts → List ℕ → Type 0
@@ -23,19 +24,19 @@ AreOutcomes search text = (ending : Ending) × IsListedAnswer search Json text e
 
 -- each row of what the items hold in outcomes
 abbrev pub AreRows : SearchParts × ItemList → List ℕ → Type 0
-AreRows asked text = (ending : Ending) × IsShownAnswer asked.0 asked.1 Json text ending
+AreRows asked text = (ending : Ending) × IsShownStatesAnswer false asked.0 asked.1 Json text ending
 
 -- a state in which the condition holds, or that there is none
 abbrev pub IsFound : SearchParts × List Node → List ℕ → Type 0
 IsFound asked text =
     (orders : List (List Op)) × (ending : Ending)
-    × IsFindAnswer asked.0 asked.1 Json orders text ending
+    × IsStateAnswer false asked.0 asked.1 Json orders text ending
 
 -- the verdict on each property
 abbrev pub AreVerdicts : SearchParts × List PropertyParts → List ℕ → Type 0
 AreVerdicts asked text =
     (orders : List (List Op)) × (ending : Ending)
-    × IsCheckAnswer asked.0 asked.1 Json orders text ending
+    × IsCheckStatesAnswer false asked.0 asked.1 Json orders text ending
 
 -- ---- the answer: a text, or the fault of what should ask
 

@@ -6,11 +6,12 @@ ghost use Rattle.states.specs.Searches.{IsSearchable, search_of};
 ghost use Rattle.page_searches.specs.Answered.{AreOutcomes, AreRows, AreVerdicts, IsFound};
 
 use conditions::{Condition, Items};
-use explore_checks::check;
 use explore_properties::Property;
-use found_texts::find;
+use forgotten_checks::check_states;
+use forgotten_outcomes::{Manner, show_states};
+use found_texts::find_state;
 use graph_search::NoProgress;
-use outcome_texts::{list_outcomes, show_outcomes};
+use outcome_texts::list_outcomes;
 use shown_states::{Answer, Format, put_answer};
 use sinks::{MemSink, WriteFault};
 use states::Search;
@@ -41,14 +42,11 @@ pub fn rows(alloc: Global, search: &Search<'_>, items: &Items<'_>) -> Result<Mem
     ensures { IfOk result (λ said. AreRows (search_of search.now, list_of items.now) said.bytes) }
 {
     let mut sink = MemSink::new(alloc, 0, usize::MAX);
-    show_outcomes(
-        alloc,
-        search,
-        items,
-        Format::Json,
-        &mut NoProgress,
-        &mut sink,
-    )?;
+    let manner = Manner {
+        format: Format::Json,
+        keeps_registers: false,
+    };
+    show_states(alloc, search, items, manner, &mut NoProgress, &mut sink)?;
     Ok(sink)
 }
 
@@ -61,7 +59,14 @@ pub fn found(
     requires { IsSearchable (search_of search.now) }
     ensures { IfOk result (λ said. IsFound (search_of search.now, condition.now) said.bytes) }
 {
-    let told = find(alloc, search, condition, Format::Json, &mut NoProgress)?;
+    let told = find_state(
+        alloc,
+        search,
+        condition,
+        false,
+        Format::Json,
+        &mut NoProgress,
+    )?;
     kept(alloc, &told.answer)
 }
 
@@ -74,6 +79,13 @@ pub fn verdicts(
     requires { IsSearchable (search_of search.now) }
     ensures { IfOk result (λ said. AreVerdicts (search_of search.now, properties.now) said.bytes) }
 {
-    let told = check(alloc, search, properties, Format::Json, &mut NoProgress)?;
+    let told = check_states(
+        alloc,
+        search,
+        properties,
+        false,
+        Format::Json,
+        &mut NoProgress,
+    )?;
     kept(alloc, &told.answer)
 }

@@ -13,7 +13,7 @@ use Rattle.sample_checks.specs.declared.told.PropertySeen.{PropertySeen}
 use Rattle.sample_texts.specs.PropertyTexts.{answer_data, may_hold, property_data}
 use Rattle.sample_texts.specs.SampleData.{row_data, runs_data, trap_data}
 use Rattle.sample_texts.specs.SampleParts.{Drawn}
-use Rattle.sample_texts.proofs.ItemLemmas.{items_no_float}
+use Rattle.outcomes.proofs.ItemTextLemmas.{items_no_float}
 
 pub trap_no_float : (drawn : Drawn) (trap : Entry TrapPlace) → has_float (trap_data drawn trap) ≡ false
 unfolding trap_data

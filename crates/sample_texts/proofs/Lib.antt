@@ -1,6 +1,5 @@
-pub mod ItemLemmas
 pub mod ListLemmas
-pub mod CodeLemmas
+pub mod RowLemmas
 pub mod DrawableLemmas
 pub mod Floats
 pub mod Unfold

@@ -10,6 +10,7 @@ use Rattle.conditions.specs.declared.parts.Shown.{Shown}
 use Rattle.interner.specs.Rows.{Rows, IsRow, IsDistinct, IsInterned}
 use Rattle.outcomes.specs.Items.{codes_of, value_of, values_of}
 use Rattle.outcomes.specs.declared.items.ItemValue.{ItemValue}
+use Rattle.outcomes.proofs.CodeLemmas.{codes_same}
 use Rattle.outcomes.proofs.TableLemmas.{interned_rows}
 use Rattle.sample_tallies.specs.declared.seen.Seen.{Seen}
 use Rattle.sample_tallies.specs.Tables.{Entry, both, with_entry, with_entries}
@@ -18,7 +19,7 @@ use Rattle.sample_tallies.proofs.OrderLemmas.{picked_at}
 use Rattle.state_store.proofs.NumberedLemmas.{get-append, map_some}
 use Rattle.sample_texts.specs.declared.table.ShownRow.{ShownRow}
 use Rattle.sample_texts.specs.ShownRows.{AreNumbered, row_of, rows_of, same_row, shown_part, shown_rows}
-use Rattle.sample_texts.proofs.CodeLemmas.{codes_same, one_row, row_itself}
+use Rattle.sample_texts.proofs.RowLemmas.{one_row, row_itself}
 
 code_of : ShownRow → List ℕ
 code_of row = codes_of row.values.items

@@ -1,5 +1,4 @@
 pub mod SampleParts
-pub mod ItemTexts
 pub mod ShownRows
 pub mod PropertyTexts
 pub mod SampleTexts

@@ -6,7 +6,7 @@ use Rattle.serde_json.specs.View.{items_of}
 use Rattle.serde_json.specs.Written.{compact_text}
 use Rattle.cheri_model.specs.runs.Machine.{MachineState}
 use Rattle.conditions.specs.Items.{ItemList}
-use Rattle.sample_texts.specs.ItemTexts.{put_items}
+use Rattle.outcomes.specs.ItemTexts.{put_items}
 use Rattle.outcomes.specs.declared.items.ItemValue.{ItemValue}
 use Rattle.report_lines.specs.EventData.{image_data}
 use Rattle.report_lines.specs.Texts.{line}

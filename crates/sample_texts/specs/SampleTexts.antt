@@ -5,7 +5,7 @@ use Rattle.cheri_model.specs.declared.operation.Op.TheVariants as operation
 use Rattle.cheri_model.specs.runs.Machine.{MachineState}
 use Rattle.conditions.specs.Items.{ItemList}
 use Rattle.order_texts.specs.OrderTexts.{operation_text}
-use Rattle.sample_texts.specs.ItemTexts.{items_text}
+use Rattle.outcomes.specs.ItemTexts.{items_text}
 use Rattle.outcomes.specs.declared.items.ItemValue.{ItemValue}
 use Rattle.report_lines.specs.Lines.{image_line}
 use Rattle.report_lines.specs.Texts.{◌+++◌, line, numbered}

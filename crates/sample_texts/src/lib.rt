@@ -13,7 +13,6 @@ mod sampled;
 mod spans;
 mod table;
 mod traps;
-mod values;
 
 pub use answer::sample_text;
 pub use properties::sample_ending;

@@ -12,11 +12,10 @@ ghost use Rattle.sample_texts.specs.declared.table.ShownRow.{ShownRow};
 
 use crate::ends::load_end;
 use crate::redrawn::Orders;
-use crate::values::{codes_of, values_of};
 use cheri_model::NoMemory;
 use conditions::Shown;
 use interner::Interner;
-use outcomes::ItemValue;
+use outcomes::{ItemValue, codes_of, values_in};
 use sample_tallies::{Seen, Tally};
 use std::alloc::{AllocError, Global};
 
@@ -87,7 +86,7 @@ fn see_ends(
     let mut rows = Vec::new(alloc);
     for number in order {
         load_end(&mut state, tally, *number);
-        let values = values_of(alloc, shown, &state)?;
+        let values = values_in(alloc, shown, &state)?;
         let seen = tally.end_seen(*number);
         see(alloc, &mut codes, &mut rows, ShownRow { values, seen })?;
     }

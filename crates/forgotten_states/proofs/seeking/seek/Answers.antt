@@ -3,7 +3,7 @@ use Rattle.std.specs.Prelude.{Option, None}
 use Rattle.states.specs.Searches.{search_of}
 use Rattle.forgotten_states.specs.Nodes.{IsFirstPassing, at}
 use Rattle.forgotten_states.proofs.NodeLemmas.{none_passes}
-use Rattle.forgotten_states.proofs.SoughtLemmas.{found_passes, sought_some}
+use Rattle.forgotten_states.proofs.SoughtLemmas.{found_passes, sought_none, sought_some}
 use Rattle.forgotten_states.proofs.seeking.seek.Goals as goal
 
 pub returns-in_default-clause-none : goal.returns-in_default-clause-none
@@ -17,6 +17,17 @@ returns-in_default-clause-none g c same done order allowed legal =
     c.requires.unseen (λ s. c.requires.passing s)
     (subst (λ (o : Option ℕ). IsFirstPassing (at nodes.graph nodes.reached) (length nodes.reached.nodes) passing o) none
     c.in_ok-first.ensures.first) order allowed legal
+
+pub returns-in_default-clause-answer : goal.returns-in_default-clause-answer
+returns-in_default-clause-answer g c =
+    let nodes = c.in_ok-first.first.nodes in
+    let passing = g.T.StateTest.passing c.args.test.now in
+    let none : c.in_ok-first.first.number ≡ None = first_of (cc, assumption, search rules) in
+    sought_none (search_of c.args.search.now) c.args.matters.sees.now c.args.matters.live.now passing nodes.graph nodes.reached nodes.limit
+    c.in_ok-first.ensures.nodes c.in_ok-first.ensures.within c.len-count.result c.is_complete-complete.result c.len-count.ensures
+    c.is_complete-complete.ensures
+    (subst (λ (o : Option ℕ). IsFirstPassing (at nodes.graph nodes.reached) (length nodes.reached.nodes) passing o) none
+    c.in_ok-first.ensures.first) (c.in_ok-first.ensures.all none)
 
 pub returns-clause-answer : goal.returns-clause-answer
 returns-clause-answer g c =

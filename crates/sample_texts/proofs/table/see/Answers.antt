@@ -2,7 +2,7 @@ use Rattle.std.proofs.Common.{◌≡◌, ℕ, ◌<◌, ◌≤◌, List, length, 
 use Rattle.interner.specs.Rows.{IsInterned}
 use Rattle.outcomes.specs.Items.{codes_of}
 use Rattle.outcomes.specs.declared.items.ItemValue.{ItemValue}
-use Rattle.sample_texts.proofs.CodeLemmas.{codes_size}
+use Rattle.outcomes.proofs.CodeLemmas.{codes_size}
 use Rattle.sample_texts.proofs.SeeLemmas.{seen_put, seen_first}
 use Rattle.sample_texts.proofs.table.see.Goals as goal
 

@@ -1,7 +1,7 @@
 use Rattle.std.proofs.Common.{refl, length}
 use Rattle.serde_json.proofs.Views.{view-Object}
-use Rattle.sample_texts.proofs.ItemLemmas.{puts_step, puts_end, in_both, past_one}
-use Rattle.sample_texts.proofs.rows.items_json.Goals as goal
+use Rattle.outcomes.proofs.ItemTextLemmas.{puts_step, puts_end, in_both, past_one}
+use Rattle.outcomes.proofs.item_texts.items_json.Goals as goal
 
 pub loop-place-preserved : goal.loop-place-preserved
 loop-place-preserved c =

@@ -1,7 +1,7 @@
 -- the items so far are written
 use Rattle.std.proofs.Common.{◌≡◌, ◌++◌, drop, map, string_bytes}
-use Rattle.outcome_texts.specs.OutcomeTexts.{items_text}
-use Rattle.outcome_texts.proofs.shown.write_items.Given as goal
+use Rattle.outcomes.specs.ItemTexts.{items_text}
+use Rattle.outcomes.proofs.item_texts.write_items.Given as goal
 
 abbrev pub invariant-loop-place : goal.invariant-loop-place
 invariant-loop-place l =

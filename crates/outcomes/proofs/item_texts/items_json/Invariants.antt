@@ -2,8 +2,8 @@
 use Rattle.std.proofs.Common.{◌≡◌, drop, map}
 use Rattle.serde_json.specs.Data.{no_members}
 use Rattle.serde_json.specs.View.{members_view}
-use Rattle.sample_texts.specs.ItemTexts.{put_items}
-use Rattle.sample_texts.proofs.rows.items_json.Given as goal
+use Rattle.outcomes.specs.ItemTexts.{put_items}
+use Rattle.outcomes.proofs.item_texts.items_json.Given as goal
 
 abbrev pub invariant-loop-place : goal.invariant-loop-place
 invariant-loop-place l =

@@ -1,6 +1,6 @@
 use Rattle.std.proofs.Common.{refl}
 use Rattle.outcomes.proofs.CodeLemmas.{code_more, code_end}
-use Rattle.outcomes.proofs.rows.code_of.Goals as goal
+use Rattle.outcomes.proofs.items.codes_of.Goals as goal
 
 pub loop-value-preserved : goal.loop-value-preserved
 loop-value-preserved c =

@@ -1,6 +1,6 @@
 use Rattle.std.proofs.Common.{refl, length}
-use Rattle.outcome_texts.proofs.RowLemmas.{items_step, items_end, in_both, past_one}
-use Rattle.outcome_texts.proofs.shown.write_items.Goals as goal
+use Rattle.outcomes.proofs.ItemTextLemmas.{items_step, items_end, in_both, past_one}
+use Rattle.outcomes.proofs.item_texts.write_items.Goals as goal
 
 pub loop-place-preserved : goal.loop-place-preserved
 loop-place-preserved c =

@@ -5,7 +5,7 @@ use Rattle.std.proofs.lemmas.Bool.{cases_lt}
 use Rattle.std.specs.Prelude.{min, slice_index_or}
 use Rattle.serde_json.specs.Data.{Members, string, put}
 use Rattle.serde_json.specs.Written.{members_have_float}
-use Rattle.sample_texts.specs.ItemTexts.{item_part, items_text, item_value_text, put_items}
+use Rattle.outcomes.specs.ItemTexts.{item_part, items_text, item_value_text, put_items}
 use Rattle.outcomes.specs.declared.items.ItemValue.{ItemValue}
 use Rattle.report_lines.proofs.JsonLemmas.{put_no_float}
 
