@@ -1,0 +1,7 @@
+-- no other hart so far is the same
+use Rattle.std.proofs.Common.{◌<◌, ◌≢◌, ℕ}
+use Rattle.hart_groups.specs.HartGroups.{AreSame}
+use Rattle.hart_groups.proofs.groups.has_twin.Given as goal
+
+abbrev pub invariant-loop-other : goal.invariant-loop-other
+invariant-loop-other l = (k : ℕ) → k < l.other → k ≢ l.hart → AreSame l.harts l.named l.hart k → ⊥

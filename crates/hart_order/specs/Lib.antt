@@ -1,0 +1,3 @@
+pub mod HartOrder
+pub mod Arrangements
+pub mod GroupedTurns

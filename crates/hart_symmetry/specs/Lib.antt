@@ -1,0 +1,4 @@
+pub mod Symmetry
+pub mod Renaming
+pub mod Named
+pub mod ChosenTurns

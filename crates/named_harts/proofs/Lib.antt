@@ -1,0 +1,3 @@
+pub mod Unfold
+pub mod SetLemmas
+pub mod StackLemmas

@@ -1,0 +1,16 @@
+pub mod WayLemmas
+pub mod ApartLemmas
+pub mod SweptLemmas
+pub mod RestMerging
+pub mod MetLemmas
+pub mod LoneLemmas
+pub mod OrderLemmas
+pub mod StepLemmas
+pub mod OwnerLemmas
+pub mod KeptLemmas
+pub mod MachineLemmas
+pub mod SweepLemmas
+pub mod OwnLemmas
+pub mod SearchLemmas
+pub mod HeldLemmas
+pub mod SharedLemmas

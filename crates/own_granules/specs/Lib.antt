@@ -1,0 +1,5 @@
+pub mod Rests
+pub mod Searches
+pub mod Orders
+pub mod Granules
+pub mod Turns
