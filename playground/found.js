@@ -43,9 +43,16 @@ const found = (() => {
       : element("p", { class: "cut" }, `Unknown after ${states(count)}: the search was cut at its limit. ${rest}`);
   }
 
+  /** Harts in words, from a word as `harts=0,2,5`. */
+  const equalWords = (word) => word.slice("harts=".length).replaceAll(",", ", ").replace(/, (\d+)$/, " and $1");
+
   /** What states are told apart without, where it is less than all that they hold. */
-  const reducedWords = ({ reduced = [] }) => (reduced.includes("registers")
-    ? paragraph("States that differ only in registers which nobody reads again count as one.") : null);
+  function reducedWords({ reduced = [] }) {
+    const words = reduced.map((word) => (word === "registers"
+      ? "States that differ only in registers which nobody reads again count as one."
+      : `States in which the equal harts ${equalWords(word)} have changed places count as one.`));
+    return words.length > 0 ? paragraph(words.join(" ")) : null;
+  }
 
   const ENDLESS = {
     no: "Every run ends.",

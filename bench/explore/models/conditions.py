@@ -1,7 +1,7 @@
 """Conditions: what they say, whether a state has them, and what they look at.
 
 A condition is plain data, so that what it looks at can be read off it: which registers, which
-granules, and whether it treats two harts alike.
+granules, and which harts it names.
 """
 
 from __future__ import annotations
@@ -262,39 +262,15 @@ def granules_seen(condition: Union[Condition, Term]) -> frozenset[int]:
     return frozenset().union(*map(granules_seen, parts_of(condition)))
 
 
-def swapped(condition: Union[Condition, Term], one: int, other: int) -> tuple:
-    """The condition with two harts' numbers exchanged."""
+def harts_named(condition: Union[Condition, Term], counted: bool = False) -> frozenset[int]:
+    """The harts that a condition names by their numbers.  `h` stands for each hart in turn where
+    harts are counted; outside of that it is hart 0."""
     if isinstance(condition, (Register, Has)):
-        who = {one: other, other: one}.get(condition.who, condition.who)
-        return condition._replace(who=who)
-    if isinstance(condition, Compared):
-        return Compared(swapped(condition.left, one, other), condition.name,
-                        swapped(condition.right, one, other))
-    if isinstance(condition, (Negated, Counted)):
-        return condition._replace(part=swapped(condition.part, one, other))
-    if isinstance(condition, Joined):
-        return condition._replace(parts=tuple(swapped(part, one, other)
-                                              for part in condition.parts))
-    return condition
-
-
-def ordered(condition: Union[Condition, Term]) -> str:
-    """A text that is the same of conditions that differ only in the order of their parts."""
-    if isinstance(condition, Joined):
-        return f"{condition.joint}({', '.join(sorted(map(ordered, condition.parts)))})"
-    if isinstance(condition, Compared):
-        sides = [ordered(condition.left), ordered(condition.right)]
-        sides = sorted(sides) if condition.name in ("=", "!=") else sides
-        return f"{sides[0]} {condition.name} {sides[1]}"
-    if isinstance(condition, Negated):
-        return f"not({ordered(condition.part)})"
-    if isinstance(condition, Counted):
-        return f"count({ordered(condition.part)}) {condition.name} {condition.number}"
-    return repr(condition)
-
-
-def treats_alike(condition: Condition, one: int, other: int) -> bool:
-    return ordered(condition) == ordered(swapped(condition, one, other))
+        if condition.who == H:
+            return frozenset() if counted else frozenset({0})
+        return frozenset({condition.who})
+    counted = counted or isinstance(condition, Counted)
+    return frozenset().union(*(harts_named(part, counted) for part in parts_of(condition)))
 
 
 # --------------------------------------------------------------------------

@@ -196,14 +196,14 @@ def some_place(image: Image, rng: random.Random, hart: str) -> str:
     return rng.choice([f"mem[{place:#x}]{field}", f"mem8[{place:#x}]", f"mem1[{place:#x}]"])
 
 
-def some_atom(image: Image, rng: random.Random, hart: str) -> str:
+def some_atom(image: Image, rng: random.Random, hart: str, names: bool) -> str:
     kind = rng.randrange(8)
     number = rng.choice(["0", "1", "1", "2", "3", hex(RAM_BASE), "16"])
     name = rng.choice(["=", "=", "!=", "<", "<=", ">", ">="])
     if kind < 3:
         return f"{some_place(image, rng, hart)} {name} {number}"
     if kind == 3:
-        other = rng.choice([str(rng.randrange(len(image.harts))), hart])
+        other = rng.choice([str(rng.randrange(len(image.harts))), hart]) if names else hart
         return f"{some_place(image, rng, hart)} {name} {some_place(image, rng, other)}"
     if kind == 4:
         cause = rng.choice(list(CAUSES))
@@ -217,24 +217,27 @@ def some_atom(image: Image, rng: random.Random, hart: str) -> str:
     return f"{hart} in @{first}..@{rng.randint(first + 1, len(image.program))}"
 
 
-def some_part(image: Image, rng: random.Random, depth: int, hart: Optional[str] = None) -> str:
+def some_part(image: Image, rng: random.Random, depth: int, names: bool,
+              hart: Optional[str] = None) -> str:
     who = hart or str(rng.randrange(len(image.harts)))
     kind = rng.randrange(9)
     if depth and kind < 4:
         joint = rng.choice([" and ", " or "])
-        parts = joint.join(some_part(image, rng, depth - 1, hart) for _ in range(2))
+        parts = joint.join(some_part(image, rng, depth - 1, names, hart) for _ in range(2))
         return rng.choice([f"({parts})", f"not ({parts})"])
-    if hart is None and kind < 7:
-        inside = some_part(image, rng, depth, "h")
+    if hart is None and (kind < 7 or not names):
+        inside = some_part(image, rng, depth, names, "h")
         quantifier = rng.choice(["any hart", "no hart", "two harts", "all harts"])
         if rng.random() < .7:
             return f"{quantifier} ({inside})"
         return f"count ({inside}) {rng.choice(['=', '!=', '<', '>='])} {rng.randrange(3)}"
-    return rng.choice(["", "", "not "]) + some_atom(image, rng, who)
+    return rng.choice(["", "", "not "]) + some_atom(image, rng, who, names)
 
 
-def some_condition(image: Image, rng: random.Random) -> str:
-    parts = [some_part(image, rng, rng.randrange(2)) for _ in range(rng.choice([1, 1, 2, 3]))]
+def some_condition(image: Image, rng: random.Random, names: bool = True) -> str:
+    """A condition; one that names no hart where that isn't wanted."""
+    count = rng.choice([1, 1, 2, 3])
+    parts = [some_part(image, rng, rng.randrange(2), names) for _ in range(count)]
     return rng.choice([" and ", " and ", " or "]).join(parts)
 
 
@@ -248,7 +251,8 @@ def some_items(image: Image, rng: random.Random) -> str:
 
 def some_properties(image: Image, rng: random.Random, ends: bool, sweeps: list[str]) -> str:
     kinds = ["never", "always", "sometimes", "finally"]
-    lines = [f"#! {rng.choice(kinds)} {some_condition(image, rng)}"
+    names = rng.random() < .5
+    lines = [f"#! {rng.choice(kinds)} {some_condition(image, rng, names)}"
              for _ in range(rng.randint(1, 3))]
     if ends:
         lines.append(rng.choice(["#! ends", "#! ends fairly"]))

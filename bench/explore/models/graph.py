@@ -11,7 +11,7 @@ from typing import Callable, Iterator, NamedTuple, Optional
 
 import machine
 from granules import Touch, Touches
-from harts import Group, sorted_places, sorted_row
+from harts import Group, Key, key_of, places_in_order
 from machine import ACCESSES, NULL, RUNNING, Asked, Hart, Image, Operation, State, Step, Sweep
 from registers import Live
 from values import Value, bounds_of
@@ -79,6 +79,7 @@ class Graph:
         self.ways: dict[tuple[int, int], Way] = {}
         self.puts: dict[tuple[int, int, int], int] = {}
         self.swept: dict[tuple[str, int, Sweep], int] = {}
+        self.keys: dict[int, Key] = {}
 
     def is_sweep(self, label: Optional[int]) -> bool:
         """Whether it isn't a step: the beginning has no label."""
@@ -249,8 +250,22 @@ class Graph:
         self.note(label, (there.touch,) if there.touch else ())
         return (*node[:label], there.hart, *node[label + 1:-1], there.memory)
 
+    def key(self, hart: int) -> Key:
+        if hart not in self.keys:
+            self.keys[hart] = key_of(self.harts.things[hart])
+        return self.keys[hart]
+
+    def places(self, node: Node) -> list[int]:
+        """Where the hart at each place of the chosen node stands."""
+        return places_in_order([self.key(hart) for hart in node[:-1]], self.plan.groups)
+
+    def choose(self, node: Node) -> Node:
+        if not self.plan.groups:
+            return node
+        return (*(node[place] for place in self.places(node)), node[-1])
+
     def merge(self, node: Node, label: Optional[int] = None) -> Node:
-        return sorted_row(self.rest(node, label)[0], self.plan.groups)
+        return self.choose(self.rest(node, label)[0])
 
     def opening(self) -> Node:
         return self.merge(self.start())
@@ -263,6 +278,10 @@ class Graph:
     def successors(self, node: Node) -> Iterator[tuple[int, Node]]:
         for label in self.labels(node):
             yield label, self.merge(self.moved(node, label), label)
+
+    def names(self, who: list[int], node: Node) -> list[int]:
+        """Which hart stands at each place of the chosen node, from those at the node's."""
+        return [who[place] for place in self.places(node)] if self.plan.groups else who
 
     def order_of(self, labels: list[int]) -> tuple[list[Operation], list[int], list[int]]:
         """All steps of turns from the opening state, how many steps there are up to each turn's
@@ -279,7 +298,6 @@ class Graph:
             node, counts = self.rest(node, label)
             for place, count in counts:
                 order += [Step(who[place])] * count
-            places = sorted_places(node, self.plan.groups)
-            node, who = (*(node[place] for place in places), node[-1]), [who[p] for p in places]
+            node, who = self.choose(node), self.names(who, node)
             ends.append(len(order))
         return order, ends, who

@@ -30,7 +30,6 @@ import generate
 import questions
 from conditions import holds, read_condition
 from graph import MOST_QUIET, Graph, Node, Plan
-from harts import sorted_places
 from judge import expect
 from listing import Listing, claims_of, read_listing, sweep_of
 from machine import Sweep
@@ -73,7 +72,6 @@ def left_to_go(graph: Graph, node: Node) -> dict[int, int]:
 
 def look_at_merging(found: Found, by_turns: Found, question: Question, counts: Counter) -> None:
     graph = by_turns.graph
-    groups = graph.plan.groups
     nodes: list[Node] = []
     for node in found.nodes:
         state = found.graph.state(node)
@@ -83,7 +81,7 @@ def look_at_merging(found: Found, by_turns: Found, question: Question, counts: C
         expect(merged in by_turns.number_of, "a merged state isn't reached")
         expect(graph.merge(merged) == merged, "merging twice")
         rest, ways = graph.rest(node)
-        who = sorted_places(rest, groups)
+        who = graph.places(rest)
         place_of = {hart: place for place, hart in enumerate(who)}
         at = node
         for hart, count in ways:

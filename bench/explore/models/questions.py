@@ -6,8 +6,8 @@ from typing import Callable, NamedTuple, Optional
 
 import values as v
 from conditions import (
-    Condition, Negated, Seen, Term, granules_seen, hides, holds, place_of, read_condition,
-    registers_seen, swapped, treats_alike, value_in,
+    Condition, Negated, Seen, Term, granules_seen, harts_named, hides, holds, place_of,
+    read_condition, registers_seen, value_in,
 )
 from graph import MOST_QUIET, Graph, Node, Plan
 from harts import groups_of
@@ -37,10 +37,8 @@ class Item(NamedTuple):
     def registers(self) -> frozenset[int]:
         return registers_seen(self.place) if self.place else NOTHING
 
-    def is_alike(self, one: int, other: int) -> bool:
-        if self.place is None:
-            return self.hart not in (one, other)
-        return swapped(self.place, one, other) == self.place
+    def harts(self) -> frozenset[int]:
+        return harts_named(self.place) if self.place else frozenset({self.hart})
 
 
 def read_items(text: str) -> tuple[Item, ...]:
@@ -134,10 +132,10 @@ def registers_asked(question: Question) -> frozenset[int]:
     return NOTHING.union(*parts, *(item.registers() for item in question.items or ()))
 
 
-def are_alike(question: Question, one: int, other: int) -> bool:
-    return (all(treats_alike(condition, one, other)
-                for condition in (*question.looks, *question.at_ends))
-            and all(item.is_alike(one, other) for item in question.items or ()))
+def harts_asked(question: Question) -> frozenset[int]:
+    """The harts that the question speaks of by their numbers."""
+    parts = [harts_named(one) for one in (*question.looks, *question.at_ends)]
+    return NOTHING.union(*parts, *(item.harts() for item in question.items or ()))
 
 
 def exchanges_harts(question: Question) -> bool:
@@ -156,9 +154,16 @@ def plan_of(listing: Listing, question: Question, keep: frozenset[str] = NOTHING
         looked = NOTHING.union(*map(granules_seen, question.looks))
         plan = plan._replace(own=True, shared=looked)
     if "harts" not in keep and exchanges_harts(question):
-        plan = plan._replace(groups=groups_of(
-            listing.image, lambda one, other: are_alike(question, one, other)))
+        plan = plan._replace(groups=groups_of(listing.image, harts_asked(question)))
     return plan
+
+
+def program_plan(listing: Listing, question: Question, sweeps: list[Sweep],
+                 keep: frozenset[str] = NOTHING) -> Plan:
+    """What `cheri_explore` leaves out: no granules, no harts of `authority`, and nothing where
+    there are sweeps."""
+    kept = {"granules"} | ({"harts"} if question.command == "authority" else NOTHING)
+    return plan_of(listing, question, keep | (frozenset(REDUCTIONS) if sweeps else kept))
 
 
 def reduced_of(found: Found) -> list[str]:

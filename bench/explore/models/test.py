@@ -8,8 +8,8 @@ The listings are N generated ones, and those named. Each is asked `outcomes`, wi
 and up to the names of equal harts, `find`, `authority` and `check`, with and without sweeps, with
 all reductions and with K of the other seven sets of them (with all seven, if nothing is said),
 by turns of at most 1, 3 or 1,000 quiet steps, and some of these searches are cut. PROGRAM is
-`cheri_explore`: without reductions its text is compared, by turns and with `--steps`. Listings
-with more than `--states` states are passed over.
+`cheri_explore`: its text and its JSON are compared, with `--steps`, with each `--keep`, and of
+searches that are cut. Listings with more than `--states` states are passed over.
 """
 
 from __future__ import annotations
@@ -22,7 +22,7 @@ import tempfile
 from collections import Counter
 from multiprocessing import Pool
 from pathlib import Path
-from typing import NamedTuple, Optional
+from typing import Iterator, NamedTuple, Optional
 
 import generate
 import questions
@@ -31,9 +31,8 @@ from graph import MOST_QUIET, Plan
 from judge import KEEPS, Differs, expect, judge
 from listing import BadListing, Listing, claims_of, read_listing, sweep_of
 from machine import Sweep
-from questions import ALL_STATES, REDUCTIONS, Question, reduced_of
-from search import Found
-from texts import answer_text, status_of
+from questions import ALL_STATES, Question, reduced_of
+from texts import answer_json, answer_text, status_of
 
 
 class Asked(NamedTuple):
@@ -52,7 +51,8 @@ def asked_of(listing: Listing, rng: random.Random, sweeps: list[str]) -> list[As
     for alike in (False, True):
         items = generate.some_items(image, rng)
         asked.append(Asked(questions.outcomes(items, alike), ["--show", items, *swept]))
-    conditions = [generate.some_condition(image, rng) for _ in range(5)]
+    conditions = [generate.some_condition(image, rng, names)
+                  for names in (True, True, True, False, False)]
     for text in ["any hart is trapped", "0 is trapped", *conditions]:
         asked.append(Asked(questions.find(read_condition(text, listing)), [text, *swept]))
     for ends in (False, True):
@@ -69,24 +69,42 @@ def run_program(program: str, text: str, command: str, words: list[str]) -> tupl
     return done.stdout, done.returncode
 
 
-def compare_program(program: str, text: str, asked: Asked, sweeps: list[Sweep],
-                    base: Found) -> None:
-    """The texts with `--steps`, without reductions by turns, and as the program asks by itself: without the registers that
-    don't matter, but where there are sweeps."""
+KEEPING = ("", "harts", "registers", "registers,harts", "harts,registers")
+
+
+def asked_ways(listing: Listing, question: Question,
+               sweeps: list[Sweep]) -> Iterator[tuple[list[str], Plan, int]]:
+    """In which ways the program is asked: by which words, what it may leave out, and how many
+    states it may have."""
+    yield ["--steps"], Plan(), ALL_STATES
+    for keep in KEEPING[:1] if question.command == "authority" else KEEPING:
+        words = ["--keep", keep] if keep else []
+        plan = questions.program_plan(listing, question, sweeps, frozenset(keep.split(",")))
+        yield words, plan, ALL_STATES
+        if not keep:
+            for limit in (1, 2, 7, 20):
+                yield [*words, "--states", str(limit)], plan, limit
+
+
+def compare_program(program: str, text: str, asked: Asked, sweeps: list[Sweep]) -> int:
+    """The text and the JSON in each way; how many were compared."""
     text = asked.lines + text
     listing, question = read_listing(text), asked.question
     if asked.lines:
         question = questions.check(claims_of(listing.lines)[0], listing)
-    everything = frozenset(REDUCTIONS)
-    kept = questions.plan_of(listing, question, everything)
-    usual = kept if sweeps else questions.plan_of(listing, question, everything - {"registers"})
-    keeping = [] if question.command == "authority" else ["--keep", "registers"]
-    for found, more in ((base, ["--steps"]),
-                        (questions.ask(listing, sweeps, question, kept), keeping),
-                        (questions.ask(listing, sweeps, question, usual), [])):
-        mine = answer_text(found, question, listing), status_of(found, question, listing)
-        theirs = run_program(program, text, question.command, [*asked.words, *more])
-        expect(mine == theirs, "the program", asked.words, more)
+    answers = {"": answer_text}
+    if question.command in ("find", "check") or question.items is not None:
+        answers["--json"] = answer_json
+    count = 0
+    for words, plan, limit in asked_ways(listing, question, sweeps):
+        found = questions.ask(listing, sweeps, question, plan, limit)
+        for json, answer in answers.items():
+            mine = answer(found, question, listing), status_of(found, question, listing)
+            more = [*words, json] if json else words
+            theirs = run_program(program, text, question.command, [*asked.words, *more])
+            expect(mine == theirs, "the program", more)
+            count += 1
+    return count
 
 
 class Trial(NamedTuple):
@@ -140,12 +158,12 @@ def try_listing(trial: Trial) -> tuple[Counter, list[str]]:
             except Differs as fault:
                 wrong.append(f"{trial.name} {question.command} {one.words} "
                              f"keep {sorted(keep)} most {most}: {fault}")
-        if trial.program and not question.alike and not claims:
+        if trial.program and not question.alike and (one.own or not claims):
             try:
-                compare_program(trial.program, trial.text, one, allowed, base)
+                texts = compare_program(trial.program, trial.text, one, allowed)
+                counts["texts of the program"] += texts
             except Differs as fault:
                 wrong.append(f"{trial.name} {question.command} {one.words}: {fault}")
-            counts["texts of the program"] += 3
     return counts, wrong
 
 

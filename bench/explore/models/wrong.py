@@ -119,14 +119,14 @@ WRONG = {
         Wrong("after", graph.Graph, "no_sweep_sees",
               lambda self, before, after: self.is_whole(before)),
     "harts are exchanged whose images differ":
-        Wrong("unequal", questions, "groups_of", lambda image, are_alike:
-              harts.groups_of(image._replace(harts=image.harts[:1] * len(image.harts)), are_alike)),
-    "conditions treat all harts alike":
-        Wrong("equal", questions, "are_alike", lambda question, one, other: True),
+        Wrong("unequal", questions, "groups_of", lambda image, named:
+              harts.groups_of(image._replace(harts=image.harts[:1] * len(image.harts)), named)),
+    "harts that a condition names are exchanged":
+        Wrong("equal", questions, "harts_asked", lambda question: NOTHING),
     "harts are exchanged where `ends` is asked":
         Wrong("fair", questions, "exchanges_harts", lambda question: True),
     "orders have the names of places":
-        Wrong("renamed", graph, "sorted_places", lambda row, groups: list(range(len(row) - 1))),
+        Wrong("renamed", graph.Graph, "names", lambda self, who, node: who),
     "`authority` of exchanged harts isn't united":
         Wrong("taken", answers, "group_of", lambda plan, hart: (hart,)),
     "orders of `authority` aren't renamed":

@@ -1,5 +1,6 @@
 -- What was found is an answer.
-use Rattle.std.proofs.Common.{◌≡◌, ℕ, List, ◌∙◌, Bool, true, false, sym, subst}
+use Rattle.std.proofs.Common.{◌≡◌, ℕ, List, ◌∙◌, Bool, true, sym, subst}
+use Rattle.std.specs.Prelude.{Option, None}
 use Rattle.cheri_model.specs.declared.operation.Op.{Op}
 use Rattle.cheri_model.specs.runs.Image.{ImageParts}
 use Rattle.explore_checks.specs.ReducedChecks.{said_checked}
@@ -12,6 +13,7 @@ use Rattle.explore_verdicts.specs.Deciding.{AreSeen, watches_of}
 use Rattle.explore_verdicts.specs.Verdicts.{AreVerdicts, IsStateVerdict}
 use Rattle.explore_verdicts.specs.declared.verdict.PropertyVerdict.{PropertyVerdict}
 use Rattle.explore_verdicts.proofs.WatchLemmas.{watches_seen}
+use Rattle.reductions.specs.declared.reduction.LeftOut.{LeftOut}
 use Rattle.shown_states.specs.declared.form.Ending.{Ending}
 use Rattle.shown_states.specs.declared.form.Format.{Format}
 use Rattle.state_loops.specs.Endless.{IsEndless, IsSame}
@@ -43,10 +45,10 @@ searched_seen search properties kept endless searched =
     subst (λ (s : Sight). AreSeen s properties) (sym searched.kept_of.sight_is) (watches_seen search.every_step properties)
 
 pub answer_is : (search : SearchParts) (properties : List PropertyParts) (format : Format) (kept : KeptParts) (endless : Endless)
-    (verdicts told shown against : List PropertyVerdict) (reduced complete : Bool) (image : ImageParts) (states : ℕ) (orders : List (List Op))
+    (verdicts told shown against : List PropertyVerdict) (reduced : Option LeftOut) (complete : Bool) (image : ImageParts) (states : ℕ) (orders : List (List Op))
     (text : List ℕ) (ending : Ending)
     → IsSearched search properties kept endless → AreVerdicts (IsStateVerdict kept) endless properties verdicts → told ≡ verdicts → shown ≡ verdicts
-    → against ≡ verdicts → reduced ≡ false → complete ≡ kept.complete → image ≡ kept.image → states ≡ count kept
+    → against ≡ verdicts → reduced ≡ None → complete ≡ kept.complete → image ≡ kept.image → states ≡ count kept
     → text ≡ said_checked reduced format complete image states told → ending ≡ ending_of shown → orders ≡ orders_against against
     → IsCheckAnswer search properties format orders text ending
 answer_is search properties format kept endless verdicts told shown against reduced complete image states orders text ending searched are

@@ -99,7 +99,7 @@ pub fn checked(
 {
     let mut out = String::new(alloc);
     match format {
-        Format::Text => write_text(&mut out, head, told)?,
+        Format::Text => write_text(alloc, &mut out, head, told)?,
         Format::Json => write_json(alloc, &mut out, head, told)?,
     }
     Ok(out)

@@ -7,7 +7,7 @@ ghost use Rattle.explore_checks.specs.CheckParts.{
   check_json,
   complete_text,
   json_head,
-  states_opening,
+  version_of,
 };
 ghost use Rattle.explore_checks.specs.CheckTexts.{lasso_data, ordered_data};
 ghost use Rattle.explore_checks.specs.CheckTexts.{plain_data, property_data};
@@ -20,8 +20,9 @@ use crate::texts::verdict_word;
 use cheri_model::{Image, NoMemory, Op};
 use explore_properties::Property;
 use explore_verdicts::{PropertyVerdict, Verdict};
-use found_texts::reduced_version;
 use order_texts::write_order;
+use reduced_texts::write_reduced_member;
+use reductions::LeftOut;
 use report_lines::{image_json, write_comma, write_json_value};
 use serde_json::{Value, json};
 use state_loops::Lasso;
@@ -129,11 +130,21 @@ fn complete_text(complete: bool) -> &'static str
     if complete { "true" } else { "false" }
 }
 
+/// The answer's version.
+fn version_of(reduced: Option<LeftOut>) -> u8
+    ensures { result ≡ version_of reduced }
+{
+    match reduced {
+        Some(_) => 2,
+        None => 1,
+    }
+}
+
 /// Appends the members up to the image.
 fn write_head(
     alloc: Global,
     out: &mut String,
-    reduced: bool,
+    reduced: Option<LeftOut>,
     complete: bool,
     image: &Image,
 ) -> Result<(), NoMemory>
@@ -142,21 +153,9 @@ fn write_head(
 {
     out.push_str("{\"complete\":")?;
     out.push_str(complete_text(complete))?;
-    let version = reduced_version(reduced);
+    let version = version_of(reduced);
     write!(out, ",\"explore\":{version},\"image\":")?;
     write_json_value(alloc, out, image_json(alloc, image)?)
-}
-
-/// The end of the properties, the member of what was forgotten, if anything was, and the beginning
-/// of the number of states.
-fn states_opening(reduced: bool) -> &'static str
-    ensures { result.now ≡ states_opening reduced }
-{
-    if reduced {
-        "],\"reduced\":[\"registers\"],\"states\":"
-    } else {
-        "],\"states\":"
-    }
 }
 
 /// Appends the object's line.
@@ -173,6 +172,7 @@ pub(crate) fn write_json(
     write_head(alloc, out, head.reduced, head.complete, head.image)?;
     out.push_str(",\"properties\":[")?;
     write_properties(alloc, out, told)?;
-    out.push_str(states_opening(head.reduced))?;
-    writeln!(out, "{}}}", head.states)
+    out.push_str("]")?;
+    write_reduced_member(alloc, out, head.reduced)?;
+    writeln!(out, ",\"states\":{}}}", head.states)
 }

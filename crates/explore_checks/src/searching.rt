@@ -1,6 +1,6 @@
 //! The search.
 
-ghost use Rattle.std.specs.Prelude.{◌≡◌, true, false, IfOk};
+ghost use Rattle.std.specs.Prelude.{◌≡◌, true, None, IfOk};
 ghost use Rattle.cheri_model.specs.runs.Machine.{opening_state};
 ghost use Rattle.explore_checks.specs.Checks.{asks_of_loops, IsFound, one_asks};
 ghost use Rattle.state_loops.specs.Endless.{IsEndless, IsSame};
@@ -28,13 +28,13 @@ impl Searched {
     /// What an answer begins with.
     pub fn head(&self) -> Head<'_>
         ensures image { result.image.now ≡ self.now.kept.image }
-        ensures reduced { result.reduced ≡ false }
+        ensures reduced { result.reduced ≡ None }
         ensures complete { result.complete ≡ self.now.kept.complete }
         ensures states { result.states ≡ count self.now.kept }
     {
         Head {
             image: self.kept.image(),
-            reduced: false,
+            reduced: None,
             complete: self.kept.is_complete(),
             states: self.kept.len(),
         }

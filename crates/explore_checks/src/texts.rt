@@ -16,10 +16,12 @@ ghost use Rattle.report_lines.specs.Texts.{numbered};
 use crate::head::Head;
 use cheri_model::{NoMemory, Op};
 use explore_verdicts::{PropertyVerdict, Verdict};
-use found_texts::reduced_line;
 use order_texts::write_order;
+use reduced_texts::write_reduced_line;
+use reductions::LeftOut;
 use report_lines::write_image_line;
 use shown_states::write_states_line;
+use std::alloc::Global;
 
 /// What is known of a property, in a word.
 pub(crate) fn verdict_word(verdict: &Verdict) -> &'static str
@@ -94,18 +96,18 @@ fn write_properties(out: &mut String, told: &[PropertyVerdict<'_, '_>]) -> Resul
 }
 
 /// The first line, with the answer's version.
-fn first_line(reduced: bool) -> &'static str
+fn first_line(reduced: Option<LeftOut>) -> &'static str
     ensures { result.now ≡ first_line reduced }
 {
-    if reduced {
-        "cheri-sim check 2\n"
-    } else {
-        "cheri-sim check 1\n"
+    match reduced {
+        Some(_) => "cheri-sim check 2\n",
+        None => "cheri-sim check 1\n",
     }
 }
 
 /// Appends the whole text.
 pub(crate) fn write_text(
+    alloc: Global,
     out: &mut String,
     head: Head<'_>,
     told: &[PropertyVerdict<'_, '_>],
@@ -116,7 +118,7 @@ pub(crate) fn write_text(
 {
     out.push_str(first_line(head.reduced))?;
     write_image_line(out, head.image)?;
-    out.push_str(reduced_line(head.reduced))?;
+    write_reduced_line(alloc, out, head.reduced)?;
     write_states_line(out, head.complete, head.states)?;
     write_properties(out, told)?;
     out.push_str("end\n")

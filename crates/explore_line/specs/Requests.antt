@@ -16,6 +16,7 @@ use Rattle.explore_line.specs.Sweeps.{sweeps_in}
 use Rattle.explore_sweeps.specs.declared.Sweep.{Sweep}
 use Rattle.explore_sweeps.specs.declared.TheConstants.{MAX_SWEEPS}
 use Rattle.explore_line.specs.declared.requests.TheConstants.{GREATEST_STATES, USUAL_STATES}
+use Rattle.explore_line.specs.declared.requests.Keeping.{Keeping}
 use Rattle.explore_line.specs.declared.requests.Question.{Question}
 use Rattle.explore_line.specs.declared.requests.Question.TheVariants as questions
 use Rattle.explore_line.specs.declared.requests.ExploreRequest.{ExploreRequest}
@@ -36,6 +37,7 @@ pub record SearchAsked : Type 0 where
   pub states : ℕ
   pub every_step : Bool
   pub keeps_registers : Bool
+  pub keeps_harts : Bool
   pub form : Format
   pub explained : Bool
   pub question : AskedQuestion
@@ -62,6 +64,7 @@ search_asked_by request = record {
   states = request.states;
   every_step = request.every_step;
   keeps_registers = request.keeps_registers;
+  keeps_harts = request.keeps_harts;
   form = request.form;
   explained = request.explained;
   question = question_asked_by request.question;
@@ -79,11 +82,16 @@ IsBounded (requests.Search request) =
 IsBounded (requests.Sample request) = IsSampleBounded request
 IsBounded (requests.Merge request) = IsJobs request.jobs
 
--- Whether registers are kept that no longer matter: where the list of what is kept names them. It
--- has each word at most once, and `registers` is the only word so far.
-abbrev pub registers_kept : Option Text → Option Bool
-registers_kept None = Some false
-registers_kept (Some list) = if bytes_eq list (codes "registers") then Some true else None
+-- What is told apart though the question doesn't see it: each list of the words `registers` and
+-- `harts`, of which each stands at most once and one at least.
+abbrev pub keeping_of : Option Text → Option Keeping
+keeping_of None = Some (record { registers = false; harts = false })
+keeping_of (Some list) =
+    if bytes_eq list (codes "registers") then Some (record { registers = true; harts = false })
+    else if bytes_eq list (codes "harts") then Some (record { registers = false; harts = true })
+    else if bytes_eq list (codes "registers,harts") then Some (record { registers = true; harts = true })
+    else if bytes_eq list (codes "harts,registers") then Some (record { registers = true; harts = true })
+    else None
 
 -- what the command of this name asks
 unfoldable pub question_of : Text → List Row → Option AskedQuestion
@@ -105,7 +113,7 @@ search_asked_of name rows = do
   question ← question_of name rows
   listing ← first_of (codes "listing") rows
   states ← number_or USUAL_STATES 1 GREATEST_STATES (first_of (codes "states") rows)
-  keeps ← registers_kept (first_of (codes "keep") rows)
+  keeping ← keeping_of (first_of (codes "keep") rows)
   explained ← explained_in (form_of (first_of (codes "json") rows))
       (is_given (first_of (codes "explain") rows))
   sweeps ← sweeps_in (all_of (codes "sweep") rows)
@@ -115,7 +123,8 @@ search_asked_of name rows = do
     sweeps = sweeps;
     states = states;
     every_step = is_given (first_of (codes "steps") rows);
-    keeps_registers = keeps;
+    keeps_registers = keeping.registers;
+    keeps_harts = keeping.harts;
     form = form_of (first_of (codes "json") rows);
     explained = explained;
     question = question;

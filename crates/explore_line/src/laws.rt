@@ -27,6 +27,7 @@ pub fn known_explore_lines()
           states = 1000000;
           every_step = false;
           keeps_registers = false;
+          keeps_harts = false;
           form = Format.Text;
           explained = false;
           question = Outcomes None;
@@ -40,6 +41,7 @@ pub fn known_explore_lines()
           states = 1000000;
           every_step = false;
           keeps_registers = false;
+          keeps_harts = false;
           form = Format.Text;
           explained = false;
           question = Outcomes (Some (codes "0.c7,mem8[0x10]"));
@@ -53,6 +55,7 @@ pub fn known_explore_lines()
           states = 1000000;
           every_step = false;
           keeps_registers = false;
+          keeps_harts = false;
           form = Format.Text;
           explained = false;
           question = Outcomes (Some []);
@@ -66,6 +69,7 @@ pub fn known_explore_lines()
           states = 1000000;
           every_step = false;
           keeps_registers = false;
+          keeps_harts = false;
           form = Format.Json;
           explained = false;
           question = Find (codes "0 is halted");
@@ -79,6 +83,7 @@ pub fn known_explore_lines()
           states = 10;
           every_step = false;
           keeps_registers = false;
+          keeps_harts = false;
           form = Format.Text;
           explained = false;
           question = Authority;
@@ -92,6 +97,7 @@ pub fn known_explore_lines()
           states = 1000000;
           every_step = true;
           keeps_registers = false;
+          keeps_harts = false;
           form = Format.Text;
           explained = false;
           question = Find (codes "0 is halted");
@@ -106,6 +112,7 @@ pub fn known_explore_lines()
           states = 1000000;
           every_step = false;
           keeps_registers = false;
+          keeps_harts = false;
           form = Format.Text;
           explained = false;
           question = Authority;
@@ -119,6 +126,7 @@ pub fn known_explore_lines()
           states = 1000000;
           every_step = false;
           keeps_registers = false;
+          keeps_harts = false;
           form = Format.Text;
           explained = false;
           question = Outcomes None;
@@ -132,6 +140,7 @@ pub fn known_explore_lines()
           states = 100000000;
           every_step = false;
           keeps_registers = false;
+          keeps_harts = false;
           form = Format.Text;
           explained = false;
           question = Outcomes None;
@@ -193,6 +202,7 @@ pub fn known_explore_lines()
           states = 7;
           every_step = true;
           keeps_registers = false;
+          keeps_harts = false;
           form = Format.Json;
           explained = false;
           question = Check;
@@ -206,6 +216,7 @@ pub fn known_explore_lines()
           states = 1000000;
           every_step = false;
           keeps_registers = false;
+          keeps_harts = false;
           form = Format.Text;
           explained = true;
           question = Check;
@@ -219,6 +230,7 @@ pub fn known_explore_lines()
           states = 1000000;
           every_step = false;
           keeps_registers = false;
+          keeps_harts = false;
           form = Format.Text;
           explained = true;
           question = Find (codes "0 is halted");
@@ -232,65 +244,11 @@ pub fn known_explore_lines()
           states = 1000000;
           every_step = false;
           keeps_registers = false;
+          keeps_harts = false;
           form = Format.Text;
           explained = false;
           question = Find (codes "0 at main");
         })) }
-    ensures find_keeping { explore_asked (codes "cheri_explore" ∷ codes "find"
-        ∷ codes "first.lst" ∷ codes "0 is halted" ∷ codes "--keep" ∷ codes "registers" ∷ [])
-        ≡ Some (Search (record {
-          listing = codes "first.lst";
-          map = None;
-          sweeps = [];
-          states = 1000000;
-          every_step = false;
-          keeps_registers = true;
-          form = Format.Text;
-          explained = false;
-          question = Find (codes "0 is halted");
-        })) }
-    ensures outcomes_keeping { explore_asked (codes "cheri_explore" ∷ codes "outcomes"
-        ∷ codes "first.lst" ∷ codes "--keep=registers" ∷ codes "--show" ∷ codes "0.c7" ∷ [])
-        ≡ Some (Search (record {
-          listing = codes "first.lst";
-          map = None;
-          sweeps = [];
-          states = 1000000;
-          every_step = false;
-          keeps_registers = true;
-          form = Format.Text;
-          explained = false;
-          question = Outcomes (Some (codes "0.c7"));
-        })) }
-    ensures check_keeping { explore_asked (codes "cheri_explore" ∷ codes "check"
-        ∷ codes "first.lst" ∷ codes "--keep" ∷ codes "registers" ∷ [])
-        ≡ Some (Search (record {
-          listing = codes "first.lst";
-          map = None;
-          sweeps = [];
-          states = 1000000;
-          every_step = false;
-          keeps_registers = true;
-          form = Format.Text;
-          explained = false;
-          question = Check;
-        })) }
-    ensures authority_keeping { explore_asked (codes "cheri_explore" ∷ codes "authority"
-        ∷ codes "first.lst" ∷ codes "--keep=registers" ∷ [])
-        ≡ None }
-    ensures keeping_nothing { explore_asked (codes "cheri_explore" ∷ codes "find"
-        ∷ codes "first.lst" ∷ codes "0 is halted" ∷ codes "--keep=" ∷ [])
-        ≡ None }
-    ensures keeping_another_word { explore_asked (codes "cheri_explore" ∷ codes "find"
-        ∷ codes "first.lst" ∷ codes "0 is halted" ∷ codes "--keep=registers,harts" ∷ [])
-        ≡ None }
-    ensures keeping_a_word_twice { explore_asked (codes "cheri_explore" ∷ codes "find"
-        ∷ codes "first.lst" ∷ codes "0 is halted" ∷ codes "--keep=registers,registers" ∷ [])
-        ≡ None }
-    ensures keeping_twice { explore_asked (codes "cheri_explore" ∷ codes "find"
-        ∷ codes "first.lst" ∷ codes "0 is halted" ∷ codes "--keep=registers"
-        ∷ codes "--keep=registers" ∷ [])
-        ≡ None }
     ensures check_mapped { explore_asked (codes "cheri_explore" ∷ codes "check"
         ∷ codes "--map=first.map" ∷ codes "first.lst" ∷ codes "--json" ∷ [])
         ≡ Some (Search (record {
@@ -300,6 +258,7 @@ pub fn known_explore_lines()
           states = 1000000;
           every_step = false;
           keeps_registers = false;
+          keeps_harts = false;
           form = Format.Json;
           explained = false;
           question = Check;

@@ -5,6 +5,7 @@ ghost use Rattle.std.specs.Prelude.{◌≡◌, IfOk, Err, Some, None, map};
 ghost use Rattle.explore_line.specs.Requests.{asked_by, explore_asked, IsBounded};
 
 mod commands;
+pub mod keeping_laws;
 pub mod laws;
 mod numbers;
 mod requests;
@@ -17,7 +18,7 @@ use crate::requests::explore_met;
 use command_line::CommandFault;
 pub use explore_sweeps::{MAX_SWEEPS, Sweep};
 pub use numbers::GREATEST_RUN;
-pub use requests::{ExploreRequest, GREATEST_STATES, Question, Request, USUAL_STATES};
+pub use requests::{ExploreRequest, GREATEST_STATES, Keeping, Question, Request, USUAL_STATES};
 pub use samples::{
     GREATEST_DEPTH, GREATEST_JOBS, GREATEST_LENGTH, GREATEST_ORDERS, GREATEST_SEED, MergeRequest,
     SampleRequest, USUAL_LENGTH,

@@ -10,10 +10,10 @@ ghost use Rattle.explore_line.specs.Requests.{
   asked_by,
   explained_in,
   explore_asked_of,
+  keeping_of,
   name_of,
   question_asked_by,
   question_of,
-  registers_kept,
   search_asked_by,
   search_asked_of,
   IsBounded,
@@ -35,6 +35,14 @@ pub const GREATEST_STATES: u32 = 100_000_000;
 /// The most states that a search keeps where nothing else is asked for.
 pub const USUAL_STATES: u32 = 1_000_000;
 
+/// What a search tells apart though its question doesn't see it: registers that no longer matter,
+/// and which of equal harts stands where.
+#[derive(Clone, Copy, Debug)]
+pub struct Keeping {
+    pub registers: bool,
+    pub harts: bool,
+}
+
 /// What is asked of all schedules.
 #[derive(Clone, Copy, Debug, PartialEq, Eq)]
 pub enum Question<'a> {
@@ -52,8 +60,9 @@ pub enum Question<'a> {
 /// this name reaches, with these sweeps, up to so many states, and to answer in this form. Where
 /// `every_step` is true, states are told apart after each step, also where the question doesn't
 /// see it. Where `keeps_registers` is true, they are told apart by all registers, also by those that
-/// no longer matter. Where `explained` is true, the answer's orders are explained, and the form is
-/// text. Of `find` and `check` `map` may name the file of the map of the listing's program.
+/// no longer matter, and where `keeps_harts` is true, by which of equal harts stands where. Where
+/// `explained` is true, the answer's orders are explained, and the form is text. Of `find` and
+/// `check` `map` may name the file of the map of the listing's program.
 #[derive(Debug, Drop)]
 pub struct ExploreRequest<'a> {
     pub listing: &'a str,
@@ -62,6 +71,7 @@ pub struct ExploreRequest<'a> {
     pub states: u32,
     pub every_step: bool,
     pub keeps_registers: bool,
+    pub keeps_harts: bool,
     pub form: Format,
     pub explained: bool,
     pub question: Question<'a>,
@@ -78,13 +88,31 @@ pub enum Request<'a> {
     Merge(MergeRequest<'a>),
 }
 
-/// Whether registers are kept that no longer matter: where the list of what is kept names them.
-fn registers_kept(list: Option<&str>) -> Option<bool>
-    ensures { result ≡ registers_kept (option_map name_of list.entry) }
+/// What is told apart though the question doesn't see it, by the list that names it.
+fn keeping_of(list: Option<&str>) -> Option<Keeping>
+    ensures { result ≡ keeping_of (option_map name_of list.entry) }
 {
     match list {
-        None => Some(false),
-        Some("registers") => Some(true),
+        None => Some(Keeping {
+            registers: false,
+            harts: false,
+        }),
+        Some("registers") => Some(Keeping {
+            registers: true,
+            harts: false,
+        }),
+        Some("harts") => Some(Keeping {
+            registers: false,
+            harts: true,
+        }),
+        Some("registers,harts") => Some(Keeping {
+            registers: true,
+            harts: true,
+        }),
+        Some("harts,registers") => Some(Keeping {
+            registers: true,
+            harts: true,
+        }),
         Some(_) => None,
     }
 }
@@ -159,7 +187,7 @@ fn search_of<'a>(
     let listing = value_found(found, "listing").ok_or(CommandFault::Usage)?;
     let map = value_found(found, "map");
     let states = states_found(found).ok_or(CommandFault::Usage)?;
-    let keeps_registers = registers_kept(value_found(found, "keep")).ok_or(CommandFault::Usage)?;
+    let keeping = keeping_of(value_found(found, "keep")).ok_or(CommandFault::Usage)?;
     let explained = explained_found(found).ok_or(CommandFault::Usage)?;
     let sweeps = sweeps_found(alloc, found)?;
     Ok(ExploreRequest {
@@ -168,7 +196,8 @@ fn search_of<'a>(
         sweeps,
         states,
         every_step: flag_found(found, "steps"),
-        keeps_registers,
+        keeps_registers: keeping.registers,
+        keeps_harts: keeping.harts,
         form: form_found(found),
         explained,
         question,

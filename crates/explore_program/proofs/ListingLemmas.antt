@@ -1,5 +1,5 @@
 -- What the texts of a listing and of its map mean, by what was read of both.
-use Rattle.std.proofs.Common.{◌≡◌, ℕ, List, Option, refl, ap, sym, ◌∙◌, inl, inr}
+use Rattle.std.proofs.Common.{◌≡◌, ℕ, List, Option, ap, sym, ◌∙◌, inl, inr}
 use Rattle.std.specs.Prelude.{◌⊎◌, option_map, Result, Ok, Err, Vec}
 use Rattle.std.specs.Global.{Global}
 use Rattle.asm_map_reader.specs.declared.source.Source.{Source}
@@ -14,7 +14,7 @@ use Rattle.inputs.specs.declared.fault.InputFault.{InputFault}
 use Rattle.program_io.specs.Faults.{no_memory}
 use Rattle.program_io.specs.declared.fault.Fault.TheVariants.{Input}
 use Rattle.explore_program.specs.Faults.{Fault}
-use Rattle.explore_program.specs.Listings.{GivesImage, MappedParts, mapped_image_of, of_listing, of_sources, sources_in, sources_meant}
+use Rattle.explore_program.specs.Listings.{GivesImage, mapped_image_of, of_listing, of_sources, sources_in, sources_meant}
 
 module _ (listing : List ℕ) (map : Option (List ℕ)) where
   -- a listing that is refused

@@ -29,7 +29,7 @@ use Rattle.sinks.specs.Sinks.{TakesPrefix}
 use Rattle.shown_states.specs.declared.form.Ending.{Ending}
 use Rattle.explore_program.specs.Faults.{Fault, failure_of, fault_text, is_refusal, own_failure, own_text, status_of}
 use Rattle.explore_program.specs.Listings.{ListedParts, MappedParts, IsMapUnread, mapped_image_of, of_listing, of_map, of_sources, sources_meant}
-use Rattle.explore_program.specs.Program.{Concludes, Ends, IsAnswer, IsMapAnswer, IsRequestAnswer, IsSearched, IsTextsAnswer, OfMapped, is_violation, search_asked}
+use Rattle.explore_program.specs.Program.{Concludes, Ends, IsAnswer, IsMapAnswer, IsRequestAnswer, IsSearched, IsTextsAnswer, OfMapped, is_violation, keeps_asked, search_asked}
 use Rattle.explore_program.specs.declared.faults.OwnFault.TheVariants.{Map, Violated}
 use Rattle.shown_states.specs.Endings as endings
 use Rattle.shown_states.specs.declared.form.Ending.TheVariants as kinds
@@ -127,25 +127,25 @@ module _ (asked : SearchAsked) (image : ImageParts) (question : AskedQuestion) (
   abbrev searched : SearchParts
   searched = record { image = image; sweeps = sweeps; every_step = asked.every_step; limit = asked.states }
 
-  of_question : (answer : Answer Ending Fault) → IsSaidTo question labels listed searched format asked.explained asked.keeps_registers answer → IsRequestAnswer labels listed image asked answer
+  of_question : (answer : Answer Ending Fault) → IsSaidTo question labels listed searched format asked.explained (keeps_asked asked) answer → IsRequestAnswer labels listed image asked answer
   of_question answer said =
-      subst (λ (q : AskedQuestion). IsSaidTo q labels listed (search_asked image asked) (format_of asked.form) asked.explained asked.keeps_registers answer) question_is
-      (subst (λ (f : Format). IsSaidTo question labels listed (search_asked image asked) f asked.explained asked.keeps_registers answer) format_is
+      subst (λ (q : AskedQuestion). IsSaidTo q labels listed (search_asked image asked) (format_of asked.form) asked.explained (keeps_asked asked) answer) question_is
+      (subst (λ (f : Format). IsSaidTo question labels listed (search_asked image asked) f asked.explained (keeps_asked asked) answer) format_is
       (subst (λ (ss : List SweepRange). IsSaidTo question labels listed
-      (record { image = image; sweeps = ss; every_step = asked.every_step; limit = asked.states }) format asked.explained asked.keeps_registers answer) sweeps_are said))
+      (record { image = image; sweeps = ss; every_step = asked.every_step; limit = asked.states }) format asked.explained (keeps_asked asked) answer) sweeps_are said))
 
   pub question_printed : {E : Type 0} (result : Result Ending E) (old new : Option (List ℕ))
-      → IfOk result (λ ending. HasWhole (IsSaidTo question labels listed searched format asked.explained asked.keeps_registers) ending old new)
+      → IfOk result (λ ending. HasWhole (IsSaidTo question labels listed searched format asked.explained (keeps_asked asked)) ending old new)
       → IfOk result (λ ending. HasWhole (IsRequestAnswer labels listed image asked) ending old new)
   question_printed result old new printed =
-      all_whole (λ ending. ending) own_failure false (IsSaidTo question labels listed searched format asked.explained asked.keeps_registers) (IsRequestAnswer labels listed image asked)
+      all_whole (λ ending. ending) own_failure false (IsSaidTo question labels listed searched format asked.explained (keeps_asked asked)) (IsRequestAnswer labels listed image asked)
       of_question old new result printed
 
   pub question_fails : {T : Type 0} (result : Result T Fault) (old new : Option (List ℕ))
-      → IfErr result (λ f. FailsBy (failure_of f) (IsSaidTo question labels listed searched format asked.explained asked.keeps_registers) f old new)
+      → IfErr result (λ f. FailsBy (failure_of f) (IsSaidTo question labels listed searched format asked.explained (keeps_asked asked)) f old new)
       → IfErr result (λ f. FailsBy (failure_of f) (IsRequestAnswer labels listed image asked) f old new)
   question_fails result old new fails =
-      all_fail (λ ending. ending) own_failure false (IsSaidTo question labels listed searched format asked.explained asked.keeps_registers) (IsRequestAnswer labels listed image asked)
+      all_fail (λ ending. ending) own_failure false (IsSaidTo question labels listed searched format asked.explained (keeps_asked asked)) (IsRequestAnswer labels listed image asked)
       of_question old new result fails
 
 -- the same, of labels that are these

@@ -21,6 +21,7 @@ use Rattle.explore_properties.specs.declared.fault.PropertyFault.TheVariants as 
 use Rattle.explore_properties.specs.declared.fault.PropertyPlace.{PropertyPlace}
 use Rattle.explore_program.specs.Listings.{ListedParts}
 use Rattle.explore_program.specs.Questions.{explained_text, IsExplained, IsSaid, IsSaidOf, range_of, swept_by}
+use Rattle.reductions.specs.declared.reduction.Keeps.{Keeps}
 use Rattle.schedules.specs.declared.ranges.SweepRange.{SweepRange}
 use Rattle.shown_states.specs.declared.form.Format.{Format}
 use Rattle.states.specs.Searches.{SearchParts}
@@ -76,7 +77,7 @@ properties_fail answers meaning (properties.Place place) old new is same = (refu
 properties_fail answers meaning properties.NoMemory old new is same = inl same
 
 -- what was read of a listing is checked
-pub check_asked : (keeps : Bool) (search : SearchParts) (explained : Bool) (listed : ListedParts) (sweeps : List SweepRange) (read : PropertiesParts)
+pub check_asked : (keeps : Keeps) (search : SearchParts) (explained : Bool) (listed : ListedParts) (sweeps : List SweepRange) (read : PropertiesParts)
     (list : List PropertyParts) (format : Format) (meaning : Result PropertiesParts PropertyPlace) → meaning ≡ Ok read
     → sweeps ≡ map range_of read.sweeps → list ≡ read.properties → (answer : Answer Ending Fault)
     → IsSaid (IsExplained explained listed search.image (IsCheckStatesAnswer keeps (record search { sweeps = sweeps }) list format)) answer

@@ -1,5 +1,5 @@
 -- What was made of an answer of `sample`, before it is printed.
-use Rattle.std.proofs.Common.{◌≡◌, ◌∙◌, ℕ, ◌∷◌, [], List, Option, Some, None, Result, Ok, Err, refl, sym, subst, ap, inl, inr, false, length}
+use Rattle.std.proofs.Common.{◌≡◌, ◌∙◌, ℕ, ◌∷◌, [], List, Option, Result, Ok, Err, refl, sym, subst, ap, inl, inr, false, length}
 use Rattle.std.proofs.lemmas.List.{length-map}
 use Rattle.std.specs.Prelude.{◌⊎◌, IfErr, IfOk, string_bytes}
 use Rattle.cheri_model.specs.runs.Image.{ImageParts}
@@ -27,7 +27,7 @@ use Rattle.program_io.specs.Faults.{no_memory, written_fault}
 use Rattle.shown_states.specs.Endings.{IsUnwritten}
 use Rattle.sinks.specs.declared.fault.WriteFault.{WriteFault}
 use Rattle.sinks.specs.declared.fault.WriteFault.TheVariants as written
-use Rattle.program_io.specs.declared.fault.Fault.TheVariants.{CannotWrite, Input, Own}
+use Rattle.program_io.specs.declared.fault.Fault.TheVariants.{Input, Own}
 use Rattle.sample_merges.specs.Merged.{AreMerged, FirstRefused, MergedParts}
 use Rattle.sample_slices.specs.Slices.{ListingParts}
 use Rattle.sample_slices.specs.declared.fault.SliceError.{SliceError}
@@ -39,7 +39,7 @@ use Rattle.explore_line.specs.Samples.{MergeAsked, SampleAsked}
 use Rattle.explore_program.specs.Faults.{Fault, failure_of, own_failure, property_fault, refused_properties, refused_slices, text_fault}
 use Rattle.explore_program.specs.Merges.{AreSlicesSaid, AreSlicesTold, IsMergeTold, IsSlicesUnread}
 use Rattle.explore_program.specs.Program.{IsPut}
-use Rattle.explore_program.specs.Questions.{IsSaid, format_of}
+use Rattle.explore_program.specs.Questions.{format_of}
 use Rattle.explore_program.specs.Samples.{IsItemsSampled, IsSampleAnswer, IsSampleTold, Makes, OfText, SamplingParts, place_fault, span_asked}
 use Rattle.explore_program.specs.declared.faults.OwnFault.TheVariants.{CannotReadSlices, Slice}
 use Rattle.sample_checks.specs.Checks.{decided_in, decided_of}

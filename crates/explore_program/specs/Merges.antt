@@ -1,5 +1,5 @@
 -- What is answered to `merge`: what the runs of many slices of a sample gave.
-use Rattle.std.specs.Prelude.{◌≡◌, ◌⊎◌, ℕ, List, Option, None, Result, Ok, Err}
+use Rattle.std.specs.Prelude.{◌≡◌, ◌⊎◌, ℕ, List, Option, None, Ok, Err}
 use Rattle.cheri_model.specs.runs.Image.{ImageParts}
 use Rattle.explore_line.specs.Samples.{MergeAsked}
 use Rattle.explore_properties.specs.Properties.{PropertyParts}

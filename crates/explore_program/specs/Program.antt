@@ -12,6 +12,7 @@ use Rattle.grammar.specs.Labels.{LabelParts, labels_of}
 use Rattle.inputs.specs.Reading.{OfFile}
 use Rattle.inputs.specs.declared.fault.InputFault.TheVariants.{CannotReadListing}
 use Rattle.printing.specs.Endings.{Answer, EndsBy, FailsBy, HasWhole}
+use Rattle.reductions.specs.declared.reduction.Keeps.{Keeps}
 use Rattle.shown_states.specs.Endings as endings
 use Rattle.shown_states.specs.declared.form.Ending.{Ending}
 use Rattle.shown_states.specs.declared.form.Ending.TheVariants as kinds
@@ -41,13 +42,17 @@ search_asked image asked = record {
   limit = asked.states;
 }
 
+-- what states are told apart by, though the question doesn't see it
+abbrev pub keeps_asked : SearchAsked → Keeps
+keeps_asked asked = record { registers = asked.keeps_registers; harts = asked.keeps_harts }
+
 -- the answers to a request about the listing that has this text, this map, these labels and this
 -- image
 abbrev pub IsRequestAnswer : LabelParts → ListedParts → ImageParts → SearchAsked
     → Answer Ending Fault → Type 0
 IsRequestAnswer labels listed image asked answer =
     IsSaidTo asked.question labels listed (search_asked image asked) (format_of asked.form)
-    asked.explained asked.keeps_registers answer
+    asked.explained (keeps_asked asked) answer
 
 -- what is so of the meaning of texts, or their fault
 abbrev pub OfMapped : {A : Type 0} → Result MappedParts Fault → (Fault → A)

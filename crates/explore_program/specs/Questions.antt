@@ -21,6 +21,7 @@ use Rattle.forgotten_outcomes.specs.ShownStates.{IsShownStatesAnswer}
 use Rattle.found_texts.specs.Reduced.{IsStateAnswer}
 use Rattle.outcome_texts.specs.Answers.{IsListedAnswer}
 use Rattle.printing.specs.Endings.{Answer}
+use Rattle.reductions.specs.declared.reduction.Keeps.{Keeps}
 use Rattle.schedules.specs.declared.ranges.SweepRange.{SweepRange}
 use Rattle.shown_states.specs.declared.form.Ending.{Ending}
 use Rattle.shown_states.specs.declared.form.Format.{Format}
@@ -64,8 +65,9 @@ pub record IsExplained (explained : Bool) (listed : ListedParts) (image : ImageP
   pub said_is : said ≡ explained_text explained listed image orders told
 
 -- `find`, with the condition that a text writes beside a listing with this text, this map and these
--- labels: the map's symbols are labels, too. It keeps all registers, or those that matter.
-abbrev pub IsFindSaid : LabelParts → ListedParts → SearchParts → Format → Bool → Bool → List ℕ
+-- labels: the map's symbols are labels, too. States are told apart by all that is kept, or by what
+-- matters.
+abbrev pub IsFindSaid : LabelParts → ListedParts → SearchParts → Format → Bool → Keeps → List ℕ
     → Answer Ending Fault → Type 0
 IsFindSaid labels listed search format explained keeps condition answer =
     IsSaidOf (λ byte. text_fault (Condition byte))
@@ -83,7 +85,7 @@ abbrev pub swept_by : SearchParts → PropertiesParts → SearchParts
 swept_by search read = record search { sweeps = map range_of read.sweeps }
 
 -- `check`, of the listing that has this text, this map and these labels
-abbrev pub IsCheckSaid : LabelParts → ListedParts → SearchParts → Format → Bool → Bool
+abbrev pub IsCheckSaid : LabelParts → ListedParts → SearchParts → Format → Bool → Keeps
     → Answer Ending Fault → Type 0
 IsCheckSaid labels listed search format explained keeps answer =
     IsSaidOf property_fault
@@ -92,16 +94,16 @@ IsCheckSaid labels listed search format explained keeps answer =
     (properties_of (named labels listed.sources) search.image listed.text) answer
 
 -- the answers to a question of the command line, about the listing that has this text, this map and
--- these labels, of which those to `find` and `check` may have their orders explained; all registers
--- are kept, or those that matter
-abbrev pub IsSaidTo : AskedQuestion → LabelParts → ListedParts → SearchParts → Format → Bool → Bool
+-- these labels, of which those to `find` and `check` may have their orders explained; states are
+-- told apart by all that is kept, or by what matters
+abbrev pub IsSaidTo : AskedQuestion → LabelParts → ListedParts → SearchParts → Format → Bool → Keeps
     → Answer Ending Fault → Type 0
 IsSaidTo (Find condition) labels listed search format explained keeps answer =
     IsFindSaid labels listed search format explained keeps condition answer
 IsSaidTo (Outcomes None) labels listed search format explained keeps answer =
     IsSaid (IsListedAnswer search format) answer
 IsSaidTo (Outcomes (Some items)) labels listed search format explained keeps answer =
-    IsShownSaid search format keeps items answer
+    IsShownSaid search format keeps.registers items answer
 IsSaidTo Authority labels listed search format explained keeps answer =
     IsSaid (IsAuthorityAnswer search format) answer
 IsSaidTo Check labels listed search format explained keeps answer =

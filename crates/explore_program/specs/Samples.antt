@@ -9,9 +9,8 @@ use Rattle.condition_texts.specs.declared.fault.TextFault.TheVariants.{Place}
 use Rattle.conditions.specs.Items.{ItemList, list_of}
 use Rattle.conditions.specs.declared.items.Items.{Items}
 use Rattle.explore_line.specs.Samples.{SampleAsked}
-use Rattle.explore_properties.specs.Properties.{PropertiesParts, PropertyParts}
+use Rattle.explore_properties.specs.Properties.{PropertyParts}
 use Rattle.explore_properties.specs.Reading.{properties_of}
-use Rattle.explore_sweeps.specs.declared.Sweep.{Sweep}
 use Rattle.grammar.specs.Labels.{LabelParts, labels_of}
 use Rattle.inputs.specs.Files.{KnownFiles}
 use Rattle.inputs.specs.Reading.{OfFile, OfMeant, image_meant}

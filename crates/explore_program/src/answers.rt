@@ -24,13 +24,15 @@ use explore_properties::read_properties;
 use grammar::labels::Labels;
 use graph_search::Progress;
 use listing_maps::Names;
+use reductions::Keeps;
 use shown_states::{Ending, Format};
 use sinks::Sink;
 use states::Search;
 use std::alloc::Global;
 
 /// What a question is asked of: a search, its listing with its labels, how the answer is written,
-/// whether its orders are explained, and whether states are told apart by all registers.
+/// whether its orders are explained, and what states are told apart by though the question doesn't
+/// see it.
 #[derive(Clone, Copy)]
 pub struct Asking<'l, 's> {
     pub labels: &'l Labels<'l>,
@@ -38,7 +40,7 @@ pub struct Asking<'l, 's> {
     pub search: Search<'s>,
     pub format: Format,
     pub explained: bool,
-    pub keeps_registers: bool,
+    pub keeps: Keeps,
 }
 
 /// Answers a question.
@@ -72,12 +74,12 @@ fn answer_find<P: Progress, S: Sink>(
     ensures printed { IfOk result (λ ending. HasWhole
         (IsFindSaid (label_parts asking.entry.labels.now) (listed_of asking.entry.listed)
         (search_of asking.entry.search) asking.entry.format asking.entry.explained
-        asking.entry.keeps_registers condition.now) ending
+        asking.entry.keeps condition.now) ending
         (S.written sink.old) (S.written sink.new)) }
     ensures failed { IfErr result (λ fault. FailsBy (failure_of fault)
         (IsFindSaid (label_parts asking.entry.labels.now) (listed_of asking.entry.listed)
         (search_of asking.entry.search) asking.entry.format asking.entry.explained
-        asking.entry.keeps_registers condition.now) fault
+        asking.entry.keeps condition.now) fault
         (S.written sink.old) (S.written sink.new)) }
     ensures identity { S.identity sink.new ≡ S.identity sink.old }
 {
@@ -87,7 +89,7 @@ fn answer_find<P: Progress, S: Sink>(
         search,
         format,
         explained,
-        keeps_registers,
+        keeps,
     } = asking;
     let names = Names {
         labels,
@@ -102,7 +104,7 @@ fn answer_find<P: Progress, S: Sink>(
         format,
         explaining: Explaining { explained, listed },
         condition: &condition,
-        keeps_registers,
+        keeps,
     };
     ask(alloc, &question, progress, sink)
 }
@@ -118,18 +120,18 @@ fn answer_shown<P: Progress, S: Sink>(
     requires { IsSearchable (search_of asking.search) }
     ensures printed { IfOk result (λ ending. HasWhole
         (IsShownSaid (search_of asking.entry.search) asking.entry.format
-        asking.entry.keeps_registers items.now) ending
+        asking.entry.keeps.registers items.now) ending
         (S.written sink.old) (S.written sink.new)) }
     ensures failed { IfErr result (λ fault. FailsBy (failure_of fault)
         (IsShownSaid (search_of asking.entry.search) asking.entry.format
-        asking.entry.keeps_registers items.now) fault
+        asking.entry.keeps.registers items.now) fault
         (S.written sink.old) (S.written sink.new)) }
     ensures identity { S.identity sink.new ≡ S.identity sink.old }
 {
     let Asking {
         search,
         format,
-        keeps_registers,
+        keeps,
         ..
     } = asking;
     let items = match read_items(alloc, search.image, items) {
@@ -140,7 +142,7 @@ fn answer_shown<P: Progress, S: Sink>(
         search,
         format,
         items: &items,
-        keeps_registers,
+        keeps_registers: keeps.registers,
     };
     ask(alloc, &question, progress, sink)
 }
@@ -157,12 +159,12 @@ fn answer_check<P: Progress, S: Sink>(
     ensures printed { IfOk result (λ ending. HasWhole
         (IsCheckSaid (label_parts asking.entry.labels.now) (listed_of asking.entry.listed)
         (search_of asking.entry.search) asking.entry.format asking.entry.explained
-        asking.entry.keeps_registers) ending
+        asking.entry.keeps) ending
         (S.written sink.old) (S.written sink.new)) }
     ensures failed { IfErr result (λ fault. FailsBy (failure_of fault)
         (IsCheckSaid (label_parts asking.entry.labels.now) (listed_of asking.entry.listed)
         (search_of asking.entry.search) asking.entry.format asking.entry.explained
-        asking.entry.keeps_registers) fault
+        asking.entry.keeps) fault
         (S.written sink.old) (S.written sink.new)) }
     ensures identity { S.identity sink.new ≡ S.identity sink.old }
 {
@@ -172,7 +174,7 @@ fn answer_check<P: Progress, S: Sink>(
         search,
         format,
         explained,
-        keeps_registers,
+        keeps,
     } = asking;
     let names = Names {
         labels,
@@ -195,7 +197,7 @@ fn answer_check<P: Progress, S: Sink>(
         format,
         explaining: Explaining { explained, listed },
         properties,
-        keeps_registers,
+        keeps,
     };
     ask(alloc, &question, progress, sink)
 }
@@ -213,12 +215,12 @@ pub fn answer_question<P: Progress, S: Sink>(
     ensures printed { IfOk result (λ ending. HasWhole
         (IsSaidTo (question_asked_by question.entry) (label_parts asking.entry.labels.now)
         (listed_of asking.entry.listed) (search_of asking.entry.search) asking.entry.format
-        asking.entry.explained asking.entry.keeps_registers) ending
+        asking.entry.explained asking.entry.keeps) ending
         (S.written sink.old) (S.written sink.new)) }
     ensures failed { IfErr result (λ fault. FailsBy (failure_of fault)
         (IsSaidTo (question_asked_by question.entry) (label_parts asking.entry.labels.now)
         (listed_of asking.entry.listed) (search_of asking.entry.search) asking.entry.format
-        asking.entry.explained asking.entry.keeps_registers) fault
+        asking.entry.explained asking.entry.keeps) fault
         (S.written sink.old) (S.written sink.new)) }
     ensures identity { S.identity sink.new ≡ S.identity sink.old }
 {

@@ -30,6 +30,7 @@ use inputs::{Files, command_args, read_listing_text};
 use listing_labels::labels_of;
 use printing::give_back;
 use program_io::{finish, report_fault};
+use reductions::Keeps;
 use shown_states::{Answer, Ending, put_answer};
 use sinks::{Sink, ToWrite};
 use states::{MAX_SWEEPS, Search};
@@ -81,7 +82,10 @@ fn answer_labelled<S: Sink, P: Progress>(
         search,
         format: format_of(request.form),
         explained: request.explained,
-        keeps_registers: request.keeps_registers,
+        keeps: Keeps {
+            registers: request.keeps_registers,
+            harts: request.keeps_harts,
+        },
     };
     answer_question(alloc, request.question, asking, progress, sink)
 }

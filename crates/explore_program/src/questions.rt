@@ -27,6 +27,7 @@ use forgotten_outcomes::{Manner, show_states};
 use found_texts::{Told, find_state};
 use graph_search::Progress;
 use outcome_texts::list_outcomes;
+use reductions::Keeps;
 use shown_states::{Ending, Format, put_answer};
 use sinks::{MemSink, Sink, WriteFault, put_whole};
 use states::Search;
@@ -157,15 +158,15 @@ fn put_told<S: Sink>(
     }
 }
 
-/// Which state is the first in which a condition holds, where states are told apart by all
-/// registers, or by those that matter?
+/// Which state is the first in which a condition holds, where states are told apart by all that is
+/// kept, or by what matters?
 #[derive(Clone, Copy)]
 pub struct Find<'a, 'b, 't> {
     pub search: Search<'a>,
     pub format: Format,
     pub explaining: Explaining<'t>,
     pub condition: &'b Condition,
-    pub keeps_registers: bool,
+    pub keeps: Keeps,
 }
 
 impl<'a, 'b, 't> SearchQuestion for Find<'a, 'b, 't> {
@@ -173,8 +174,7 @@ impl<'a, 'b, 't> SearchQuestion for Find<'a, 'b, 't> {
         × (listing_meaning q.explaining.listed.text.now ≡ Ok q.search.image.now) };
 
     ghost answers = { λ q. IsExplained q.explaining.explained (listed_of q.explaining.listed)
-        q.search.image.now (IsStateAnswer q.keeps_registers (search_of q.search) q.condition.now
-        q.format) };
+        q.search.image.now (IsStateAnswer q.keeps (search_of q.search) q.condition.now q.format) };
 
     fn write<P: Progress, S: Sink>(
         &self,
@@ -186,7 +186,7 @@ impl<'a, 'b, 't> SearchQuestion for Find<'a, 'b, 't> {
             alloc,
             &self.search,
             self.condition,
-            self.keeps_registers,
+            self.keeps,
             self.format,
             progress,
         )?;
@@ -268,15 +268,15 @@ impl<'a, 'b, 'c> SearchQuestion for ShownOutcomes<'a, 'b, 'c> {
     }
 }
 
-/// Do the properties hold that the listing carries, where states are told apart by all registers, or
-/// by those that matter?
+/// Do the properties hold that the listing carries, where states are told apart by all that is
+/// kept, or by what matters?
 #[derive(Clone, Copy)]
 pub struct Check<'a, 'b, 'c, 't> {
     pub search: Search<'a>,
     pub format: Format,
     pub explaining: Explaining<'t>,
     pub properties: &'b [Property<'c>],
-    pub keeps_registers: bool,
+    pub keeps: Keeps,
 }
 
 impl<'a, 'b, 'c, 't> SearchQuestion for Check<'a, 'b, 'c, 't> {
@@ -284,8 +284,8 @@ impl<'a, 'b, 'c, 't> SearchQuestion for Check<'a, 'b, 'c, 't> {
         × (listing_meaning q.explaining.listed.text.now ≡ Ok q.search.image.now) };
 
     ghost answers = { λ q. IsExplained q.explaining.explained (listed_of q.explaining.listed)
-        q.search.image.now (IsCheckStatesAnswer q.keeps_registers (search_of q.search)
-        q.properties.now q.format) };
+        q.search.image.now (IsCheckStatesAnswer q.keeps (search_of q.search) q.properties.now
+        q.format) };
 
     fn write<P: Progress, S: Sink>(
         &self,
@@ -297,7 +297,7 @@ impl<'a, 'b, 'c, 't> SearchQuestion for Check<'a, 'b, 'c, 't> {
             alloc,
             &self.search,
             self.properties,
-            self.keeps_registers,
+            self.keeps,
             self.format,
             progress,
         )?;

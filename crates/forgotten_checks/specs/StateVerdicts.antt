@@ -1,6 +1,6 @@
--- What the states of a survey, in which each hart has forgotten the registers that don't matter,
--- say of when a condition holds. What is said of orders is said of the machine, whose harts forget
--- nothing.
+-- What the states of a survey say of when a condition holds, in which each hart has forgotten the
+-- registers that don't matter, and harts of one group stand in order. What is said of orders is
+-- said of the machine, whose harts forget nothing and keep their numbers.
 use Rattle.std.specs.Prelude.{◌≡◌, ℕ, true, [], List, Option, Some, None, Vec}
 use Rattle.std.specs.Global.{Global}
 use Rattle.cheri_model.specs.declared.operation.Op.{Op}
@@ -23,7 +23,7 @@ pub record IsMetVerdict (survey : SurveyParts) (when : When) (condition : List N
   pub state : MachineState
   pub there : at survey number ≡ Some state
   pub order : Vec Op Global
-  pub leads : IsOrderTo survey.image survey.sight survey.live state order.items
+  pub leads : IsOrderTo survey.image survey.sight survey.live survey.groups state order.items
   pub met : decides when condition (replayed_state survey.image order.items) ≡ true
   pub verdict_is : verdict ≡ found_verdict when order
 
@@ -33,7 +33,7 @@ Says survey when condition (Some number) verdict =
     IsMetVerdict survey when condition number verdict
 
 -- The verdict of the first state that decides; or that none does. Where none does and these are
--- all, no state decides that a legal order of steps leaves, of any length, where no hart forgets.
+-- all, no state of the machine decides that a legal order of steps leaves, of any length.
 pub record IsForgottenStateVerdict (survey : SurveyParts) (when : When) (condition : List Node)
     (verdict : Verdict) : Type 0 where
   pub number : Option ℕ

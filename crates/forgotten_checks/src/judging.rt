@@ -8,8 +8,15 @@ ghost use Rattle.explore_verdicts.specs.Verdicts.{
   IsPropertyVerdict,
   IsVerdict,
 };
-ghost use Rattle.forgotten_checks.specs.Asked.{claim_asks, properties_ask};
+ghost use Rattle.forgotten_checks.specs.Asked.{
+  claim_asks,
+  claim_names,
+  properties_ask,
+  properties_name,
+};
 ghost use Rattle.forgotten_checks.specs.StateVerdicts.{IsForgottenStateVerdict};
+ghost use Rattle.hart_order.specs.GroupedTurns.{keeps_number};
+ghost use Rattle.hart_symmetry.specs.Named.{NamedStay, condition_names};
 
 use conditions::Condition;
 use explore_properties::{Claim, Property, When};
@@ -29,6 +36,7 @@ fn judge_states(
 ) -> Result<Verdict, AllocError>
     requires seen { IsSeen survey.now.sight when condition.now }
     requires asked { HasAsked survey.now.live.asked (condition_asks condition.now) }
+    requires named { NamedStay (keeps_number survey.now.groups) (condition_names condition.now) }
     ensures { IfOk result (IsForgottenStateVerdict survey.now when condition.now) }
 {
     // Its clause says that this is a survey.
@@ -51,6 +59,7 @@ fn judge(
 ) -> Result<Verdict, AllocError>
     requires seen { IsClaimSeen survey.now.sight claim.now }
     requires asked { HasAsked survey.now.live.asked (claim_asks claim.now) }
+    requires named { NamedStay (keeps_number survey.now.groups) (claim_names claim.now) }
     ensures { IfOk result (IsVerdict (IsForgottenStateVerdict survey.now) endless.now claim.now) }
 {
     match claim {
@@ -69,6 +78,7 @@ fn judge_property<'p, 'a>(
 ) -> Result<PropertyVerdict<'p, 'a>, AllocError>
     requires seen { IsClaimSeen survey.now.sight property.now.claim }
     requires asked { HasAsked survey.now.live.asked (claim_asks property.now.claim) }
+    requires named { NamedStay (keeps_number survey.now.groups) (claim_names property.now.claim) }
     ensures { IfOk result (IsPropertyVerdict (IsForgottenStateVerdict survey.now) endless.now
         property.now) }
 {
@@ -86,6 +96,7 @@ pub(crate) fn judge_all<'p, 'a>(
 ) -> Result<Vec<PropertyVerdict<'p, 'a>>, AllocError>
     requires seen { AreSeen survey.now.sight properties.now }
     requires asked { HasAsked survey.now.live.asked (properties_ask properties.now) }
+    requires named { NamedStay (keeps_number survey.now.groups) (properties_name properties.now) }
     ensures { IfOk result (λ verdicts. AreVerdicts (IsForgottenStateVerdict survey.now) endless.now
         properties.now verdicts.items) }
 {

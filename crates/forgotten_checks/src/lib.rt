@@ -1,9 +1,10 @@
-//! The answer to `check` by a search where each hart forgets the registers that no longer matter:
-//! states that differ in nothing else are one.
+//! The answer to `check` by a search where each hart forgets the registers that no longer matter,
+//! and where harts that are the same change places: states that differ in nothing else are one.
 #![tactic(auto)]
 
 mod answering;
 mod asked;
 mod judging;
+mod named;
 
 pub use answering::check_states;

@@ -23,6 +23,8 @@ use Rattle.forgotten_states.specs.Surveys.{AreTurnsTo}
 use Rattle.graph_loops.specs.Loops as graphs
 use Rattle.graph_merging.proofs.MergingLemmas.{fair_kept, merged_some}
 use Rattle.graph_search.specs.Walks.{IsWalk, after}
+use Rattle.hart_order.specs.GroupedTurns.{machine_labels}
+use Rattle.hart_order.proofs.GroupedLemmas.{machine_walk}
 use Rattle.live_registers.specs.LiveSets.{IsRight, LiveSets}
 use Rattle.schedules.specs.Schedules.{AreAllowed, AreLabelsOf}
 use Rattle.schedules.proofs.WalkLemmas.{same_harts}
@@ -84,20 +86,22 @@ pub record GoOn (image : ImageParts) (sight : Sight) (first later : List Op) : T
 
 module _ (image : ImageParts) (sight : Sight) (live : LiveSets) (right : IsRight image.program live)
     (hidden : HidesForgotten live (hides sight)) where
-  pub turns_go_on : (s : MachineState) (first later : List Op) (labels : List ℕ) → AreTurnsTo image sight live s first →
-      AreLabelsOf image [] labels later → GoOn image sight first later
+  pub turns_go_on : (groups : List ℕ) (s : MachineState) (first later : List Op) (labels : List ℕ) →
+      AreTurnsTo image sight live groups s first → AreLabelsOf image [] labels later → GoOn image sight first later
   unfolding replayed_state
-  turns_go_on s first later labels turns are =
-      let walk = walk_of_turns image sight live right hidden turns.labels s turns.least.0 in
+  turns_go_on groups s first later labels turns are =
+      let own = machine_labels image sight live groups turns.labels in
+      let turned = machine_walk image sight live groups turns.labels s turns.least.0 in
+      let walk = walk_of_turns image sight live right hidden own turned.0 turned.1 in
       let before = order_of_turns image [] sight first in
-      let leads = turns_lead image [] sight turns.labels first walk.0 turns.operations walk.1 in
-      let all = order_append image [] sight turns.labels first later walk.0 turns.operations walk.1 in
+      let leads = turns_lead image [] sight own first walk.0 turns.operations walk.1 in
+      let all = order_append image [] sight own first later walk.0 turns.operations walk.1 in
       let added = turns_from image [] sight walk.0 later in
       let size : length (order_of_turns image [] sight (first ++ later)) ≡ length before + length added =
       ap (λ (os : List Op). length os) all ∙ length-append before added in record {
-        first_of = λ i hart at. harts_of_labels image [] turns.labels first turns.operations i hart at;
-        all_of = λ i hart at. harts_of_labels image [] (turns.labels ++ labels) (first ++ later)
-            (labels_append image turns.labels labels first later turns.operations are) i hart at;
+        first_of = λ i hart at. harts_of_labels image [] own first turns.operations i hart at;
+        all_of = λ i hart at. harts_of_labels image [] (own ++ labels) (first ++ later)
+            (labels_append image own labels first later turns.operations are) i hart at;
         longer = omega (arith, size);
         cycle = ap (λ (os : List Op). drop (length before) os) all ∙ (drop-append_seam before added
             ∙ ap (λ (x : MachineState). turns_from image [] sight x later) (sym leads.leaves));

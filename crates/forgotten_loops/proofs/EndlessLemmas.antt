@@ -12,16 +12,21 @@ use Rattle.explore_turns.proofs.TurnLemmas.{go_most, is_fit, merging, opening_fi
 use Rattle.forgotten_runs.specs.ForgottenRuns.{forgotten_state}
 use Rattle.forgotten_turns.specs.ForgottenTurns.{HidesForgotten, forgotten_start, forgotten_turn}
 use Rattle.forgotten_turns.proofs.OrderLemmas.{turn_forgets, walk_forgets, walk_of_turns}
-use Rattle.forgotten_states.specs.Surveys.{IsSurvey, SurveyParts, at, count}
+use Rattle.forgotten_states.specs.Sought.{IsOrderTo}
+use Rattle.forgotten_states.specs.Surveys.{IsSurvey, SurveyParts, at, count, edge}
 use Rattle.forgotten_states.proofs.NodeLemmas.{labels_below}
-use Rattle.forgotten_states.proofs.SurveyLemmas.{all_there}
+use Rattle.forgotten_states.proofs.SurveyLemmas.{all_there_ungrouped, order_leads_ungrouped}
 use Rattle.graph_loops.proofs.ChainLemmas.{Chain, LeadsFairly, fair_chain_short, walk_short}
 use Rattle.graph_loops.specs.Loops.{IsKnown}
 use Rattle.graph_loops.specs.Loops as graphs
 use Rattle.graph_loops.specs.declared.scans.Loops.TheVariants as known
 use Rattle.graph_merging.proofs.CountLemmas.{walks_bounded}
 use Rattle.graph_merging.proofs.MergingLemmas.{merged_some}
+use Rattle.graph_search.specs.Searches.{IsExplored}
 use Rattle.graph_search.specs.Walks.{IsWalk}
+use Rattle.hart_order.specs.Arrangements.{IsUngrouped}
+use Rattle.hart_order.specs.GroupedTurns.{grouped_start}
+use Rattle.hart_order.proofs.GroupedLemmas.{start_ungrouped, turns_ungrouped}
 use Rattle.loop_search.specs.declared.judging.FoundLoop.{FoundLoop}
 use Rattle.loop_search.specs.Verdicts.{IsFoundFair, IsFoundLoop}
 use Rattle.explore_turns.proofs.OrderLemmas.{turns_labelled}
@@ -34,7 +39,7 @@ use Rattle.state_loops.proofs.TurnLemmas.{going, labels_of_fair_turns, loop_rest
 use Rattle.forgotten_loops.specs.ForgottenLoops.{HasFewRounds, HasFewSteps, HasFewTurns, IsFairForever, IsForgottenLasso, IsLassoOf}
 use Rattle.forgotten_loops.proofs.CycleLemmas.{fair_forever, goes_on, replayed_size, rounds}
 
-module _ (survey : SurveyParts) (is : IsSurvey survey) where
+module _ (survey : SurveyParts) (is : IsSurvey survey) (none_grouped : IsUngrouped survey.groups) where
   abbrev lost : MachineState → MachineState
   lost s = forgotten_state survey.live s
 
@@ -53,6 +58,21 @@ module _ (survey : SurveyParts) (is : IsSurvey survey) where
   hidden : HidesForgotten survey.live (hides survey.sight)
   hidden before after = is.hidden before after
 
+  -- the survey's states are those that forgotten turns lead to
+  nodes : IsExplored goes (forgotten_start survey.image survey.sight survey.live) survey.limit (at survey) (edge survey)
+      (count survey) survey.complete
+  nodes =
+      subst (λ (s : MachineState). IsExplored goes s survey.limit (at survey) (edge survey) (count survey) survey.complete)
+      (start_ungrouped survey.groups none_grouped survey.image survey.sight survey.live)
+      (subst (λ (f : MachineState → ℕ → Option MachineState). IsExplored f
+      (grouped_start survey.image survey.sight survey.live survey.groups) survey.limit (at survey) (edge survey) (count survey)
+      survey.complete) (turns_ungrouped survey.groups none_grouped survey.image survey.sight survey.live) is.nodes)
+
+  -- the state that an order to a state of the survey leaves forgets to be it
+  leads : (s : MachineState) (order : List Op) → IsOrderTo survey.image survey.sight survey.live survey.groups s order →
+      lost (replayed_state survey.image order) ≡ s
+  leads s order to = order_leads_ungrouped survey.image survey.sight survey.live survey.groups s order none_grouped to
+
   -- ---- a loop that was found
 
   -- each label of its walk is a hart's number
@@ -60,7 +80,7 @@ module _ (survey : SurveyParts) (is : IsSurvey survey) where
       (i label : ℕ) → slice_get given.labels.items i ≡ Some label → label < actors
   loop_labels given h =
       let start = forgotten_start survey.image survey.sight survey.live in
-      let way = is.nodes.sound h.0 (given.node, h.1) in
+      let way = nodes.sound h.0 (given.node, h.1) in
       let before = walk_of_turns survey.image survey.sight survey.live is.right hidden way.0 h.0 way.1 in
       let on = merged_some lost _ h.0
       (sym (walk_forgets survey.image survey.sight survey.live is.right hidden before.0 given.labels.items)
@@ -79,9 +99,9 @@ module _ (survey : SurveyParts) (is : IsSurvey survey) where
         there = h.1;
         to = to;
         on = goes_on survey.image survey.sight survey.live is.right hidden h.0 given.labels.items ops lasso.order.items
-            lasso.cycle.items whole.1.1 h.2 to.allowed to.legal to.leads whole.1.2;
+            lasso.cycle.items whole.1.1 h.2 to.allowed to.legal (leads h.0 lasso.order.items to) whole.1.2;
         comes = λ n. (rounds survey.image survey.sight survey.live is.right hidden h.0 given.labels.items ops lasso.order.items
-            lasso.cycle.items whole.1.1 h.2 to.allowed to.legal to.leads whole.1.2 n).back;
+            lasso.cycle.items whole.1.1 h.2 to.allowed to.legal (leads h.0 lasso.order.items to) whole.1.2 n).back;
       }
 
   pub fair_lasso : (given : FoundLoop) (lasso : Lasso) → IsLassoOf survey given lasso →
@@ -92,7 +112,7 @@ module _ (survey : SurveyParts) (is : IsSurvey survey) where
       let to = whole.0 in (
         lasso_made given lasso made (h.0, h.1, h.2, h.3),
         fair_forever survey.image survey.sight survey.live is.right hidden h.0 given.labels.items whole.1.0 lasso.order.items
-            lasso.cycle.items whole.1.1 h.2 to.allowed to.legal to.leads whole.1.2 h.4,
+            lasso.cycle.items whole.1.1 h.2 to.allowed to.legal (leads h.0 lasso.order.items to) whole.1.2 h.4,
       )
 
   -- ---- where these are all states
@@ -116,14 +136,14 @@ module _ (survey : SurveyParts) (is : IsSurvey survey) where
     pub no_loop : IsKnown goes actors (at survey) known.NoLoop → HasNoLoop survey.image []
     no_loop none order cycle allowed legal loop =
         let s = replayed_state survey.image order in
-        let there = all_there survey is done order allowed legal in
+        let there = all_there_ungrouped survey is done order allowed legal none_grouped in
         let ms = loop_rests survey.image [] survey.sight s (replayed_size survey.image order) cycle loop in
         none there.0 (lost (resting s)) ms.0 there.1 (lost_loop (resting s) ms.0 ms.1)
 
     pub no_fair_loop : IsKnown goes actors (at survey) known.Unfair → HasNoFairLoop survey.image []
     no_fair_loop none order cycle allowed legal loop fair =
         let s = replayed_state survey.image order in
-        let there = all_there survey is done order allowed legal in
+        let there = all_there_ungrouped survey is done order allowed legal none_grouped in
         let ms = loop_rests survey.image [] survey.sight s (replayed_size survey.image order) cycle loop in
         none there.0 (lost (resting s)) ms.0 there.1 (lost_loop (resting s) ms.0 ms.1)
         (lost_fair (resting s) ms.0 (ms.2 fair))
@@ -132,7 +152,7 @@ module _ (survey : SurveyParts) (is : IsSurvey survey) where
     pub few_turns : IsKnown goes actors (at survey) known.NoLoop → HasFewTurns survey
     few_turns none labels state walk =
         let start = start_by survey.image [] survey.sight in
-        walk_short goes actors (at survey) (count survey) (lost start) within (is.nodes.complete done) none labels (lost state)
+        walk_short goes actors (at survey) (count survey) (lost start) within (nodes.complete done) none labels (lost state)
         (walk_forgets survey.image survey.sight survey.live is.right hidden start labels ∙ ap (option_map lost) walk)
 
     pub few_steps : HasFewTurns survey → HasFewSteps survey
@@ -172,5 +192,5 @@ module _ (survey : SurveyParts) (is : IsSurvey survey) where
     pub few_rounds : IsKnown goes actors (at survey) known.Unfair → HasFewRounds survey
     few_rounds none rounds fair =
         let start = start_by survey.image [] survey.sight in
-        fair_chain_short goes actors (at survey) (count survey) (lost start) within (is.nodes.complete done) none (length rounds)
+        fair_chain_short goes actors (at survey) (count survey) (lost start) within (nodes.complete done) none (length rounds)
         (rounds_chain start rounds fair)

@@ -46,7 +46,7 @@ pub record IsForgottenLasso (survey : SurveyParts) (lasso : Lasso) : Type 0 wher
   pub number : ℕ
   pub state : MachineState
   pub there : at survey number ≡ Some state
-  pub to : IsOrderTo survey.image survey.sight survey.live state lasso.order.items
+  pub to : IsOrderTo survey.image survey.sight survey.live survey.groups state lasso.order.items
   pub on : GoesOn survey.image lasso.order.items lasso.cycle.items
   pub comes : (n : ℕ) →
       forgotten_state survey.live
@@ -90,7 +90,7 @@ IsForgottenEndless survey No =
 -- it
 abbrev pub IsLassoOf : SurveyParts → FoundLoop → Lasso → Type 0
 IsLassoOf survey found lasso = (state : MachineState) → at survey found.node ≡ Some state →
-    IsOrderTo survey.image survey.sight survey.live state lasso.order.items
+    IsOrderTo survey.image survey.sight survey.live survey.groups state lasso.order.items
     × ((ops : List Op) × AreLabelsOf survey.image [] found.labels.items ops
     × (lasso.cycle.items ≡ turns_from survey.image [] survey.sight
     (replayed_state survey.image lasso.order.items) ops))

@@ -5,6 +5,7 @@ ghost use Rattle.explore_turns.specs.Orders.{AreOfHarts, order_of_turns};
 ghost use Rattle.forgotten_loops.specs.ForgottenLoops.{IsForgottenEndless, IsLassoOf};
 ghost use Rattle.forgotten_states.specs.Surveys.{at};
 ghost use Rattle.forgotten_turns.specs.ForgottenTurns.{forgotten_turn};
+ghost use Rattle.hart_order.specs.Arrangements.{IsUngrouped};
 ghost use Rattle.loop_search.specs.Verdicts.{IsFoundLoop, IsVerdict};
 ghost use Rattle.state_loops.specs.Endless.{IsAnswerOf};
 
@@ -21,11 +22,12 @@ pub struct Judged<'a> {
     pub endless: Endless,
 }
 
-/// Whether runs can go on for ever, by the loops of a survey's states. Each time round such a loop
-/// the machine's state may be another one, but it forgets to be the same. The survey is given back
-/// as it was; what was learned of single steps is kept. Fails only when out of memory, or of
-/// numbers past 2^32, and then drops it.
+/// Whether runs can go on for ever, by the loops of a survey's states, of which each hart stays in
+/// its place. Each time round such a loop the machine's state may be another one, but it forgets to
+/// be the same. The survey is given back as it was; what was learned of single steps is kept. Fails
+/// only when out of memory, or of numbers past 2^32, and then drops it.
 pub fn endless_of<'a>(alloc: Global, survey: Survey<'a>) -> Result<Judged<'a>, AllocError>
+    requires { IsUngrouped survey.groups }
     ensures endless { IfOk result (λ judged. IsForgottenEndless judged.survey judged.endless) }
     ensures same { IfOk result (λ judged. judged.survey ≡ survey.entry) }
 {
@@ -36,7 +38,9 @@ pub fn endless_of<'a>(alloc: Global, survey: Survey<'a>) -> Result<Judged<'a>, A
 
 /// A verdict on the states of a survey, in the machine's operations.
 fn endless_by(alloc: Global, survey: &Survey<'_>, verdict: &Verdict) -> Result<Endless, AllocError>
-    requires { IsVerdict (forgotten_turn survey.now.image survey.now.sight survey.now.live)
+    requires ungrouped { IsUngrouped survey.now.groups }
+    requires verdict { IsVerdict
+        (forgotten_turn survey.now.image survey.now.sight survey.now.live)
         (length survey.now.image.harts) (at survey.now) survey.now.complete verdict.now }
     ensures answer { IfOk result (IsAnswerOf verdict.now) }
     ensures endless { IfOk result (IsForgottenEndless survey.now) }
@@ -78,7 +82,9 @@ fn orders_of(
 
 /// A loop of a survey's state, in the machine's operations.
 fn lasso_of(alloc: Global, survey: &Survey<'_>, found: &FoundLoop) -> Result<Lasso, AllocError>
-    requires { IsFoundLoop (forgotten_turn survey.now.image survey.now.sight survey.now.live)
+    requires ungrouped { IsUngrouped survey.now.groups }
+    requires loops { IsFoundLoop
+        (forgotten_turn survey.now.image survey.now.sight survey.now.live)
         (length survey.now.image.harts) (at survey.now) found.now }
     ensures { IfOk result (IsLassoOf survey.now found.now) }
 {

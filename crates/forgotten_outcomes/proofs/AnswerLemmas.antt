@@ -1,5 +1,5 @@
 -- What was found is an answer.
-use Rattle.std.proofs.Common.{◌≡◌, ℕ, List, [], Bool, true, false, Option, Result, Ok, Err, IfOk, IfErr, refl, sym, ap, ◌∙◌, subst}
+use Rattle.std.proofs.Common.{◌≡◌, ℕ, List, [], Bool, true, Option, Result, Ok, Err, IfOk, IfErr, refl, sym, ap, ◌∙◌, subst}
 use Rattle.std.specs.Prelude.{Some, slice_get}
 use Rattle.std.proofs.lemmas.Option.{slice_get_within}
 use Rattle.asked_registers.specs.Asked.{HasAsked, items_ask}
@@ -9,9 +9,10 @@ use Rattle.cheri_model.specs.runs.Replay.{replayed_state}
 use Rattle.conditions.specs.Items.{ItemList}
 use Rattle.conditions.specs.declared.parts.Shown.{Shown}
 use Rattle.forgotten_runs.specs.ForgottenRuns.{forgotten_state}
-use Rattle.forgotten_states.proofs.SurveyLemmas.{all_there}
+use Rattle.forgotten_states.proofs.SurveyLemmas.{all_there_ungrouped}
 use Rattle.forgotten_states.specs.Surveys.{IsSurvey, SurveyParts, at, count}
 use Rattle.graph_search.specs.Trees.{IsFound}
+use Rattle.hart_order.specs.Arrangements.{IsUngrouped}
 use Rattle.live_registers.specs.LiveSets.{LiveSets}
 use Rattle.outcomes.proofs.RestLemmas.{final_rests}
 use Rattle.outcomes.specs.Items.{values_of}
@@ -20,7 +21,6 @@ use Rattle.outcomes.specs.Rows.{AreRows, values_at}
 use Rattle.outcomes.specs.declared.items.ItemValue.{ItemValue}
 use Rattle.outcomes.specs.declared.rows.Row.{Row}
 use Rattle.outcome_texts.proofs.ListedLemmas.{reduced_is}
-use Rattle.outcome_texts.specs.Answers.{IsShownAnswer}
 use Rattle.outcome_texts.specs.OutcomeParts.{shown_whole}
 use Rattle.outcome_texts.specs.declared.told.ShownRow.{ShownRow}
 use Rattle.shown_states.specs.Endings.{IsUnwritten, IsWritten, ending_of}
@@ -44,7 +44,8 @@ rows_final survey value numbers rows are distinct k row is =
 -- ---- each final state has a row
 
 module _ (survey : SurveyParts) (is : IsSurvey survey) (items : List Shown) (asked : HasAsked survey.live.asked (items_ask items))
-    (numbers : List ℕ) (rows : List Row) (told : List ShownRow) (outcomes : AreOutcomesBelow (at survey) (count survey) numbers)
+    (ungrouped : IsUngrouped survey.groups) (numbers : List ℕ) (rows : List Row) (told : List ShownRow)
+    (outcomes : AreOutcomesBelow (at survey) (count survey) numbers)
     (distinct : AreRows (values_at (at survey) items) numbers rows) (are : AreRowsTold survey items rows told) where
   -- what items hold in a node is what they hold in a state that forgets to be it
   node_values : (number : ℕ) (s : MachineState) → at survey number ≡ Some (forgotten_state survey.live s) →
@@ -57,7 +58,7 @@ module _ (survey : SurveyParts) (is : IsSurvey survey) (items : List Shown) (ask
   -- what was told of a row is what items hold in its first node
   told_values : (row : Row) (t : ShownRow) → IsRowTold survey items row t → t.values.items ≡ values_at (at survey) items row.first
   told_values row t of_row =
-      of_row.values ∙ sym (values_left survey items row.first of_row.node of_row.order is asked of_row.there of_row.leads)
+      of_row.values ∙ sym (values_left survey items row.first of_row.node of_row.order is asked ungrouped of_row.there of_row.leads)
 
   row_shown : (k : ℕ) (row : Row) (values : List ItemValue) → slice_get rows k ≡ Some row →
       values_at (at survey) items row.first ≡ values →
@@ -80,7 +81,7 @@ module _ (survey : SurveyParts) (is : IsSurvey survey) (items : List Shown) (ask
       let s = replayed_state survey.image order in
       let found : IsFound (at survey) (forgotten_state survey.live s) =
       subst (λ (t : MachineState). IsFound (at survey) (forgotten_state survey.live t))
-      (final_rests survey.image [] survey.sight s final) (all_there survey is done order allowed legal) in
+      (final_rests survey.image [] survey.sight s final) (all_there_ungrouped survey is done order allowed legal ungrouped) in
       node_shown found.0 s found.1 final
 
 -- ---- of lists as slices
@@ -101,16 +102,19 @@ rows_known survey items shown rows given told shown_rows shown_is given_are rows
 -- ---- answers
 
 -- what is said of what was found is an answer
-pub reduced_said : (search : SearchParts) (live : LiveSets) (items : ItemList) (format : Format) (survey : SurveyParts) (endless told : Endless)
-    (numbers : List ℕ) (rows : List Row) (shown_rows : List ShownRow) (reduced complete : Bool) (image : ImageParts) (states outcomes : ℕ)
-    (names : List (List ℕ)) → IsSurveyed search live survey endless numbers → HasAsked live.asked (items_ask items.shown) →
-    AreRows (values_at (at survey) items.shown) numbers rows → AreRowsTold survey items.shown rows shown_rows → reduced ≡ true →
+pub reduced_said : (search : SearchParts) (live : LiveSets) (groups : List ℕ) (items : ItemList) (format : Format)
+    (survey : SurveyParts) (endless told : Endless) (numbers : List ℕ)
+    (rows : List Row) (shown_rows : List ShownRow) (reduced complete : Bool) (image : ImageParts) (states outcomes : ℕ)
+    (names : List (List ℕ)) → IsSurveyed search live groups survey endless numbers → HasAsked live.asked (items_ask items.shown) →
+    IsUngrouped groups → AreRows (values_at (at survey) items.shown) numbers rows →
+    AreRowsTold survey items.shown rows shown_rows → reduced ≡ true →
     complete ≡ survey.complete → image ≡ survey.image → states ≡ count survey → told ≡ endless → names ≡ items.names →
-    IsReducedShownAnswer search items live format
+    IsReducedShownAnswer search items live groups format
     (shown_whole format reduced complete image states told outcomes names shown_rows) (ending_of survey.complete)
-reduced_said search live items format survey endless told numbers rows shown_rows reduced complete image states outcomes names
-    surveyed asked distinct rows_told forgot complete_is image_is states_are told_is names_are =
+reduced_said search live groups items format survey endless told numbers rows shown_rows reduced complete image states outcomes names
+    surveyed asked ungrouped distinct rows_told forgot complete_is image_is states_are told_is names_are =
     let asked_there = subst (λ (l : LiveSets). HasAsked l.asked (items_ask items.shown)) (sym surveyed.survey_is.live_is) asked in
+    let ungrouped_there = subst IsUngrouped (sym surveyed.survey_is.groups_are) ungrouped in
     record {
       survey = survey;
       endless = endless;
@@ -120,7 +124,8 @@ reduced_said search live items format survey endless told numbers rows shown_row
       distinct = distinct;
       shown_rows = shown_rows;
       told = rows_told;
-      all = all_shown survey surveyed.nodes items.shown asked_there numbers rows shown_rows surveyed.outcomes distinct rows_told;
+      all = all_shown survey surveyed.nodes items.shown asked_there ungrouped_there numbers rows shown_rows surveyed.outcomes
+          distinct rows_told;
       text_is =
           rw (forgot, complete_is, image_is, states_are, told_is, names_are)
           (sym (reduced_is format items.names survey.complete survey.image (count survey) endless outcomes shown_rows));

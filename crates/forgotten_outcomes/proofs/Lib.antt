@@ -1,3 +1,4 @@
 pub mod ForgetLemmas
 pub mod ToldLemmas
 pub mod AnswerLemmas
+pub mod KeptLemmas

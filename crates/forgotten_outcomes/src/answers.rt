@@ -9,7 +9,9 @@ ghost use Rattle.forgotten_outcomes.specs.ShownStates.{
   IsSurveyed,
 };
 ghost use Rattle.forgotten_states.specs.Surveys.{count};
+ghost use Rattle.hart_order.specs.Arrangements.{IsUngrouped};
 ghost use Rattle.live_registers.specs.LiveSets.{IsRight};
+ghost use Rattle.named_harts.specs.NamedHarts.{IsSetOf};
 ghost use Rattle.shown_states.specs.Endings.{IsUnwritten, IsWritten, failures_of};
 ghost use Rattle.shown_states.specs.declared.form.Ending.{Ending};
 ghost use Rattle.states.specs.Searches.{IsSearchable, search_of};
@@ -20,12 +22,14 @@ use asked_registers::with_items;
 use cheri_model::NoMemory;
 use conditions::Items;
 use explore_sights::Sight;
-use forgotten_states::{Matters, reduction_of};
+use forgotten_states::Matters;
 use found_texts::opened;
 use graph_search::Progress;
-use live_registers::{LiveRegisters, RegisterSet};
+use live_registers::RegisterSet;
+use named_harts::HartSet;
 use outcome_texts::{Head, show_outcomes, shown_text};
 use outcomes::rows_of;
+use reductions::{Keeps, Reduction, reduction_of};
 use shown_states::{Answer, Ending, Format, put_answer};
 use sinks::{Sink, WriteFault};
 use states::Search;
@@ -44,6 +48,13 @@ fn asked_for(items: &Items<'_>) -> RegisterSet
     ensures { HasAsked result (items_ask items.now.shown.items) }
 {
     with_items(RegisterSet::none(), items.shown.as_slice())
+}
+
+/// All harts, each of which is told apart from all others.
+fn all_harts() -> HartSet
+    ensures { IsSetOf (λ hart. true) result }
+{
+    [true; 8]
 }
 
 /// What an answer begins with: registers were forgotten.
@@ -68,15 +79,17 @@ fn surveyed_answer(
     alloc: Global,
     search: &Search<'_>,
     items: &Items<'_>,
-    live: &LiveRegisters,
+    reduction: &Reduction,
     format: Format,
     surveyed: &Surveyed<'_>,
 ) -> Result<Answer, NoMemory>
-    requires asked { HasAsked live.now.asked (items_ask items.now.shown.items) }
-    requires found { IsSurveyed (search_of search.now) live.now surveyed.now.survey
-        surveyed.now.endless surveyed.now.outcomes.items }
+    requires asked { HasAsked reduction.now.live.asked (items_ask items.now.shown.items) }
+    requires ungrouped { IsUngrouped reduction.now.groups }
+    requires found { IsSurveyed (search_of search.now) reduction.now.live reduction.now.groups
+        surveyed.now.survey surveyed.now.endless surveyed.now.outcomes.items }
     ensures { IfOk result (λ answer. IsReducedShownAnswer (search_of search.now)
-        (list_of items.now) live.now format (string_bytes answer.text) answer.ending) }
+        (list_of items.now) reduction.now.live reduction.now.groups format
+        (string_bytes answer.text) answer.ending) }
 {
     let survey = &surveyed.survey;
     let shown = items.shown.as_slice();
@@ -90,36 +103,42 @@ fn surveyed_answer(
     Ok(Answer { text, ending })
 }
 
-/// The answer where states are told apart only by the registers that matter: to the program, and to
-/// the items.
+/// The answer where states are told apart by all harts, but only by the registers that matter: to
+/// the program, and to the items.
 fn answer_reduced<P: Progress>(
     alloc: Global,
     search: &Search<'_>,
     items: &Items<'_>,
-    live: &LiveRegisters,
+    reduction: &Reduction,
     format: Format,
     progress: &mut P,
 ) -> Result<Answer, NoMemory>
     requires search { IsSearchable (search_of search.now) }
     requires turns { search.now.every_step ≡ false }
     requires unswept { search.now.sweeps.now ≡ [] }
-    requires right { IsRight search.now.image.now.program live.now }
-    requires asked { HasAsked live.now.asked (items_ask items.now.shown.items) }
+    requires right { IsRight search.now.image.now.program reduction.now.live }
+    requires asked { HasAsked reduction.now.live.asked (items_ask items.now.shown.items) }
+    requires ungrouped { IsUngrouped reduction.now.groups }
     ensures { IfOk result (λ answer. IsReducedShownAnswer (search_of search.now)
-        (list_of items.now) live.now format (string_bytes answer.text) answer.ending) }
+        (list_of items.now) reduction.now.live reduction.now.groups format
+        (string_bytes answer.text) answer.ending) }
 {
     let core = opened(alloc, search.image)?;
     let sees = Sight::NoStep;
-    let matters = Matters { sees: &sees, live };
+    let matters = Matters {
+        sees: &sees,
+        live: &reduction.live,
+        groups: reduction.groups,
+    };
     let surveyed = survey_outcomes(alloc, search, matters, &core, progress)?;
-    surveyed_answer(alloc, search, items, live, format, &surveyed)
+    surveyed_answer(alloc, search, items, reduction, format, &surveyed)
 }
 
 /// Searches the states that an image reaches, and writes what items hold in those in which no hart
 /// runs, as `show_outcomes`. States that differ only in registers which no longer matter count as
-/// one, if all are not to be kept and the search allows it; the answer says so where it is done, and
-/// doesn't count outcomes then. Where memory runs out, nothing is written; where the sink fails, it
-/// took a prefix of the answer.
+/// one, if all are not to be kept and the search allows it; the answer says so where it is done,
+/// and doesn't count outcomes then. Where memory runs out, nothing is written; where the sink
+/// fails, it took a prefix of the answer.
 pub fn show_states<P: Progress, S: Sink>(
     alloc: Global,
     search: &Search<'_>,
@@ -139,9 +158,13 @@ pub fn show_states<P: Progress, S: Sink>(
     ensures identity { S.identity sink.new ≡ S.identity sink.old }
 {
     let asked = asked_for(items);
-    let Some(live) = reduction_of(alloc, search, manner.keeps_registers, asked)? else {
+    let keeps = Keeps {
+        registers: manner.keeps_registers,
+        harts: true,
+    };
+    let Some(reduction) = reduction_of(alloc, search, keeps, asked, &all_harts())? else {
         return show_outcomes(alloc, search, items, manner.format, progress, sink);
     };
-    let answer = answer_reduced(alloc, search, items, &live, manner.format, progress)?;
+    let answer = answer_reduced(alloc, search, items, &reduction, manner.format, progress)?;
     put_answer(sink, &answer)
 }

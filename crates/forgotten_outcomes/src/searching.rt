@@ -3,6 +3,7 @@
 ghost use Rattle.std.specs.Prelude.{◌≡◌, [], false, IfOk};
 ghost use Rattle.cheri_model.specs.runs.Machine.{opening_state};
 ghost use Rattle.forgotten_outcomes.specs.ShownStates.{IsSurveyed};
+ghost use Rattle.hart_order.specs.Arrangements.{IsUngrouped};
 ghost use Rattle.live_registers.specs.LiveSets.{IsRight};
 ghost use Rattle.states.specs.Searches.{IsSearchable, search_of};
 
@@ -49,8 +50,8 @@ pub(crate) struct Surveyed<'a> {
     pub outcomes: Vec<u32>,
 }
 
-/// Searches the states that a machine reaches, told apart by what matters to no step that is seen.
-/// Fails only when out of memory, or of numbers past 2^32.
+/// Searches the states that a machine reaches, told apart by what matters to no step that is seen,
+/// and by which hart is which. Fails only when out of memory, or of numbers past 2^32.
 pub(crate) fn survey_outcomes<'a, P: Progress>(
     alloc: Global,
     search: &Search<'a>,
@@ -64,8 +65,9 @@ pub(crate) fn survey_outcomes<'a, P: Progress>(
     requires opening { core.now.state ≡ opening_state search.now.image.now }
     requires right { IsRight search.now.image.now.program matters.live.now }
     requires sight { matters.sees.now ≡ Sight.NoStep }
+    requires ungrouped { IsUngrouped matters.groups }
     ensures { IfOk result (λ found. IsSurveyed (search_of search.now) matters.entry.live.now
-        found.survey found.endless found.outcomes.items) }
+        matters.entry.groups found.survey found.endless found.outcomes.items) }
 {
     let survey = survey(alloc, search, matters, core, progress)?;
     let judged = endless_of(alloc, survey)?;

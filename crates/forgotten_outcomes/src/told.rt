@@ -5,6 +5,7 @@ ghost use Rattle.asked_registers.specs.Asked.{HasAsked, items_ask};
 ghost use Rattle.cheri_model.specs.runs.Machine.{MachineState};
 ghost use Rattle.forgotten_outcomes.specs.ShownStates.{AreFinalRows, AreRowsTold, IsRowTold};
 ghost use Rattle.forgotten_states.specs.Surveys.{at, count};
+ghost use Rattle.hart_order.specs.Arrangements.{IsUngrouped};
 ghost use Rattle.outcomes.specs.Outcomes.{is_final};
 
 use crate::searching::Nodes;
@@ -24,6 +25,7 @@ fn row_told(
     row: Row,
 ) -> Result<ShownRow, NoMemory>
     requires asked { HasAsked survey.now.live.asked (items_ask shown.now) }
+    requires ungrouped { IsUngrouped survey.now.groups }
     requires there { row.first < count survey.now }
     requires stopped { (s : MachineState) → at survey.now row.first ≡ Some s → is_final s ≡ true }
     ensures { IfOk result (IsRowTold survey.now shown.now row) }
@@ -49,6 +51,7 @@ pub(crate) fn rows_told(
     rows: &[Row],
 ) -> Result<Vec<ShownRow>, NoMemory>
     requires asked { HasAsked survey.now.live.asked (items_ask shown.now) }
+    requires ungrouped { IsUngrouped survey.now.groups }
     requires rows { AreFinalRows survey.now rows.now }
     ensures { IfOk result (λ told. AreRowsTold survey.now shown.now rows.now told.items) }
 {

@@ -1,7 +1,8 @@
 pub mod KnownLemmas
 pub mod GraphLemmas
 pub mod RowLemmas
+pub mod OrderedLemmas
+pub mod ReplayLemmas
 pub mod NodeLemmas
-pub mod ReductionLemmas
-pub mod SoughtLemmas
 pub mod SurveyLemmas
+pub mod SoughtLemmas

@@ -1,5 +1,4 @@
 pub mod Graphs
 pub mod Nodes
-pub mod Reductions
 pub mod Sought
 pub mod Surveys

@@ -1,12 +1,13 @@
 -- The nodes that a search kept: the first ones in the order of their witnesses.
-use Rattle.std.specs.Prelude.{◌≡◌, ℕ, ◌+◌, ◌<◌, ◌≤◌, length, Option, Some, None, Bool, true, false}
+use Rattle.std.specs.Prelude.{◌≡◌, ℕ, ◌+◌, ◌<◌, ◌≤◌, List, length, Option, Some, None}
+use Rattle.std.specs.Prelude.{Bool, true, false}
 use Rattle.cheri_model.specs.runs.Image.{ImageParts}
 use Rattle.cheri_model.specs.runs.Machine.{MachineState}
 use Rattle.explore_sights.specs.declared.sights.Sight.{Sight}
 use Rattle.forgotten_states.specs.Graphs.{ForgottenParts, state_in, turn_in}
-use Rattle.forgotten_turns.specs.ForgottenTurns.{forgotten_start, forgotten_turn}
 use Rattle.graph_search.specs.Searches.{IsExplored, Reaches}
 use Rattle.graph_search.specs.Trees.{Found, edge_at, state_at}
+use Rattle.hart_order.specs.GroupedTurns.{grouped_start, grouped_turn}
 use Rattle.live_registers.specs.LiveSets.{LiveSets}
 
 -- the state of the node with a number
@@ -15,14 +16,14 @@ at graph found = state_at (state_in graph) found.nodes
 
 -- What is kept: a graph of these turns, in whose store the states are; the first nodes that they lead
 -- to, or all; and where the search stands.
-pub record AreNodes (image : ImageParts) (sight : Sight) (live : LiveSets) (graph : ForgottenParts)
-    (found : Found) (limit : ℕ) : Type 0 where
-  pub edges : turn_in graph ≡ forgotten_turn image sight live
+pub record AreNodes (image : ImageParts) (sight : Sight) (live : LiveSets) (groups : List ℕ)
+    (graph : ForgottenParts) (found : Found) (limit : ℕ) : Type 0 where
+  pub edges : turn_in graph ≡ grouped_turn image sight live groups
   pub harts : length graph.graph.image.harts ≡ length image.harts
   pub few : length image.harts ≤ 8
   pub nodes :
-      IsExplored (forgotten_turn image sight live) (forgotten_start image sight live) limit
-      (at graph found) (edge_at found.edges) (length found.nodes) found.complete
+      IsExplored (grouped_turn image sight live groups) (grouped_start image sight live groups)
+      limit (at graph found) (edge_at found.edges) (length found.nodes) found.complete
   pub wide : found.width ≡ length image.harts + 1
   pub stands : Reaches (turn_in graph) (state_in graph) limit
       (length found.nodes) found.nodes found.edges found.cut
@@ -30,13 +31,14 @@ pub record AreNodes (image : ImageParts) (sight : Sight) (live : LiveSets) (grap
 -- the same of some turns
 abbrev pub AreSomeNodes : ForgottenParts → Found → ℕ → Type 0
 AreSomeNodes graph found limit = (image : ImageParts) × (sight : Sight) × (live : LiveSets)
-    × AreNodes image sight live graph found limit
+    × (groups : List ℕ) × AreNodes image sight live groups graph found limit
 
 -- what was kept before is kept, of the same turns
 abbrev pub KeepsTurns : ForgottenParts → Found → ℕ → ForgottenParts → Found → ℕ → Type 0
 KeepsTurns graph found limit graph' found' limit' =
-    (image : ImageParts) (sight : Sight) (live : LiveSets) →
-    AreNodes image sight live graph found limit → AreNodes image sight live graph' found' limit'
+    (image : ImageParts) (sight : Sight) (live : LiveSets) (groups : List ℕ) →
+    AreNodes image sight live groups graph found limit →
+    AreNodes image sight live groups graph' found' limit'
 
 -- no node before this one passes
 abbrev pub NonePassesBefore : (ℕ → Option MachineState) → (MachineState → Bool) → ℕ → Type 0

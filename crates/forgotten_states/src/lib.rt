@@ -1,17 +1,16 @@
-//! Searches for a state, where each hart forgets the registers that don't matter to the question:
-//! states that differ in nothing else are one.
+//! Searches for a state, where each hart forgets the registers that don't matter to the question,
+//! and harts that it doesn't tell apart stand in order: states that differ in nothing else are one.
 #![tactic(auto)]
 
 mod graph;
 mod known;
 pub mod laws;
 mod nodes;
-mod reduction;
+mod replaying;
 mod seeking;
 mod surveying;
 mod surveys;
 
-pub use reduction::reduction_of;
 pub use seeking::{Matters, Sought, seek};
 pub use surveying::survey;
 pub use surveys::{Looped, Survey};

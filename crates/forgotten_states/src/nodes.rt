@@ -31,23 +31,26 @@ ghost use Rattle.schedules.specs.Schedules.{AreLabelsOf};
 ghost use Rattle.state_store.specs.Stores.{state_of};
 
 use crate::graph::ForgottenGraph;
+use crate::replaying::machine_labels;
 use cheri_model::{Image, Op};
 use cores::Core;
 use explore_sights::Sight;
 use explore_turns::order_of_turns;
 use graph_search::{Progress, Reached, explore, explore_more};
+use hart_order::HartGroups;
 use live_registers::LiveRegisters;
 use state_store::State;
 use states::{MachineGraph, Room, StateTest};
 use std::alloc::{AllocError, Global};
 use tagged_mem::Ram;
 
-/// The turns of an image's harts, as far as they matter to a question.
+/// The turns of an image's harts, as far as they matter to a question, and the group of each hart.
 #[derive(Clone, Copy)]
 pub(crate) struct Turns<'a> {
     pub image: &'a Image,
     pub sees: &'a Sight,
     pub live: &'a LiveRegisters,
+    pub groups: HartGroups,
 }
 
 /// The nodes that a search kept, numbered from 0 in the order of their witnesses: the first ones, or
@@ -60,7 +63,7 @@ pub(crate) struct Nodes<'a> {
 }
 
 /// The graph of turns. `ram` is a memory of the image's size.
-fn graph_of<'a>(
+pub(crate) fn graph_of<'a>(
     alloc: Global,
     turns: Turns<'a>,
     ram: &Ram,
@@ -69,6 +72,7 @@ fn graph_of<'a>(
     requires right { IsRight turns.image.now.program turns.live.now }
     requires hidden { HidesForgotten turns.live.now (hides turns.sees.now) }
     ensures live { IfOk result (λ graph. graph.live ≡ turns.entry.live.now) }
+    ensures groups { IfOk result (λ graph. graph.groups ≡ turns.entry.groups) }
     ensures image { IfOk result (λ graph. graph.graph.image ≡ turns.entry.image.now) }
     ensures sweeps { IfOk result (λ graph. graph.graph.sweeps ≡ []) }
     ensures sight { IfOk result (λ graph. graph.graph.sight ≡ turns.entry.sees.now) }
@@ -80,7 +84,7 @@ fn graph_of<'a>(
     let image = turns.image.copy(alloc)?;
     let sight = turns.sees.copy(alloc)?;
     let graph = MachineGraph::new(alloc, image, Vec::new(alloc), sight, ram)?;
-    Ok(ForgottenGraph::new(alloc, turns.live, graph))
+    Ok(ForgottenGraph::new(alloc, turns.live, turns.groups, graph))
 }
 
 /// The operations of labels, each of which is a hart's number. Fails only when out of memory.
@@ -113,7 +117,7 @@ impl<'a> Nodes<'a> {
         requires right { IsRight turns.image.now.program turns.live.now }
         requires hidden { HidesForgotten turns.live.now (hides turns.sees.now) }
         ensures nodes { IfOk result (λ nodes. AreNodes turns.entry.image.now turns.entry.sees.now
-            turns.entry.live.now nodes.graph nodes.reached nodes.limit) }
+            turns.entry.live.now turns.entry.groups nodes.graph nodes.reached nodes.limit) }
         ensures limit { IfOk result (λ nodes. nodes.limit ≡ limit) }
     {
         // Its clause says how many harts there are, and how large RAM may be.
@@ -194,44 +198,47 @@ impl<'a> Nodes<'a> {
         }
     }
 
-    /// The operations with which the turns of the witness of the node with this number begin. Fails
-    /// only when out of memory.
+    /// The operations with which the turns of the witness of the node with this number begin, by
+    /// the numbers that the harts have in the machine. Fails only when out of memory, or of numbers
+    /// past 2^32.
     pub fn turns_to(
         &self,
         alloc: Global,
         turns: Turns<'_>,
         number: u32,
     ) -> Result<Vec<Op>, AllocError>
-        requires nodes { AreNodes turns.image.now turns.sees.now turns.live.now self.now.graph
-            self.now.reached self.now.limit }
+        requires nodes { AreNodes turns.image.now turns.sees.now turns.live.now turns.groups
+            self.now.graph self.now.reached self.now.limit }
         requires right { IsRight turns.image.now.program turns.live.now }
         requires hidden { HidesForgotten turns.live.now (hides turns.sees.now) }
         requires there { number < length self.now.reached.nodes }
         ensures { IfOk result (λ ops. (s : MachineState) →
             at self.now.graph self.now.reached number ≡ Some s →
-            AreTurnsTo turns.entry.image.now turns.entry.sees.now turns.entry.live.now s
-            ops.items) }
+            AreTurnsTo turns.entry.image.now turns.entry.sees.now turns.entry.live.now
+            turns.entry.groups s ops.items) }
     {
         let labels = self.reached.witness(alloc, number)?;
-        steps_of(alloc, turns.image, labels.as_slice())
+        let own = machine_labels(alloc, turns, labels)?;
+        steps_of(alloc, turns.image, own.as_slice())
     }
 
     /// The order that tells the turns of the witness of the node with this number, step by step.
-    /// Fails only when out of memory.
+    /// Fails as `turns_to` does.
     pub fn order_to(
         &self,
         alloc: Global,
         turns: Turns<'_>,
         number: u32,
     ) -> Result<Vec<Op>, AllocError>
-        requires nodes { AreNodes turns.image.now turns.sees.now turns.live.now self.now.graph
-            self.now.reached self.now.limit }
+        requires nodes { AreNodes turns.image.now turns.sees.now turns.live.now turns.groups
+            self.now.graph self.now.reached self.now.limit }
         requires right { IsRight turns.image.now.program turns.live.now }
         requires hidden { HidesForgotten turns.live.now (hides turns.sees.now) }
         requires there { number < length self.now.reached.nodes }
         ensures { IfOk result (λ order. (s : MachineState) →
             at self.now.graph self.now.reached number ≡ Some s →
-            IsOrderTo turns.entry.image.now turns.entry.sees.now turns.entry.live.now s order.items) }
+            IsOrderTo turns.entry.image.now turns.entry.sees.now turns.entry.live.now
+            turns.entry.groups s order.items) }
     {
         let ops = self.turns_to(alloc, turns, number)?;
         order_of_turns(alloc, turns.image, &[], turns.sees, ops.as_slice())

@@ -17,8 +17,9 @@ use states::Search;
 use std::alloc::{AllocError, Global};
 
 /// The states that any order of steps leads to from a search's opening state, which `core` has,
-/// told apart only by what matters to some questions: as many as the limit, or all. Without sweeps,
-/// and by turns. Fails only when out of memory, or of numbers past 2^32.
+/// told apart only by what matters to some questions, and not by the order of harts of one group: as
+/// many as the limit, or all. Without sweeps, and by turns. Fails only when out of memory, or of
+/// numbers past 2^32.
 pub fn survey<'a, P: Progress>(
     alloc: Global,
     search: &Search<'a>,
@@ -33,12 +34,13 @@ pub fn survey<'a, P: Progress>(
     requires right { IsRight search.now.image.now.program matters.live.now }
     requires hidden { HidesForgotten matters.live.now (hides matters.sees.now) }
     ensures { IfOk result (λ survey. IsSurveyOf (search_of search.now) matters.entry.sees.now
-        matters.entry.live.now survey) }
+        matters.entry.live.now matters.entry.groups survey) }
 {
     let turns = Turns {
         image: search.image,
         sees: matters.sees,
         live: matters.live,
+        groups: matters.groups,
     };
     let nodes = Nodes::search(alloc, turns, core, search.limit, progress)?;
     Ok(Survey { turns, nodes })

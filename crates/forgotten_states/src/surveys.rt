@@ -16,7 +16,7 @@ ghost use Rattle.explore_turns.specs.Orders.{AreOfHarts, order_of_turns};
 ghost use Rattle.forgotten_states.specs.Nodes.{IsFirstPassing};
 ghost use Rattle.forgotten_states.specs.Sought.{IsOrderTo};
 ghost use Rattle.forgotten_states.specs.Surveys.{AreTurnsTo, IsSurvey, at, count};
-ghost use Rattle.forgotten_turns.specs.ForgottenTurns.{forgotten_turn};
+ghost use Rattle.hart_order.specs.GroupedTurns.{grouped_turn};
 ghost use Rattle.loop_search.specs.Verdicts.{IsVerdict};
 ghost use Rattle.schedules.specs.Schedules.{AreLabelsOf};
 ghost use Rattle.state_store.specs.Stores.{state_of};
@@ -31,8 +31,9 @@ use std::alloc::{AllocError, Global};
 use std::marker::Model;
 
 /// The states that turns lead to from an image's opening state, after each of which harts forget
-/// the registers that don't matter: the first ones, or all. They are numbered from 0 in the order
-/// of their witnesses, and can be asked several questions, to none of which these registers matter.
+/// the registers that don't matter, and those of one group are put in order: the first ones, or
+/// all. They are numbered from 0 in the order of their witnesses, and can be asked several
+/// questions, to none of which these registers or the order of such harts matter.
 #[derive(Drop)]
 pub struct Survey<'a> {
     pub(crate) turns: Turns<'a>,
@@ -45,10 +46,10 @@ impl<'a> Model for Survey<'a> {
     ghost Value = { SurveyParts };
 
     ghost view = { λ a. survey_of a.turns.image.now a.turns.sees.now a.turns.live.now
-        a.nodes.graph a.nodes.reached a.nodes.limit };
+        a.turns.groups a.nodes.graph a.nodes.reached a.nodes.limit };
 
     ghost invariant = { λ a. IsKeptSurvey a.turns.image.now a.turns.sees.now a.turns.live.now
-        a.nodes.graph a.nodes.reached a.nodes.limit };
+        a.turns.groups a.nodes.graph a.nodes.reached a.nodes.limit };
 }
 
 /// What was found of the loops of a survey's states, and the survey.
@@ -98,22 +99,22 @@ impl<'a> Survey<'a> {
     }
 
     /// The order that tells the turns of the witness of the state of this number, step by step. The
-    /// machine takes it, and the state that it leaves forgets to be this one. Fails only when out
-    /// of memory.
+    /// machine takes it, and the state that it leaves forgets to be this one, but for the order of
+    /// harts of one group. Fails only when out of memory, or of numbers past 2^32.
     pub fn order_to(&self, alloc: Global, number: u32) -> Result<Vec<Op>, AllocError>
         requires there { number < count self.now }
         ensures { IfOk result (λ order. (s : MachineState) → at self.now number ≡ Some s →
-            IsOrderTo self.now.image self.now.sight self.now.live s order.items) }
+            IsOrderTo self.now.image self.now.sight self.now.live self.now.groups s order.items) }
     {
         self.nodes.order_to(alloc, self.turns, number)
     }
 
-    /// The operations with which the turns of that witness begin, without the quiet steps. Fails
-    /// only when out of memory.
+    /// The operations with which the turns of that witness begin, without the quiet steps, by the
+    /// numbers that the harts have in the machine. Fails as `order_to` does.
     pub fn turns_to(&self, alloc: Global, number: u32) -> Result<Vec<Op>, AllocError>
         requires there { number < count self.now }
         ensures { IfOk result (λ ops. (s : MachineState) → at self.now number ≡ Some s →
-            AreTurnsTo self.now.image self.now.sight self.now.live s ops.items) }
+            AreTurnsTo self.now.image self.now.sight self.now.live self.now.groups s ops.items) }
     {
         self.nodes.turns_to(alloc, self.turns, number)
     }
@@ -141,9 +142,9 @@ impl<'a> Survey<'a> {
     /// Fails only when out of memory, or of numbers past 2^32, and then drops the survey.
     pub fn loops(self, alloc: Global) -> Result<Looped<'a>, AllocError>
         ensures verdict { IfOk result (λ looped. IsVerdict
-            (forgotten_turn looped.survey.image looped.survey.sight looped.survey.live)
-            (length looped.survey.image.harts) (at looped.survey) looped.survey.complete
-            looped.verdict) }
+            (grouped_turn looped.survey.image looped.survey.sight looped.survey.live
+            looped.survey.groups) (length looped.survey.image.harts) (at looped.survey)
+            looped.survey.complete looped.verdict) }
         ensures same { IfOk result (λ looped. looped.survey ≡ self.entry) }
     {
         let turns = self.turns;

@@ -1,6 +1,6 @@
 //! What is said where no kept state is one that was looked for.
 
-ghost use Rattle.std.specs.Prelude.{◌≡◌, ◌++◌, if◌then◌else◌, [], IfOk, OnOk, string_bytes};
+ghost use Rattle.std.specs.Prelude.{◌≡◌, ◌++◌, IfOk, OnOk, string_bytes};
 ghost use Rattle.serde_json.specs.View.{view as data_of};
 ghost use Rattle.serde_json.specs.Written.{compact_text};
 ghost use Rattle.found_texts.specs.FoundTexts.{
@@ -11,14 +11,15 @@ ghost use Rattle.found_texts.specs.FoundTexts.{
 };
 ghost use Rattle.found_texts.specs.ReducedTexts.{
   reduced_absent_data,
-  reduced_line,
   said_absent,
   said_absent_data,
 };
+ghost use Rattle.reduced_texts.specs.ReducedTexts.{line_if_any};
 ghost use Rattle.report_lines.specs.Texts.{line};
 
-use crate::reduced::reduced_line;
 use cheri_model::{Image, NoMemory};
+use reduced_texts::{reduced_value, write_reduced_line};
+use reductions::LeftOut;
 use report_lines::{image_json, write_json_value};
 use serde_json::{Value, json};
 use shown_states::Format;
@@ -42,21 +43,21 @@ fn absent_joint(complete: bool) -> &'static str
 #[tactic(auto, unfolding(crate::specs::FoundTexts::absent_line))]
 fn absent_lines(
     alloc: Global,
-    reduced: bool,
+    left_out: Option<LeftOut>,
     complete: bool,
     states: u32,
 ) -> Result<String, NoMemory>
     ensures { IfOk result (λ text. string_bytes text
-        ≡ (if reduced then reduced_line else []) ++ absent_line complete states) }
+        ≡ line_if_any left_out ++ absent_line complete states) }
 {
     let (answer, joint) = (absent_answer(complete), absent_joint(complete));
     let mut out = String::new(alloc);
-    out.push_str(reduced_line(reduced))?;
+    write_reduced_line(alloc, &mut out, left_out)?;
     writeln!(out, "{answer} {joint} {states} states")?;
     Ok(out)
 }
 
-/// The object where nothing was forgotten.
+/// The object where nothing was left out.
 #[tactic(auto, unfolding(crate::specs::FoundTexts::absent_data))]
 fn plain_json(alloc: Global, complete: bool, image: &Image, states: u32) -> Result<Value, NoMemory>
     ensures { IfOk result (λ v. data_of v ≡ absent_data complete image.now states) }
@@ -69,20 +70,22 @@ fn plain_json(alloc: Global, complete: bool, image: &Image, states: u32) -> Resu
     })
 }
 
-/// The object where registers were forgotten.
+/// The object where something was.
 #[tactic(auto, unfolding(crate::specs::ReducedTexts::reduced_absent_data))]
 fn reduced_json(
     alloc: Global,
+    left_out: LeftOut,
     complete: bool,
     image: &Image,
     states: u32,
 ) -> Result<Value, NoMemory>
-    ensures { IfOk result (λ v. data_of v ≡ reduced_absent_data complete image.now states) }
+    ensures { IfOk result (λ v. data_of v
+        ≡ reduced_absent_data left_out complete image.now states) }
 {
     let answer = absent_answer(complete);
     let version: u8 = 2;
     let image = image_json(alloc, image)?;
-    let reduced = json!(in alloc; ["registers"])?;
+    let reduced = reduced_value(alloc, left_out)?;
     json!(in alloc; {
         "answer": answer, "explore": version, "image": image, "reduced": reduced, "states": states
     })
@@ -91,17 +94,16 @@ fn reduced_json(
 /// The object.
 fn absent_json(
     alloc: Global,
-    reduced: bool,
+    left_out: Option<LeftOut>,
     complete: bool,
     image: &Image,
     states: u32,
 ) -> Result<Value, NoMemory>
-    ensures { IfOk result (λ v. data_of v ≡ said_absent_data reduced complete image.now states) }
+    ensures { IfOk result (λ v. data_of v ≡ said_absent_data left_out complete image.now states) }
 {
-    if reduced {
-        reduced_json(alloc, complete, image, states)
-    } else {
-        plain_json(alloc, complete, image, states)
+    match left_out {
+        Some(left_out) => reduced_json(alloc, left_out, complete, image, states),
+        None => plain_json(alloc, complete, image, states),
     }
 }
 
@@ -109,15 +111,15 @@ fn absent_json(
 #[tactic(auto, using(crate::proofs::FoundLemmas::absent_no_float))]
 fn json_line(
     alloc: Global,
-    reduced: bool,
+    left_out: Option<LeftOut>,
     complete: bool,
     image: &Image,
     states: u32,
 ) -> Result<String, NoMemory>
     ensures { IfOk result (λ text. string_bytes text
-        ≡ line (compact_text (said_absent_data reduced complete image.now states))) }
+        ≡ line (compact_text (said_absent_data left_out complete image.now states))) }
 {
-    let value = absent_json(alloc, reduced, complete, image, states)?;
+    let value = absent_json(alloc, left_out, complete, image, states)?;
     let mut out = String::new(alloc);
     write_json_value(alloc, &mut out, value)?;
     out.push_str("\n")?;
@@ -125,20 +127,20 @@ fn json_line(
 }
 
 /// That no state is one that was looked for, of so many states: of all, or of those that were
-/// kept; and that registers were forgotten, where they were. Fails only when out of memory.
+/// kept; and what was left out, if anything was. Fails only when out of memory.
 pub fn absent_text(
     alloc: Global,
     format: Format,
-    reduced: bool,
+    left_out: Option<LeftOut>,
     complete: bool,
     image: &Image,
     states: u32,
 ) -> Result<String, NoMemory>
     ensures { IfOk result (λ text. string_bytes text
-        ≡ said_absent reduced format complete image.now states) }
+        ≡ said_absent left_out format complete image.now states) }
 {
     match format {
-        Format::Text => absent_lines(alloc, reduced, complete, states),
-        Format::Json => json_line(alloc, reduced, complete, image, states),
+        Format::Text => absent_lines(alloc, left_out, complete, states),
+        Format::Json => json_line(alloc, left_out, complete, image, states),
     }
 }

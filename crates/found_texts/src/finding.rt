@@ -38,6 +38,7 @@ use conditions::Condition;
 use cores::Core;
 use explore_sights::Sight;
 use graph_search::Progress;
+use reductions::LeftOut;
 use shown_states::{Answer, ConditionTest, Ending, Format, Loaded};
 use states::{Found, Kept, Room, Search, find_from};
 use std::alloc::{AllocError, Global};
@@ -144,18 +145,18 @@ fn absent_ending(complete: bool) -> Ending
 pub(crate) fn absent_told(
     alloc: Global,
     format: Format,
-    reduced: bool,
+    left_out: Option<LeftOut>,
     complete: bool,
     image: &Image,
     states: u32,
 ) -> Result<Told, NoMemory>
     ensures says { IfOk result (λ told. (orders_of told.orders.items ≡ [])
-        × (string_bytes told.answer.text ≡ said_absent reduced format complete image.now states)
+        × (string_bytes told.answer.text ≡ said_absent left_out format complete image.now states)
         × (told.answer.ending ≡ absent_ending complete)) }
     ensures complete { IfOk result (λ told. told.answer.ending ≡ Ending.Nowhere
         → complete ≡ true) }
 {
-    let text = absent_text(alloc, format, reduced, complete, image, states)?;
+    let text = absent_text(alloc, format, left_out, complete, image, states)?;
     let ending = absent_ending(complete);
     Ok(Told {
         answer: Answer { text, ending },
@@ -173,26 +174,26 @@ fn none_found(alloc: Global, format: Format, kept: &Kept) -> Result<Told, NoMemo
         → kept.now.complete ≡ true) }
 {
     let complete = kept.is_complete();
-    absent_told(alloc, format, false, complete, kept.image(), kept.len())
+    absent_told(alloc, format, None, complete, kept.image(), kept.len())
 }
 
 /// The answer that a state was found, which tells of the order that leads there.
 pub(crate) fn found_told(
     alloc: Global,
     format: Format,
-    reduced: bool,
+    left_out: Option<LeftOut>,
     image: &Image,
     led: Led,
 ) -> Result<Told, NoMemory>
     ensures says { IfOk result (λ told. (orders_of told.orders.items ≡ led.order.items ∷ [])
         × (string_bytes told.answer.text
-        ≡ said_found reduced format image.now led.order.items led.state)) }
+        ≡ said_found left_out format image.now led.order.items led.state)) }
     ensures done { IfOk result (λ told. told.answer.ending ≡ Ending.Done) }
 {
     let text = found_text(
         alloc,
         format,
-        reduced,
+        left_out,
         image,
         led.order.as_slice(),
         &led.state,
@@ -231,7 +232,7 @@ fn answer_of(
     match found.state {
         Some(number) => {
             let led = led_to(alloc, search, condition, core, &found.kept, number)?;
-            found_told(alloc, format, false, found.kept.image(), led)
+            found_told(alloc, format, None, found.kept.image(), led)
         }
         None => none_found(alloc, format, &found.kept),
     }

@@ -1,32 +1,38 @@
 //! What is said of a state that was found.
 
-ghost use Rattle.std.specs.Prelude.{◌≡◌, ◌++◌, IfOk, OnOk, string_bytes};
+ghost use Rattle.std.specs.Prelude.{◌≡◌, ◌++◌, IfOk, OnOk, is_some, string_bytes};
 ghost use Rattle.found_texts.specs.FoundParts.{
   found_head,
   found_tail,
   image_members,
   json_head,
   order_member,
-  state_opening,
   text_head,
 };
 ghost use Rattle.found_texts.specs.ReducedTexts.{said_found};
 ghost use Rattle.order_texts.specs.OrderTexts.{order_text};
 
-use crate::reduced::{reduced_line, reduced_version};
+use crate::reduced::reduced_version;
 use cheri_model::{Image, NoMemory, Op};
 use order_texts::write_order;
+use reduced_texts::{write_reduced_line, write_reduced_member};
+use reductions::LeftOut;
 use report_lines::{image_json, write_json_value};
 use shown_states::{Format, Loaded, write_json_string, write_state};
 use std::alloc::Global;
 
 /// Appends the lines before the state.
 #[tactic(auto, unfolding(crate::specs::FoundTexts::found_line))]
-fn write_text_head(out: &mut String, reduced: bool, order: &[Op]) -> Result<(), NoMemory>
+fn write_text_head(
+    alloc: Global,
+    out: &mut String,
+    left_out: Option<LeftOut>,
+    order: &[Op],
+) -> Result<(), NoMemory>
     ensures { OnOk result (string_bytes out.new
-        ≡ string_bytes out.old ++ text_head reduced order.now) }
+        ≡ string_bytes out.old ++ text_head left_out order.now) }
 {
-    out.push_str(reduced_line(reduced))?;
+    write_reduced_line(alloc, out, left_out)?;
     out.push_str("found order=")?;
     write_order(out, order)?;
     out.push_str("\n")
@@ -71,31 +77,21 @@ fn write_order_member(alloc: Global, out: &mut String, order: &[Op]) -> Result<(
     write_json_string(alloc, out, text)
 }
 
-/// The member of what was forgotten, if anything was, and the beginning of the state.
-fn state_opening(reduced: bool) -> &'static str
-    ensures { result.now ≡ state_opening reduced }
-{
-    if reduced {
-        ",\"reduced\":[\"registers\"],\"state\":{"
-    } else {
-        ",\"state\":{"
-    }
-}
-
 /// Appends the members before the state, and its beginning.
 fn write_json_head(
     alloc: Global,
     out: &mut String,
-    reduced: bool,
+    left_out: Option<LeftOut>,
     image: &Image,
     order: &[Op],
 ) -> Result<(), NoMemory>
     ensures { OnOk result (string_bytes out.new
-        ≡ string_bytes out.old ++ json_head reduced image.now order.now) }
+        ≡ string_bytes out.old ++ json_head left_out image.now order.now) }
 {
-    write_image_members(alloc, out, reduced, image)?;
+    write_image_members(alloc, out, left_out.is_some(), image)?;
     write_order_member(alloc, out, order)?;
-    out.push_str(state_opening(reduced))
+    write_reduced_member(alloc, out, left_out)?;
+    out.push_str(",\"state\":{")
 }
 
 /// Appends what stands before the state.
@@ -103,16 +99,16 @@ fn write_head(
     alloc: Global,
     format: Format,
     out: &mut String,
-    reduced: bool,
+    left_out: Option<LeftOut>,
     image: &Image,
     order: &[Op],
 ) -> Result<(), NoMemory>
     ensures { OnOk result (string_bytes out.new
-        ≡ string_bytes out.old ++ found_head format reduced image.now order.now) }
+        ≡ string_bytes out.old ++ found_head format left_out image.now order.now) }
 {
     match format {
-        Format::Text => write_text_head(out, reduced, order),
-        Format::Json => write_json_head(alloc, out, reduced, image, order),
+        Format::Text => write_text_head(alloc, out, left_out, order),
+        Format::Json => write_json_head(alloc, out, left_out, image, order),
     }
 }
 
@@ -126,21 +122,21 @@ fn tail(format: Format) -> &'static str
     }
 }
 
-/// The state that was found, and the order that leads to it; and that registers were forgotten,
-/// where they were. Fails only when out of memory.
+/// The state that was found, and the order that leads to it; and what was left out, if anything
+/// was. Fails only when out of memory.
 pub fn found_text(
     alloc: Global,
     format: Format,
-    reduced: bool,
+    left_out: Option<LeftOut>,
     image: &Image,
     order: &[Op],
     state: &Loaded,
 ) -> Result<String, NoMemory>
     ensures { IfOk result (λ text. string_bytes text
-        ≡ said_found reduced format image.now order.now state.now) }
+        ≡ said_found left_out format image.now order.now state.now) }
 {
     let mut out = String::new(alloc);
-    write_head(alloc, format, &mut out, reduced, image, order)?;
+    write_head(alloc, format, &mut out, left_out, image, order)?;
     write_state(alloc, format, &mut out, state)?;
     out.push_str(tail(format))?;
     Ok(out)

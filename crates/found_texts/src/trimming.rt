@@ -20,7 +20,7 @@ struct Trimming {
 
 /// A step that can be left out: its place in the order, and its hart.
 #[derive(Clone, Copy)]
-struct LeftOut {
+struct NeedlessStep {
     place: usize,
     hart: usize,
 }
@@ -102,7 +102,7 @@ fn last_step(order: &[Op], hart: usize) -> Option<usize> {
 }
 
 /// The later of two steps.
-fn later(first: Option<LeftOut>, second: Option<LeftOut>) -> Option<LeftOut> {
+fn later(first: Option<NeedlessStep>, second: Option<NeedlessStep>) -> Option<NeedlessStep> {
     match (first, second) {
         (Some(one), Some(other)) => {
             if one.place < other.place {
@@ -118,7 +118,7 @@ fn later(first: Option<LeftOut>, second: Option<LeftOut>) -> Option<LeftOut> {
 
 impl Trimming {
     /// The last step of a hart, if the condition holds without it.
-    fn step_of(&mut self, condition: &Condition, hart: usize) -> Option<LeftOut> {
+    fn step_of(&mut self, condition: &Condition, hart: usize) -> Option<NeedlessStep> {
         if hart >= self.tails.len() || hart >= self.state.harts().len() {
             return None;
         }
@@ -131,11 +131,11 @@ impl Trimming {
             return None;
         }
         let place = last_step(self.order.as_slice(), hart)?;
-        Some(LeftOut { place, hart })
+        Some(NeedlessStep { place, hart })
     }
 
     /// The last step without which the condition holds.
-    fn last_of_all(&mut self, condition: &Condition) -> Option<LeftOut> {
+    fn last_of_all(&mut self, condition: &Condition) -> Option<NeedlessStep> {
         let mut last = None;
         for hart in 0..self.tails.len() {
             last = later(last, self.step_of(condition, hart));
@@ -144,7 +144,7 @@ impl Trimming {
     }
 
     /// Leaves a step out.
-    fn leave_out(&mut self, step: LeftOut) {
+    fn leave_out(&mut self, step: NeedlessStep) {
         if step.place < self.order.len() {
             self.order.remove(step.place);
         }

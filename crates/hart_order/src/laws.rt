@@ -17,9 +17,9 @@ ghost use Rattle.forgotten_turns.specs.ForgottenTurns.{
 };
 ghost use Rattle.graph_search.specs.Walks.{IsReachable, IsWalk};
 ghost use Rattle.hart_order.specs.Arrangements.{
+  IsUngrouped,
   OthersStay,
   arranged_state,
-  group_of,
   place_in,
 };
 ghost use Rattle.hart_order.specs.GroupedTurns.{
@@ -41,7 +41,7 @@ pub fn arranged_states_are_renamed()
 
 /// Where no hart is of a group, each state is in order.
 pub fn ungrouped_harts_stay()
-    ensures { (groups : List ℕ) → ((hart : ℕ) → group_of groups hart ≡ 0) → (s : MachineState) →
+    ensures { (groups : List ℕ) → IsUngrouped groups → (s : MachineState) →
         arranged_state groups s ≡ s }
 {}
 
@@ -81,9 +81,9 @@ pub fn grouped_walks_are_machine_walks()
 /// Where no hart is of a group these are the forgotten turns.
 pub fn ungrouped_turns_are_forgotten_turns()
     ensures start { (image : ImageParts) (sight : Sight) (live : LiveSets) (groups : List ℕ) →
-        ((hart : ℕ) → group_of groups hart ≡ 0) →
+        IsUngrouped groups →
         grouped_start image sight live groups ≡ forgotten_start image sight live }
     ensures turns { (image : ImageParts) (sight : Sight) (live : LiveSets) (groups : List ℕ) →
-        ((hart : ℕ) → group_of groups hart ≡ 0) → (s : MachineState) (label : ℕ) →
+        IsUngrouped groups → (s : MachineState) (label : ℕ) →
         grouped_turn image sight live groups s label ≡ forgotten_turn image sight live s label }
 {}

@@ -9,7 +9,7 @@ use cheri_model::MAX_HARTS;
 pub type HartSet = [bool; 8];
 
 /// The set of no hart.
-pub(crate) fn nobody() -> HartSet
+pub fn nobody() -> HartSet
     ensures { IsSetOf (λ hart. false) result }
 {
     [false; 8]
@@ -28,7 +28,7 @@ pub(crate) fn only(hart: u8) -> HartSet
 }
 
 /// The harts of both sets.
-pub(crate) fn union(one: &HartSet, other: &HartSet) -> HartSet
+pub fn union(one: &HartSet, other: &HartSet) -> HartSet
     ensures { IsSetOf (λ hart. has one.now hart || has other.now hart) result }
 {
     let mut all = *one;

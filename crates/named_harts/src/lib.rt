@@ -4,5 +4,5 @@
 mod hart_set;
 mod named;
 
-pub use hart_set::HartSet;
+pub use hart_set::{HartSet, nobody, union};
 pub use named::named_harts;

@@ -8,6 +8,7 @@ use Rattle.forgotten_checks.specs.StateChecks.{IsCheckStatesAnswer}
 use Rattle.forgotten_outcomes.specs.ShownStates.{IsShownStatesAnswer}
 use Rattle.found_texts.specs.Reduced.{IsStateAnswer}
 use Rattle.outcome_texts.specs.Answers.{IsListedAnswer}
+use Rattle.reductions.specs.declared.reduction.Keeps.{Keeps}
 use Rattle.shown_states.specs.declared.form.Ending.{Ending}
 use Rattle.shown_states.specs.declared.form.Format.TheVariants.{Json}
 use Rattle.sinks.specs.Sinks.{Memory}
@@ -16,7 +17,11 @@ use Rattle.page_searches.specs.Asked.{check_asked, find_asked, rows_asked, searc
 use Rattle.page_searches.specs.declared.fault.SearchFault.{SearchFault}
 use Rattle.page_searches.specs.declared.fault.SearchFault.TheVariants.{NoMemory}
 
--- ---- a text that answers what is asked: registers may be forgotten
+-- ---- a text that answers what is asked: what doesn't matter to it may be left out
+
+-- neither all registers are kept, nor which of equal harts stands where
+abbrev pub keeps_nothing : Keeps
+keeps_nothing = record { registers = false; harts = false }
 
 -- each outcome, with an order that leads to it
 abbrev pub AreOutcomes : SearchParts → List ℕ → Type 0
@@ -30,13 +35,13 @@ AreRows asked text = (ending : Ending) × IsShownStatesAnswer false asked.0 aske
 abbrev pub IsFound : SearchParts × List Node → List ℕ → Type 0
 IsFound asked text =
     (orders : List (List Op)) × (ending : Ending)
-    × IsStateAnswer false asked.0 asked.1 Json orders text ending
+    × IsStateAnswer keeps_nothing asked.0 asked.1 Json orders text ending
 
 -- the verdict on each property
 abbrev pub AreVerdicts : SearchParts × List PropertyParts → List ℕ → Type 0
 AreVerdicts asked text =
     (orders : List (List Op)) × (ending : Ending)
-    × IsCheckStatesAnswer false asked.0 asked.1 Json orders text ending
+    × IsCheckStatesAnswer keeps_nothing asked.0 asked.1 Json orders text ending
 
 -- ---- the answer: a text, or the fault of what should ask
 

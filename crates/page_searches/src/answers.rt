@@ -12,10 +12,17 @@ use forgotten_outcomes::{Manner, show_states};
 use found_texts::find_state;
 use graph_search::NoProgress;
 use outcome_texts::list_outcomes;
+use reductions::Keeps;
 use shown_states::{Answer, Format, put_answer};
 use sinks::{MemSink, WriteFault};
 use states::Search;
 use std::alloc::Global;
+
+/// Whatever doesn't matter to a question may be left out, as by default in the program.
+const KEEPS_NOTHING: Keeps = Keeps {
+    registers: false,
+    harts: false,
+};
 
 /// An answer's text.
 pub(crate) fn kept(alloc: Global, answer: &Answer) -> Result<MemSink, WriteFault>
@@ -63,7 +70,7 @@ pub fn found(
         alloc,
         search,
         condition,
-        false,
+        KEEPS_NOTHING,
         Format::Json,
         &mut NoProgress,
     )?;
@@ -83,7 +90,7 @@ pub fn verdicts(
         alloc,
         search,
         properties,
-        false,
+        KEEPS_NOTHING,
         Format::Json,
         &mut NoProgress,
     )?;

@@ -236,7 +236,7 @@ fn questions_are_answered(rt: HostRuntime) -> Result<(), Fail> {
         "--steps",
     ];
     let halted = ["find", "listing", "0 is halted and 1 is halted"];
-    let rows: [(&[&str], &str, (u8, &str)); 9] = [
+    let rows: [(&[&str], &str, (u8, &str)); 10] = [
         (&["outcomes", "listing", "--steps"], COUNTING, (0, LISTED)),
         (&shown, ADDING, (0, ROWS)),
         (&found, COUNTING, (0, COUNTED)),
@@ -252,6 +252,11 @@ fn questions_are_answered(rt: HostRuntime) -> Result<(), Fail> {
             &["find", "listing", "0.c6 = 2"],
             COUNTING,
             (5, "reduced registers\nnone in 1 states\n"),
+        ),
+        (
+            &["find", "listing", "any hart is trapped"],
+            ADDING,
+            (5, "reduced registers harts=0,1\nnone in 8 states\n"),
         ),
         (&["authority", "listing", "--steps"], COUNTING, (0, HELD)),
     ];

@@ -11,7 +11,7 @@ unfolding json_head
 returns c =
     let e = simp (
       c.in_ok-write.ensures.bytes,
-      c.reduced_version-version.ensures,
+      c.version_of-version.ensures,
       c.in_ok-push_str-2.ensures.bytes,
       c.complete_text.ensures,
       c.in_ok-push_str.ensures.bytes,

@@ -6,8 +6,8 @@ pub returns : goal.returns
 unfolding check_json
 returns c =
     let e = simp (
+      c.in_ok-write_reduced_member.ensures,
       c.in_ok-push_str-2.ensures.bytes,
-      c.states_opening.ensures,
       c.in_ok-write_properties.ensures,
       c.in_ok-push_str.ensures.bytes,
       c.in_ok-write_head.ensures,

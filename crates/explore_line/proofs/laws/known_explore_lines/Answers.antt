@@ -178,35 +178,3 @@ returns-clause-mapped_outcomes c = refl
 pub returns-clause-mapped_authority : goal.returns-clause-mapped_authority
 unfolding clap_on_literals explore_asked explore_asked_of search_asked_of question_of sweep_of sweeps_of decimal_within number_in number_of
 returns-clause-mapped_authority c = refl
-
-pub returns-clause-find_keeping : goal.returns-clause-find_keeping
-unfolding clap_on_literals explore_asked explore_asked_of search_asked_of question_of sweep_of sweeps_of decimal_within number_in number_of
-returns-clause-find_keeping c = refl
-
-pub returns-clause-outcomes_keeping : goal.returns-clause-outcomes_keeping
-unfolding clap_on_literals explore_asked explore_asked_of search_asked_of question_of sweep_of sweeps_of decimal_within number_in number_of
-returns-clause-outcomes_keeping c = refl
-
-pub returns-clause-check_keeping : goal.returns-clause-check_keeping
-unfolding clap_on_literals explore_asked explore_asked_of search_asked_of question_of sweep_of sweeps_of decimal_within number_in number_of
-returns-clause-check_keeping c = refl
-
-pub returns-clause-authority_keeping : goal.returns-clause-authority_keeping
-unfolding clap_on_literals explore_asked explore_asked_of search_asked_of question_of sweep_of sweeps_of decimal_within number_in number_of
-returns-clause-authority_keeping c = refl
-
-pub returns-clause-keeping_nothing : goal.returns-clause-keeping_nothing
-unfolding clap_on_literals explore_asked explore_asked_of search_asked_of question_of sweep_of sweeps_of decimal_within number_in number_of
-returns-clause-keeping_nothing c = refl
-
-pub returns-clause-keeping_another_word : goal.returns-clause-keeping_another_word
-unfolding clap_on_literals explore_asked explore_asked_of search_asked_of question_of sweep_of sweeps_of decimal_within number_in number_of
-returns-clause-keeping_another_word c = refl
-
-pub returns-clause-keeping_a_word_twice : goal.returns-clause-keeping_a_word_twice
-unfolding clap_on_literals explore_asked explore_asked_of search_asked_of question_of sweep_of sweeps_of decimal_within number_in number_of
-returns-clause-keeping_a_word_twice c = refl
-
-pub returns-clause-keeping_twice : goal.returns-clause-keeping_twice
-unfolding clap_on_literals explore_asked explore_asked_of search_asked_of question_of sweep_of sweeps_of decimal_within number_in number_of
-returns-clause-keeping_twice c = refl

@@ -17,18 +17,18 @@ pub returns-in-Err-clause-failed : goal.returns-in-Err-clause-failed
 returns-in-Err-clause-failed g c =
     let search = search_of c.args.asking.search in
     rw c.text_fault.ensures
-    (condition_fails (λ atoms. IsExplained c.args.asking.explained (listed_of c.args.asking.listed) search.image (IsStateAnswer c.args.asking.keeps_registers search atoms c.args.asking.format)) (condition_of (named (label_parts c.args.asking.labels.now) (listed_of c.args.asking.listed).sources) search.image c.args.condition.now) c.in-Err.refused _ _ c.in-Err.ensures refl)
+    (condition_fails (λ atoms. IsExplained c.args.asking.explained (listed_of c.args.asking.listed) search.image (IsStateAnswer c.args.asking.keeps search atoms c.args.asking.format)) (condition_of (named (label_parts c.args.asking.labels.now) (listed_of c.args.asking.listed).sources) search.image c.args.condition.now) c.in-Err.refused _ _ c.in-Err.ensures refl)
 
 pub returns-clause-printed : goal.returns-clause-printed
 returns-clause-printed g c =
     let search = search_of c.args.asking.search in
-    let answers : List Node → List ℕ → Ending → Type 0 = λ atoms. IsExplained c.args.asking.explained (listed_of c.args.asking.listed) search.image (IsStateAnswer c.args.asking.keeps_registers search atoms c.args.asking.format) in
-    all_whole (λ ending. ending) own_failure false (IsSaid (answers c.in-Ok.condition)) (IsFindSaid (label_parts c.args.asking.labels.now) (listed_of c.args.asking.listed) search c.args.asking.format c.args.asking.explained c.args.asking.keeps_registers c.args.condition.now)
+    let answers : List Node → List ℕ → Ending → Type 0 = λ atoms. IsExplained c.args.asking.explained (listed_of c.args.asking.listed) search.image (IsStateAnswer c.args.asking.keeps search atoms c.args.asking.format) in
+    all_whole (λ ending. ending) own_failure false (IsSaid (answers c.in-Ok.condition)) (IsFindSaid (label_parts c.args.asking.labels.now) (listed_of c.args.asking.listed) search c.args.asking.format c.args.asking.explained c.args.asking.keeps c.args.condition.now)
     (said_of condition_fault answers (condition_of (named (label_parts c.args.asking.labels.now) (listed_of c.args.asking.listed).sources) search.image c.args.condition.now) c.in-Ok.condition c.in-Ok.ensures) _ _ c.ask.result c.ask.ensures.printed
 
 pub returns-clause-failed : goal.returns-clause-failed
 returns-clause-failed g c =
     let search = search_of c.args.asking.search in
-    let answers : List Node → List ℕ → Ending → Type 0 = λ atoms. IsExplained c.args.asking.explained (listed_of c.args.asking.listed) search.image (IsStateAnswer c.args.asking.keeps_registers search atoms c.args.asking.format) in
-    all_fail (λ ending. ending) own_failure false (IsSaid (answers c.in-Ok.condition)) (IsFindSaid (label_parts c.args.asking.labels.now) (listed_of c.args.asking.listed) search c.args.asking.format c.args.asking.explained c.args.asking.keeps_registers c.args.condition.now)
+    let answers : List Node → List ℕ → Ending → Type 0 = λ atoms. IsExplained c.args.asking.explained (listed_of c.args.asking.listed) search.image (IsStateAnswer c.args.asking.keeps search atoms c.args.asking.format) in
+    all_fail (λ ending. ending) own_failure false (IsSaid (answers c.in-Ok.condition)) (IsFindSaid (label_parts c.args.asking.labels.now) (listed_of c.args.asking.listed) search c.args.asking.format c.args.asking.explained c.args.asking.keeps c.args.condition.now)
     (said_of condition_fault answers (condition_of (named (label_parts c.args.asking.labels.now) (listed_of c.args.asking.listed).sources) search.image c.args.condition.now) c.in-Ok.condition c.in-Ok.ensures) _ _ c.ask.result c.ask.ensures.failed

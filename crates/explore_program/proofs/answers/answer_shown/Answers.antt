@@ -14,18 +14,18 @@ pub returns-in-Err-clause-failed : goal.returns-in-Err-clause-failed
 returns-in-Err-clause-failed g c =
     let search = search_of c.args.asking.search in
     rw c.text_fault.ensures
-    (items_fail (λ list. IsShownStatesAnswer c.args.asking.keeps_registers search list c.args.asking.format) (items_of search.image c.args.items.now) c.in-Err.refused _ _ c.in-Err.ensures refl)
+    (items_fail (λ list. IsShownStatesAnswer c.args.asking.keeps.registers search list c.args.asking.format) (items_of search.image c.args.items.now) c.in-Err.refused _ _ c.in-Err.ensures refl)
 
 pub returns-clause-printed : goal.returns-clause-printed
 returns-clause-printed g c =
     let search = search_of c.args.asking.search in
-    let answers : ItemList → List ℕ → Ending → Type 0 = λ list. IsShownStatesAnswer c.args.asking.keeps_registers search list c.args.asking.format in
-    all_whole (λ ending. ending) own_failure false (IsSaid (answers (list_of c.in-Ok.items))) (IsShownSaid search c.args.asking.format c.args.asking.keeps_registers c.args.items.now)
+    let answers : ItemList → List ℕ → Ending → Type 0 = λ list. IsShownStatesAnswer c.args.asking.keeps.registers search list c.args.asking.format in
+    all_whole (λ ending. ending) own_failure false (IsSaid (answers (list_of c.in-Ok.items))) (IsShownSaid search c.args.asking.format c.args.asking.keeps.registers c.args.items.now)
     (said_of place_fault answers (items_of search.image c.args.items.now) (list_of c.in-Ok.items) c.in-Ok.ensures) _ _ c.ask.result c.ask.ensures.printed
 
 pub returns-clause-failed : goal.returns-clause-failed
 returns-clause-failed g c =
     let search = search_of c.args.asking.search in
-    let answers : ItemList → List ℕ → Ending → Type 0 = λ list. IsShownStatesAnswer c.args.asking.keeps_registers search list c.args.asking.format in
-    all_fail (λ ending. ending) own_failure false (IsSaid (answers (list_of c.in-Ok.items))) (IsShownSaid search c.args.asking.format c.args.asking.keeps_registers c.args.items.now)
+    let answers : ItemList → List ℕ → Ending → Type 0 = λ list. IsShownStatesAnswer c.args.asking.keeps.registers search list c.args.asking.format in
+    all_fail (λ ending. ending) own_failure false (IsSaid (answers (list_of c.in-Ok.items))) (IsShownSaid search c.args.asking.format c.args.asking.keeps.registers c.args.items.now)
     (said_of place_fault answers (items_of search.image c.args.items.now) (list_of c.in-Ok.items) c.in-Ok.ensures) _ _ c.ask.result c.ask.ensures.failed

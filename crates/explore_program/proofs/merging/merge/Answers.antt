@@ -1,4 +1,4 @@
-use Rattle.std.proofs.Common.{Err, sym}
+use Rattle.std.proofs.Common.{Err}
 use Rattle.std.proofs.lemmas.Result.{err_from_is_err_and}
 use Rattle.explore_line.specs.Samples.{merge_asked_by}
 use Rattle.explore_program.specs.Merges.{AreTextsMerged, IsMerged}

@@ -1,4 +1,3 @@
-use Rattle.std.proofs.Common.{sym}
 use Rattle.explore_program.proofs.sampling.sample_image.Goals as goal
 
 pub returns-then-request : goal.returns-then-request

@@ -1,4 +1,3 @@
-use Rattle.std.proofs.Common.{refl}
 use Rattle.explore_program.proofs.sampling.tell.Goals as goal
 
 pub returns : goal.returns

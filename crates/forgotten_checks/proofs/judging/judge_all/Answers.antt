@@ -2,6 +2,8 @@ use Rattle.explore_verdicts.proofs.VerdictLemmas.{verdict_step}
 use Rattle.explore_verdicts.proofs.WatchLemmas.{claim_at}
 use Rattle.forgotten_checks.specs.StateVerdicts.{IsForgottenStateVerdict}
 use Rattle.forgotten_checks.proofs.AskedLemmas.{claim_asked}
+use Rattle.forgotten_checks.proofs.NamedLemmas.{claim_named}
+use Rattle.hart_order.specs.GroupedTurns.{keeps_number}
 use Rattle.forgotten_checks.proofs.judging.judge_all.Goals as goal
 
 pub judge_property-requires : goal.judge_property-requires
@@ -12,6 +14,10 @@ judge_property-requires c = record {
   asked =
       rw c.property-item.is
       (claim_asked c.args.survey.now.live.asked c.args.properties.now c.loop-property.property-index _ c.requires.asked
+      c.loop-property-test.true);
+  named =
+      rw c.property-item.is
+      (claim_named (keeps_number c.args.survey.now.groups) c.args.properties.now c.loop-property.property-index _ c.requires.named
       c.loop-property-test.true);
 }
 

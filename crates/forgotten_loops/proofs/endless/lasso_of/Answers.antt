@@ -12,20 +12,21 @@ use Rattle.forgotten_loops.proofs.endless.lasso_of.Goals as goal
 
 pub turns_to-requires : goal.turns_to-requires
 turns_to-requires c = record {
-  there = slice_get_within c.args.survey.now.states c.args.found.now.node c.requires.0 c.requires.1;
+  there = slice_get_within c.args.survey.now.states c.args.found.now.node c.requires.loops.0 c.requires.loops.1;
 }
 
 pub operations-requires : goal.operations-requires
 operations-requires c =
-    rw c.as_slice.ensures.value (loop_labels c.args.survey.now c.len-count.ensures.survey c.args.found.now c.requires)
+    rw c.as_slice.ensures.value (loop_labels c.args.survey.now c.len-count.ensures.survey
+    (λ hart. c.requires.ungrouped hart) c.args.found.now c.requires.loops)
 
 pub orders_of-requires : goal.orders_of-requires
 orders_of-requires c =
     let survey = c.args.survey.now in
     let is = c.len-count.ensures.survey in
     let later : c.as_slice-2.result.now ≡ c.in_ok-later.later.items = c.as_slice-2.ensures.value in
-    let on = turns_go_on survey.image survey.sight survey.live is.right (λ before after. is.hidden before after) c.requires.0
-    c.in_ok-first.first.items c.in_ok-later.later.items c.as_slice.result.now (c.in_ok-first.ensures c.requires.0 c.requires.1)
+    let on = turns_go_on survey.image survey.sight survey.live is.right (λ before after. is.hidden before after) survey.groups c.requires.loops.0
+    c.in_ok-first.first.items c.in_ok-later.later.items c.as_slice.result.now (c.in_ok-first.ensures c.requires.loops.0 c.requires.loops.1)
     c.in_ok-later.ensures in
     record {
       first = on.first_of;
@@ -40,11 +41,11 @@ returns c state there =
     let is = c.len-count.ensures.survey in
     let later : c.as_slice-2.result.now ≡ c.in_ok-later.later.items = c.as_slice-2.ensures.value in
     let turns = c.in_ok-first.ensures state there in
-    let on = turns_go_on survey.image survey.sight survey.live is.right (λ before after. is.hidden before after) state
+    let on = turns_go_on survey.image survey.sight survey.live is.right (λ before after. is.hidden before after) survey.groups state
     c.in_ok-first.first.items c.in_ok-later.later.items c.as_slice.result.now turns c.in_ok-later.ensures in
     let before = order_of_turns survey.image [] survey.sight c.in_ok-first.first.items in (
-      subst (λ (os : List Op). IsOrderTo survey.image survey.sight survey.live state os) (sym c.in_ok-order.ensures.first)
-          (turns_order survey.image survey.sight survey.live is.right (λ before after. is.hidden before after) state
+      subst (λ (os : List Op). IsOrderTo survey.image survey.sight survey.live survey.groups state os) (sym c.in_ok-order.ensures.first)
+          (turns_order survey.image survey.sight survey.live survey.groups is.right (λ before after. is.hidden before after) state
           c.in_ok-first.first.items turns),
       (
         c.in_ok-later.later.items,

@@ -1,6 +1,7 @@
 use Rattle.std.proofs.Common.{ap, map, sym, ◌∙◌, subst}
 use Rattle.asked_registers.specs.Asked.{HasAsked, items_ask}
 use Rattle.conditions.specs.Items.{list_of}
+use Rattle.hart_order.specs.Arrangements.{IsUngrouped}
 use Rattle.live_registers.specs.LiveSets.{LiveSets}
 use Rattle.outcome_texts.proofs.AnswerLemmas.{said_as}
 use Rattle.shown_states.specs.Endings.{ending_of}
@@ -20,6 +21,9 @@ rows_told-requires-clause-asked c =
     (subst (λ (l : LiveSets). HasAsked l.asked (items_ask c.args.items.now.shown.items)) (sym c.requires.found.survey_is.live_is)
     c.requires.asked)
 
+pub rows_told-requires-clause-ungrouped : goal.rows_told-requires-clause-ungrouped
+rows_told-requires-clause-ungrouped c = subst IsUngrouped (sym c.requires.found.survey_is.groups_are) c.requires.ungrouped
+
 pub rows_told-requires-clause-rows : goal.rows_told-requires-clause-rows
 rows_told-requires-clause-rows c =
     rw c.as_slice.ensures.value
@@ -30,9 +34,10 @@ returns c =
     let found = c.args.surveyed.now in
     let items = list_of c.args.items.now in
     let search = search_of c.args.search.now in
-    said_as (IsReducedShownAnswer search items c.args.live.now c.args.format) _ _ _ (ending_of found.survey.complete)
-    (reduced_said search c.args.live.now items c.args.format found.survey found.endless _ found.outcomes.items c.in_ok-rows.rows.items
-    c.as_slice-2.result.now _ _ _ _ _ _ c.requires.found c.requires.asked
+    let left = c.args.reduction.now in
+    said_as (IsReducedShownAnswer search items left.live left.groups c.args.format) _ _ _ (ending_of found.survey.complete)
+    (reduced_said search left.live left.groups items c.args.format found.survey found.endless _ found.outcomes.items c.in_ok-rows.rows.items
+    c.as_slice-2.result.now _ _ _ _ _ _ c.requires.found c.requires.asked c.requires.ungrouped
     (rows_distinct found.survey _ _ _ _ _ c.as_slice-shown.ensures.value c.as_slice-outcomes.ensures.value c.in_ok-rows.ensures)
     (rows_known found.survey _ _ _ _ _ _ c.as_slice-shown.ensures.value c.as_slice.ensures.value c.as_slice-2.ensures.value
     c.in_ok-told.ensures)

@@ -8,7 +8,7 @@ use Rattle.forgotten_states.proofs.seeking.first_of.Goals as goal
 
 pub first_passing-number-requires-clause-nodes : goal.first_passing-number-requires-clause-nodes
 first_passing-number-requires-clause-nodes g c =
-    (c.args.turns.image.now, c.args.turns.sees.now, c.args.turns.live.now, c.in_ok-nodes.ensures.nodes)
+    (c.args.turns.image.now, c.args.turns.sees.now, c.args.turns.live.now, c.args.turns.groups, c.in_ok-nodes.ensures.nodes)
 
 pub first_passing-number-requires-clause-before : goal.first_passing-number-requires-clause-before
 first_passing-number-requires-clause-before g c =
@@ -16,7 +16,7 @@ first_passing-number-requires-clause-before g c =
 
 pub search_on-requires-clause-nodes : goal.search_on-requires-clause-nodes
 search_on-requires-clause-nodes g c =
-    (c.args.turns.image.now, c.args.turns.sees.now, c.args.turns.live.now, c.loop-nodes.invariant.nodes)
+    (c.args.turns.image.now, c.args.turns.sees.now, c.args.turns.live.now, c.args.turns.groups, c.loop-nodes.invariant.nodes)
 
 pub first_passing-number-requires-in-loop-nodes-clause-nodes :
     goal.first_passing-number-requires-in-loop-nodes-clause-nodes
@@ -24,7 +24,8 @@ first_passing-number-requires-in-loop-nodes-clause-nodes g c = (
   c.args.turns.image.now,
   c.args.turns.sees.now,
   c.args.turns.live.now,
-  c.in_ok-nodes-2.ensures.nodes c.args.turns.image.now c.args.turns.sees.now c.args.turns.live.now c.loop-nodes.invariant.nodes,
+  c.args.turns.groups,
+  c.in_ok-nodes-2.ensures.nodes c.args.turns.image.now c.args.turns.sees.now c.args.turns.live.now c.args.turns.groups c.loop-nodes.invariant.nodes,
 )
 
 pub first_passing-number-requires-in-loop-nodes-clause-before :
@@ -37,7 +38,7 @@ first_passing-number-requires-in-loop-nodes-clause-before g c =
 
 pub loop-nodes-preserved : goal.loop-nodes-preserved
 loop-nodes-preserved g c = record {
-  nodes = c.in_ok-nodes-2.ensures.nodes c.args.turns.image.now c.args.turns.sees.now c.args.turns.live.now
+  nodes = c.in_ok-nodes-2.ensures.nodes c.args.turns.image.now c.args.turns.sees.now c.args.turns.live.now c.args.turns.groups
       c.loop-nodes.invariant.nodes;
   some = first_of (search rules, grind (arith, common_steps));
   within = first_of (search rules, grind (arith, common_steps));

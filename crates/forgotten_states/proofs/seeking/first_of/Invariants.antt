@@ -5,7 +5,7 @@ use Rattle.forgotten_states.proofs.seeking.first_of.Given as goal
 
 abbrev pub invariant-loop-nodes : goal.invariant-loop-nodes
 invariant-loop-nodes g l = record {
-  nodes : AreNodes l.turns.image.now l.turns.sees.now l.turns.live.now l.nodes.graph l.nodes.reached l.nodes.limit;
+  nodes : AreNodes l.turns.image.now l.turns.sees.now l.turns.live.now l.turns.groups l.nodes.graph l.nodes.reached l.nodes.limit;
   some : 0 < l.nodes.limit;
   within : l.nodes.limit ≤ l.limit;
   first : IsFirstPassing (at l.nodes.graph l.nodes.reached) (length l.nodes.reached.nodes) (g.T.StateTest.passing l.test) l.number;

@@ -5,7 +5,7 @@ use Rattle.std.specs.Prelude.{string_bytes}
 use Rattle.states.specs.Searches.{search_of}
 use Rattle.forgotten_checks.specs.StateChecks.{IsCheckStatesAnswer}
 use Rattle.explore_program.specs.Listings.{listed_of}
-use Rattle.explore_program.specs.Questions.{explained_text, IsExplained}
+use Rattle.explore_program.specs.Questions.{IsExplained}
 use Rattle.explore_program.proofs.QuestionLemmas.{explained_is}
 use Rattle.explore_program.proofs.questions.CheckSearchQuestion.write.Goals as goal
 
@@ -23,7 +23,7 @@ pub returns-clause-written : goal.returns-clause-written
 returns-clause-written g c =
     let q = c.args.self.now in
     let explaining = q.explaining in
-    let answers = IsCheckStatesAnswer q.keeps_registers (search_of q.search) q.properties.now q.format in
+    let answers = IsCheckStatesAnswer q.keeps (search_of q.search) q.properties.now q.format in
     so_written (IsExplained explaining.explained (listed_of explaining.listed) q.search.image.now answers) _ _ c.put_told.result _ _
     (explained_is explaining.explained (listed_of explaining.listed) q.search.image.now answers (orders_of c.in_ok-told.told.orders.items)
     (string_bytes c.in_ok-told.told.answer.text) c.in_ok-told.told.answer.ending c.in_ok-told.ensures) c.put_told.ensures.written
@@ -32,7 +32,7 @@ pub returns-clause-begun : goal.returns-clause-begun
 returns-clause-begun g c =
     let q = c.args.self.now in
     let explaining = q.explaining in
-    let answers = IsCheckStatesAnswer q.keeps_registers (search_of q.search) q.properties.now q.format in
+    let answers = IsCheckStatesAnswer q.keeps (search_of q.search) q.properties.now q.format in
     so_begun (IsExplained explaining.explained (listed_of explaining.listed) q.search.image.now answers) _ _ c.put_told.result _ _
     (explained_is explaining.explained (listed_of explaining.listed) q.search.image.now answers (orders_of c.in_ok-told.told.orders.items)
     (string_bytes c.in_ok-told.told.answer.text) c.in_ok-told.told.answer.ending c.in_ok-told.ensures) c.put_told.ensures.begun

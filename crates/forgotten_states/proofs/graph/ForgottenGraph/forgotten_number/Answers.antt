@@ -15,7 +15,7 @@ invariant_of-self-in_err-keep_at c =
     c.in_ok-after.after
     (forgetting_on c.self.inside.live.now c.self.inside.graph c.number_hart.new.self c.self.inside.known.items
     c.number_hart.ensures.continues c.self.invariant)
-    (number_made c.args.self.now c.self.inside.live.now c.self.inside.graph c.number_hart.new.self c.self.inside.known.items
+    (number_made c.args.self.now c.self.inside.live.now c.self.inside.groups c.self.inside.graph c.number_hart.new.self c.self.inside.known.items
     c.self.view_is c.self.invariant c.number_hart.ensures.continues c.args.hart c.in_ok-after.after c.store.result.now c.load_hart.new.hart
     c.forget.new.hart c.requires c.store.ensures c.load_hart.ensures c.forget.ensures c.in_ok-after.ensures.numbered)
     (λ k n at. c.keep_at.ensures k n at)
@@ -26,7 +26,7 @@ invariant_of-self-2 c =
     c.in_ok-after.after
     (forgetting_on c.self.inside.live.now c.self.inside.graph c.number_hart.new.self c.self.inside.known.items
     c.number_hart.ensures.continues c.self.invariant)
-    (number_made c.args.self.now c.self.inside.live.now c.self.inside.graph c.number_hart.new.self c.self.inside.known.items
+    (number_made c.args.self.now c.self.inside.live.now c.self.inside.groups c.self.inside.graph c.number_hart.new.self c.self.inside.known.items
     c.self.view_is c.self.invariant c.number_hart.ensures.continues c.args.hart c.in_ok-after.after c.store.result.now c.load_hart.new.hart
     c.forget.new.hart c.requires c.store.ensures c.load_hart.ensures c.forget.ensures c.in_ok-after.ensures.numbered)
     (λ k n at. c.keep_at.ensures k n at)
@@ -35,6 +35,6 @@ pub returns-clause-numbered : goal.returns-clause-numbered
 returns-clause-numbered c =
     subst (λ (live : LiveSets). IsForgottenNumber live c.number_hart.new.self.store c.args.hart c.in_ok-after.after)
     (ap (λ (p : ForgottenParts). p.live) c.self.view_is)
-    (number_made c.args.self.now c.self.inside.live.now c.self.inside.graph c.number_hart.new.self c.self.inside.known.items
+    (number_made c.args.self.now c.self.inside.live.now c.self.inside.groups c.self.inside.graph c.number_hart.new.self c.self.inside.known.items
     c.self.view_is c.self.invariant c.number_hart.ensures.continues c.args.hart c.in_ok-after.after c.store.result.now c.load_hart.new.hart
     c.forget.new.hart c.requires c.store.ensures c.load_hart.ensures c.forget.ensures c.in_ok-after.ensures.numbered)

@@ -1,5 +1,8 @@
-use Rattle.std.proofs.Common.{◌<◌, length, sym, subst, List}
+use Rattle.std.proofs.Common.{◌<◌, ◌≤◌, ℕ, length, ap, sym, ◌∙◌, subst, List}
+use Rattle.std.specs.Prelude.{Option, Some, slice_get}
+use Rattle.std.proofs.lemmas.Option.{none-some}
 use Rattle.cheri_model.specs.declared.image.HartImage.{HartImage}
+use Rattle.cheri_model.specs.runs.Image.{ImageParts}
 use Rattle.states.proofs.SizeLemmas.{sizes_of}
 use Rattle.forgotten_states.proofs.graph.ForgottenGraph.new.Goals as goal
 
@@ -7,3 +10,14 @@ pub bounds-harts-0 : goal.bounds-harts-0
 bounds-harts-0 c =
     subst (λ (l : List HartImage). 0 < length l) (sym c.harts.ensures)
     (sizes_of c.image-image.result.now c.granules-granules.ensures.formed).harts_some
+
+pub invariant_of-result : goal.invariant_of-result
+invariant_of-result c = record {
+  right = c.requires.right;
+  hidden = λ before after. c.requires.hidden before after;
+  unswept = c.requires.unswept;
+  few = subst (λ (i : ImageParts). length i.harts ≤ 8) c.image-image.ensures
+      (sizes_of c.image-image.result.now c.granules-granules.ensures.formed).harts_few;
+  numbers = λ id after at.
+      absurd (none-some (Some after) (sym (ap (λ (l : List (Option ℕ)). slice_get l id) c.new.ensures.items) ∙ at));
+}

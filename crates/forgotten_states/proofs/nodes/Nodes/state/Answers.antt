@@ -6,19 +6,19 @@ use Rattle.forgotten_states.proofs.nodes.Nodes.state.Goals as goal
 
 pub read-requires-clause-few : goal.read-requires-clause-few
 read-requires-clause-few c =
-    let wide = c.requires.nodes.3.wide in
-    let few = c.requires.nodes.3.few in
+    let wide = c.requires.nodes.4.wide in
+    let few = c.requires.nodes.4.few in
     omega arith
 
 pub returns-clause-state : goal.returns-clause-state
 returns-clause-state c =
-    let seen = seen_node c.requires.nodes.0 c.requires.nodes.1 c.requires.nodes.2 c.args.self.now.graph c.args.self.now.reached
-    c.args.self.now.limit c.requires.nodes.3 c.args.number c.read.result.now c.requires.there c.read.ensures in
+    let seen = seen_node c.requires.nodes.0 c.requires.nodes.1 c.requires.nodes.2 c.requires.nodes.3 c.args.self.now.graph c.args.self.now.reached
+    c.args.self.now.limit c.requires.nodes.4 c.args.number c.read.result.now c.requires.there c.read.ensures in
     seen.node ∙ sym (ap (λ (st : Stored). state_of st c.read.result.now) c.store.ensures ∙ seen.means)
 
 pub returns-clause-meant : goal.returns-clause-meant
 returns-clause-meant c =
-    let seen = seen_node c.requires.nodes.0 c.requires.nodes.1 c.requires.nodes.2 c.args.self.now.graph c.args.self.now.reached
-    c.args.self.now.limit c.requires.nodes.3 c.args.number c.read.result.now c.requires.there c.read.ensures in
+    let seen = seen_node c.requires.nodes.0 c.requires.nodes.1 c.requires.nodes.2 c.requires.nodes.3 c.args.self.now.graph c.args.self.now.reached
+    c.args.self.now.limit c.requires.nodes.4 c.args.number c.read.result.now c.requires.there c.read.ensures in
     is_some (state_of c.store.result.now c.read.result.now) seen.state
     (ap (λ (st : Stored). state_of st c.read.result.now) c.store.ensures ∙ seen.means)

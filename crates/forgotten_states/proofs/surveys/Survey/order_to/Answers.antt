@@ -19,16 +19,17 @@ order_to-requires-clause-hidden c before after = c.self.invariant.hidden before 
 pub order_to-requires-clause-there : goal.order_to-requires-clause-there
 order_to-requires-clause-there c =
     subst (λ (n : ℕ). c.args.number < n)
-    (survey_count c.self.inside.turns.image.now c.self.inside.turns.sees.now c.self.inside.turns.live.now c.self.inside.nodes.graph
-    c.self.inside.nodes.reached c.self.inside.nodes.limit c.self.invariant)
+    (survey_count c.self.inside.turns.image.now c.self.inside.turns.sees.now c.self.inside.turns.live.now
+    c.self.inside.turns.groups c.self.inside.nodes.graph c.self.inside.nodes.reached c.self.inside.nodes.limit c.self.invariant)
     (subst (λ (s : SurveyParts). c.args.number < count s) (sym c.self.view_is) c.requires.there)
 
 pub returns : goal.returns
 returns c =
     subst (λ (v : SurveyParts). IfOk c.order_to.result (λ (order : Vec Op Global). (s : MachineState) → at v c.args.number ≡ Some s →
-    IsOrderTo v.image v.sight v.live s order.items)) c.self.view_is
+    IsOrderTo v.image v.sight v.live v.groups s order.items)) c.self.view_is
     (subst (λ (a : ℕ → Option MachineState). IfOk c.order_to.result (λ (order : Vec Op Global). (s : MachineState) →
-    a c.args.number ≡ Some s → IsOrderTo c.self.inside.turns.image.now c.self.inside.turns.sees.now c.self.inside.turns.live.now s order.items))
-    (sym (survey_at c.self.inside.turns.image.now c.self.inside.turns.sees.now c.self.inside.turns.live.now c.self.inside.nodes.graph
-    c.self.inside.nodes.reached c.self.inside.nodes.limit c.self.invariant))
+    a c.args.number ≡ Some s → IsOrderTo c.self.inside.turns.image.now c.self.inside.turns.sees.now c.self.inside.turns.live.now
+    c.self.inside.turns.groups s order.items))
+    (sym (survey_at c.self.inside.turns.image.now c.self.inside.turns.sees.now c.self.inside.turns.live.now
+    c.self.inside.turns.groups c.self.inside.nodes.graph c.self.inside.nodes.reached c.self.inside.nodes.limit c.self.invariant))
     c.order_to.ensures)

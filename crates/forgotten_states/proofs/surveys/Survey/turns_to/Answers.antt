@@ -18,16 +18,17 @@ turns_to-requires-clause-hidden c before after = c.self.invariant.hidden before 
 pub turns_to-requires-clause-there : goal.turns_to-requires-clause-there
 turns_to-requires-clause-there c =
     subst (λ (n : ℕ). c.args.number < n)
-    (survey_count c.self.inside.turns.image.now c.self.inside.turns.sees.now c.self.inside.turns.live.now c.self.inside.nodes.graph
-    c.self.inside.nodes.reached c.self.inside.nodes.limit c.self.invariant)
+    (survey_count c.self.inside.turns.image.now c.self.inside.turns.sees.now c.self.inside.turns.live.now
+    c.self.inside.turns.groups c.self.inside.nodes.graph c.self.inside.nodes.reached c.self.inside.nodes.limit c.self.invariant)
     (subst (λ (s : SurveyParts). c.args.number < count s) (sym c.self.view_is) c.requires.there)
 
 pub returns : goal.returns
 returns c =
     subst (λ (v : SurveyParts). IfOk c.turns_to.result (λ (ops : Vec Op Global). (s : MachineState) → at v c.args.number ≡ Some s →
-    AreTurnsTo v.image v.sight v.live s ops.items)) c.self.view_is
+    AreTurnsTo v.image v.sight v.live v.groups s ops.items)) c.self.view_is
     (subst (λ (a : ℕ → Option MachineState). IfOk c.turns_to.result (λ (ops : Vec Op Global). (s : MachineState) →
-    a c.args.number ≡ Some s → AreTurnsTo c.self.inside.turns.image.now c.self.inside.turns.sees.now c.self.inside.turns.live.now s ops.items))
-    (sym (survey_at c.self.inside.turns.image.now c.self.inside.turns.sees.now c.self.inside.turns.live.now c.self.inside.nodes.graph
-    c.self.inside.nodes.reached c.self.inside.nodes.limit c.self.invariant))
+    a c.args.number ≡ Some s → AreTurnsTo c.self.inside.turns.image.now c.self.inside.turns.sees.now c.self.inside.turns.live.now
+    c.self.inside.turns.groups s ops.items))
+    (sym (survey_at c.self.inside.turns.image.now c.self.inside.turns.sees.now c.self.inside.turns.live.now
+    c.self.inside.turns.groups c.self.inside.nodes.graph c.self.inside.nodes.reached c.self.inside.nodes.limit c.self.invariant))
     c.turns_to.ensures)
