@@ -93,6 +93,11 @@ def pattern_of(crate: str, path: str, name: str, indent: str, block: Block | Non
     return rf"{crate}::(\w+::)*{block.owner}{block.trait}::{name}"
 
 
+def end_of_name(crate: str, function: Function) -> str:
+    """The end of the prover's name of a function, or its path below the crate."""
+    return function.pattern.rpartition(")*")[2] or function.pattern.removeprefix(f"{crate}::")
+
+
 def functions_of(crate: str, path: str, text: str) -> list[Function]:
     """The functions of a file."""
     lines = text.split("\n")

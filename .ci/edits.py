@@ -15,7 +15,7 @@ from multiprocessing import get_context
 from types import ModuleType
 
 from edit_choice import ROOT, Wanted, below, chosen, wanted_of
-from edit_functions import Function, functions_of, reached, refused_name, said_of_functions
+from edit_functions import Function, end_of_name, functions_of, reached, refused_name, said_of_functions
 
 # What the edits of the crates that the last commit changed may take, in processor seconds.
 MOST_OF_CHANGED = 15 * 60
@@ -193,6 +193,14 @@ class Trial:
             groups.append([edit]) if fit is None else fit.append(edit)
         return groups
 
+    def checked_only(self, texts: dict[str, str], edits: list[Edit], kept: str) -> subprocess.CompletedProcess:
+        """A check over a folder of the functions of edits and of those that they call alone; of the whole crate where
+        the prover doesn't know one of them by the end of its name."""
+        names = {end_of_name(self.wanted.crate, self.functions[it]) for edit in edits for it in edit.functions}
+        only = [word for name in sorted(names) for word in ("--only", name)]
+        ran = self.spending(RT.checked, self.crate, texts, [*FLAGS, *only], kept)
+        return self.spending(RT.checked, self.crate, texts, FLAGS, kept) if ran.returncode == 2 else ran
+
     def try_many(self, edits: list[Edit], kept: str) -> list[Edit]:
         """Tries edits in one check over a folder, and returns those that it says nothing of."""
         texts = {}
@@ -203,10 +211,10 @@ class Trial:
                     lines[at] = line
             texts[path] = "\n".join(lines)
         before = self.came.seconds
-        ran = self.spending(RT.checked, self.crate, texts, FLAGS, kept)
+        ran = self.checked_only(texts, edits, kept)
         print(f"edits {self.wanted.crate}: a check of {len(edits)}, {self.came.seconds - before:.0f} s", flush=True)
         output = ran.stdout.rstrip("\n").split("\n")
-        if ran.returncode != 1 or not output[-1].startswith("logic=not-proved"):
+        if ran.returncode != 1 or not output[-1].startswith(("logic=not-proved", "only=")):
             return edits
         said = said_of_functions(ran.stdout)
         unread = [it for it in output if RT.unread(it, texts)]
@@ -256,26 +264,29 @@ class Trial:
         else:
             self.fail(edit, text)
 
-    def stands(self) -> bool:
-        """Whether the crate as it stands is proved over what is kept."""
-        return self.spending(RT.checked, self.crate, {}, FLAGS, self.kept).returncode == 0
+    def stands(self, edits: list[Edit]) -> bool:
+        """Whether the functions of edits are proved as they stand over what is kept, and with them those that they call;
+        the whole crate, where an edit is tried alone."""
+        if all(it.functions for it in edits):
+            ran = self.checked_only({}, edits, self.kept)
+        else:
+            ran = self.spending(RT.checked, self.crate, {}, FLAGS, self.kept)
+        return ran.returncode == 0
 
     def leave(self, edits: list[Edit]) -> None:
         self.came.left += [it.name for it in edits]
 
     def run(self) -> None:
-        """Tries all: the largest group from nothing, and the others over copies of what that kept, once the crate as
-        it stands is proved over it. Where there is something kept to begin with, all are tried over copies."""
+        """Tries all, over copies of what the check of their functions as they stand keeps; a single one from nothing."""
         self.read()
         edits = [it for it in map(self.edit_of, self.wanted.files) if it]
-        many = [it for it in edits if it.functions] if len(edits) > 1 else []
+        many = [it for it in edits if it.functions]
         alone = [it for it in edits if it not in many]
         groups = sorted(self.grouped(many), key=len, reverse=True)
-        hidden = self.try_many(groups.pop(0), self.kept) if groups and not self.has_start else []
-        is_sound = len(edits) < 2 and not self.has_start or self.stands()
+        is_sound = not many and len(edits) < 2 and not self.has_start or self.stands(edits)
         files = RT.listing(self.kept)
         if is_sound:
-            hidden += self.try_over_copies(groups)
+            hidden = self.try_over_copies(groups)
             again = self.grouped(hidden)
             alone += [it for group in again if len(group) == 1 for it in group]
             alone += self.try_over_copies([group for group in again if len(group) > 1])

@@ -104,6 +104,8 @@ def held_lines(held):
 
 
 def endless_text(endless):
+    if endless is None:
+        return "endless -"
     return f"endless {endless['answer']}" + (
         f" order={endless['order']} loop={endless['loop']}" if "order" in endless else "")
 
@@ -129,13 +131,14 @@ def outcomes_text(answer):
             lines.append(f"line {one['line']} {one['answer']}{run} | {one['property']}")
     elif "shown" in answer:
         count = "-" if reduced else sum(row["states"] for row in answer["shown"])
-        lines += [endless_text(answer["endless"]), f"outcomes {count}", f"shown {len(answer['shown'])}"]
+        lines += [endless_text(answer.get("endless")), f"outcomes {count}", f"shown {len(answer['shown'])}"]
         for number, row in enumerate(answer["shown"]):
             states = "" if reduced else f"states={row['states']} "
             values = " ".join(f"{item}={value}" for item, value in row["values"].items())
             lines.append(f"{number} {states}{values} order={row['order']}")
     else:
-        lines += [endless_text(answer["endless"]), f"outcomes {len(answer['outcomes'])}"]
+        count = "-" if reduced else len(answer["outcomes"])
+        lines += [endless_text(answer.get("endless")), f"outcomes {count}"]
         for number, outcome in enumerate(answer["outcomes"]):
             lines += [f"outcome {number} order={outcome['order']}", *state_lines(outcome)]
     return "\n".join(lines) + "\nend\n"
@@ -189,7 +192,7 @@ KINDS = {
                     ("use_after_free.2", "traps_01.1", "overwrite.1"),
                     lambda explanation: {**explanation, "explanation": 2}),
     "outcomes": (outcomes_text, (), ("lock", "lost_update.shown", "leak.found", "lock.reduced", "lock.harts", "lock.none", "lock.kept",
-                               "leak.authority", "lock.checked", "lock.checked_harts"),
+                               "leak.authority", "lock.authority", "lock.checked", "lock.checked_harts", "lock.alike", "lost_update.alike_shown"),
                  lambda answer: {**answer, "explore": 3 - answer["explore"]}),
     "sample": (sample_text, ("depth", "properties"), ("lost_update", "missed_wakeup.shown", "use_after_free.checked", "traps_02"),
                lambda answer: {**answer, "explore": 2}),
