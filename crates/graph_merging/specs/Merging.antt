@@ -13,8 +13,8 @@ merged next merge s l = option_map merge (next s l)
 abbrev pub Stays : {S : Type 0} → ℕ → (S → S) → (S → ℕ → ℕ) → S → ℕ → S → Type 0
 Stays actors merge to_go s l t = (l < actors) × (merge t ≡ merge s) × (to_go t l < to_go s l)
 
--- The function merges the states of a graph that pass a test: questions of their walks and loops can
--- be asked of those that stand for others alone.
+-- The function merges the states of a graph that pass a test: questions of their walks and loops
+-- can be asked of those that stand for others alone.
 pub record IsMerging {S : Type 0} (next : S → ℕ → Option S) (actors : ℕ) (fits : S → Bool)
     (merge : S → S) (to_go : S → ℕ → ℕ) : Type 0 where
   -- edges lead to states that pass

@@ -127,7 +127,7 @@ rows_copied from old new n k row distinct there same (here, inr (more, last)) =
     ap (λ (t : Rows). t.rows) more ∙ ap (λ r. r ++ row ∷ []) same
     ∙ sym (ap (λ k. take k from.rows) e ∙ next ∙ ap (λ r. take n from.rows ++ r ∷ []) at)
 
-take-all : {X : Type 0} (xs : List X) (n : ℕ) → length xs ≤ n → take n xs ≡ xs
+pub take-all : {X : Type 0} (xs : List X) (n : ℕ) → length xs ≤ n → take n xs ≡ xs
 take-all [] zero all = refl
 take-all [] (suc n) all = refl
 take-all (x ∷ xs) zero all = absurd (omega arith)

@@ -1,2 +1,13 @@
 pub mod PackingLemmas
 pub mod KeptLemmas
+pub mod HomeLemmas
+pub mod GetLemmas
+pub mod TaskLemmas
+pub mod PartedLemmas
+pub mod LaterLemmas
+pub mod NumberLemmas
+pub mod JoinLemmas
+pub mod PairLemmas
+pub mod BatchLemmas
+pub mod FoundLemmas
+pub mod StageLemmas

@@ -1,2 +1,11 @@
 pub mod Packing
 pub mod Kept
+pub mod Homes
+pub mod Parts
+pub mod Tasks
+pub mod Crews
+pub mod Parted
+pub mod Sending
+pub mod Forms
+pub mod Joined
+pub mod Joining

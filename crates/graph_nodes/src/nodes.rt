@@ -4,11 +4,16 @@ ghost use Rattle.std.specs.Prelude.{
   ◌≡◌,
   ◌≢◌,
   ℕ,
+  ◌*◌,
   ◌^◌,
   ◌<◌,
+  ◌≤◌,
   [],
+  ◌∷◌,
   Some,
   None,
+  Bool,
+  if◌then◌else◌,
   length,
   slice_get,
   true,
@@ -18,77 +23,147 @@ ghost use Rattle.std.specs.Prelude.{
   OnErr,
 };
 ghost use Rattle.interner.specs.Rows.{IsDistinct, IsInterned, IsRow};
-ghost use Rattle.graph_nodes.specs.Kept.{HasBits};
+ghost use Rattle.graph_nodes.specs.Joined.{targets_of, AreJoined};
+ghost use Rattle.graph_nodes.specs.Joining.{IsJoining};
+ghost use Rattle.graph_nodes.specs.Parted.{nodes_in, IsParted};
 
-use crate::packing::{pack, unpack};
-use interner::{Interner, Words};
+use crate::crew::Crew;
+use crate::joining::{Joined, Joining, Stage, begin};
+use crate::packed::PackedRows;
+use crate::parted::Parted;
+use crate::tasks::row_at;
 use std::alloc::{AllocError, Global};
 use std::marker::Model;
+
+/// How nodes are kept.
+#[derive(Drop)]
+pub enum Form {
+    /// All in one.
+    Whole(PackedRows),
+    /// In parts.
+    Parts(Parted),
+}
 
 /// Rows of numbers, all as wide, each kept once. Rows are numbered from 0 on in the order in which
 /// they came. Each is kept in one word of 64 bits, as long as they all fit.
 #[derive(Drop)]
 pub struct Nodes {
-    width: usize,
-    /// How many bits each number of a row has but the first, where rows are kept in words.
-    bits: Option<u32>,
-    /// The words of the rows, where they are kept in words.
-    words: Words,
-    /// The rows, where they are kept number by number.
-    wide: Interner,
-    alloc: Global,
+    form: Form,
 }
 
 impl Model for Nodes {
     ghost use Rattle.interner.specs.Rows.{Rows};
-    ghost use Rattle.graph_nodes.specs.Kept.{kept_in, rows_of, AreKept};
+    ghost use Rattle.graph_nodes.specs.Forms.{nodes_kept, IsForm};
 
     ghost Value = { Rows };
 
-    ghost view = { λ a. rows_of a.bits a.width (kept_in a.bits a.words a.wide) };
+    ghost view = { λ a. nodes_kept a.form };
 
-    ghost invariant = { λ a. AreKept a.bits a.width (kept_in a.bits a.words a.wide) };
-}
-
-/// How many bits of a word each number has but the first, which has the others, in rows of so many
-/// numbers. None where rows are kept number by number.
-fn bits_of(width: usize) -> Option<u32>
-    ensures { HasBits result width }
-{
-    match width {
-        1 | 2 => Some(32),
-        3 => Some(20),
-        4 => Some(16),
-        5 => Some(12),
-        6 => Some(10),
-        7 => Some(9),
-        8 => Some(8),
-        9 => Some(7),
-        _ => None,
-    }
+    ghost invariant = { λ a. IsForm a.form };
 }
 
 impl Nodes {
     /// No rows, of so many numbers each. Allocates nothing.
-    #[tactic(auto, using(crate::proofs::KeptLemmas::no_rows, crate::proofs::KeptLemmas::none_kept))]
     pub fn new(alloc: Global, width: usize) -> Nodes
         ensures width { result.width ≡ width }
         ensures rows { result.rows ≡ [] }
     {
         Nodes {
-            width,
-            bits: bits_of(width),
-            words: Words::new(alloc),
-            wide: Interner::new(alloc, width),
-            alloc,
+            form: Form::Whole(PackedRows::new(alloc, width)),
         }
+    }
+
+    /// The same, in so many parts, to which tasks can add rows side by side. Fails only when out of
+    /// memory.
+    pub fn parted(alloc: Global, width: usize, parts: u8) -> Result<Nodes, AllocError>
+        ensures width { IfOk result (λ nodes. nodes.width ≡ width) }
+        ensures rows { IfOk result (λ nodes. nodes.rows ≡ []) }
+    {
+        if parts == 0 {
+            return Ok(Nodes::new(alloc, width));
+        }
+        let parted = Parted::new(alloc, width, parts)?;
+        Ok(Nodes::from_parts(parted))
+    }
+
+    /// The nodes that are kept in these parts.
+    pub(crate) fn from_parts(parted: Parted) -> Nodes
+        requires { IsParted parted }
+        ensures { result ≡ nodes_in parted }
+    {
+        Nodes {
+            form: Form::Parts(parted),
+        }
+    }
+
+    /// Begins to add targets, each unless it is there: of these rows those that a step leads to.
+    /// Fails only when out of memory, or of numbers after 2^32 - 1 rows.
+    pub fn start<C: Crew>(
+        self,
+        alloc: Global,
+        crew: &C,
+        leads: &[bool],
+        rows: &[u32],
+    ) -> Result<Joining<C::Begun>, AllocError>
+        requires room { length leads.now * self.width ≤ length rows.now }
+        ensures { IfOk result (λ joining. IsJoining C.is_of joining self
+            (targets_of self.width leads.now rows.now (length leads.now))) }
+    {
+        match self.form {
+            Form::Whole(whole) => {
+                let nodes = Nodes {
+                    form: Form::Whole(whole),
+                };
+                let joined = nodes.join(alloc, leads, rows)?;
+                Ok(Joining {
+                    stage: Stage::Over(joined),
+                })
+            }
+            Form::Parts(parted) => begin(alloc, crew, parted, leads, rows),
+        }
+    }
+
+    /// Adds targets, each unless it is there.
+    fn join(mut self, alloc: Global, leads: &[bool], rows: &[u32]) -> Result<Joined, AllocError>
+        requires room { length leads.now * self.width ≤ length rows.now }
+        ensures joined { IfOk result (λ joined. AreJoined
+            (targets_of self.width leads.now rows.now (length leads.now))
+            joined.fresh.items self.rows joined.nodes.rows) }
+        ensures width { IfOk result (λ joined. joined.nodes.width ≡ self.width) }
+    {
+        let width = self.width();
+        let mut fresh = Vec::new(alloc);
+        for k in 0..leads.len() {
+            let new = self.join_one(leads[k], row_at(rows, width, k))?;
+            fresh.push(new)?;
+        }
+        Ok(Joined { nodes: self, fresh })
+    }
+
+    /// Adds a target, unless it is there. Whether it was new.
+    fn join_one(&mut self, leads: bool, row: &[u32]) -> Result<bool, AllocError>
+        requires wide { length row.now ≡ self.old.width }
+        ensures joined { IfOk result (λ fresh. AreJoined
+            ((if leads then Some row.now else None) ∷ []) (fresh ∷ [])
+            self.old.rows self.new.rows) }
+        ensures same_width { self.new.width ≡ self.old.width }
+    {
+        if !leads {
+            return Ok(false);
+        }
+        let before = self.len();
+        self.insert(row)?;
+        Ok(before < self.len())
     }
 
     /// How many numbers a row has.
     pub fn width(&self) -> usize
         ensures { result ≡ self.now.width }
     {
-        self.width
+        match &self.form {
+            Form::Whole(rows) => rows.width(),
+            Form::Parts(parted) => parted.width,
+        }
     }
 
     /// How many rows there are: fewer than 2^32, and no two of them the same.
@@ -97,10 +172,10 @@ impl Nodes {
         ensures few { result < 2 ^ 32 }
         ensures distinct { IsDistinct self.now }
     {
-        let Some(_) = self.bits else {
-            return self.wide.len();
-        };
-        self.words.len()
+        match &self.form {
+            Form::Whole(rows) => rows.len(),
+            Form::Parts(parted) => parted.len(),
+        }
     }
 
     /// Writes the row of this number. False where there is none, and then nothing is written.
@@ -111,18 +186,10 @@ impl Nodes {
         ensures left { result ≡ false → row.new ≡ row.old }
         ensures same_room { length row.new ≡ length row.old }
     {
-        let Some(bits) = self.bits else {
-            let Some(kept) = self.wide.row(number) else {
-                return false;
-            };
-            row.copy_from_slice(kept);
-            return true;
-        };
-        let Some(word) = self.words.word(number) else {
-            return false;
-        };
-        unpack(bits, word, row);
-        true
+        match &self.form {
+            Form::Whole(rows) => rows.read(number, row),
+            Form::Parts(parted) => parted.read(number, row),
+        }
     }
 
     /// The number of this row, if it is there.
@@ -130,14 +197,10 @@ impl Nodes {
         ensures found { IfSome result (λ number. IsRow self.now number row.now) }
         ensures absent { result ≡ None → (i : ℕ) → slice_get self.now.rows i ≢ Some row.now }
     {
-        let Some(bits) = self.bits else {
-            return self.wide.find(row);
-        };
-        if row.len() != self.width {
-            return None;
+        match &self.form {
+            Form::Whole(rows) => rows.find(row),
+            Form::Parts(parted) => parted.find(row),
         }
-        let word = pack(bits, row)?;
-        self.words.find(word)
     }
 
     /// The number of this row, which becomes the last one where it is not there. Fails only when out
@@ -148,43 +211,9 @@ impl Nodes {
         ensures same_width { self.new.width ≡ self.old.width }
         ensures unchanged { OnErr result (self.new ≡ self.old) }
     {
-        let Some(bits) = self.bits else {
-            return self.wide.insert(row);
-        };
-        if let Some(word) = pack(bits, row) {
-            return self.words.insert(word);
+        match &mut self.form {
+            Form::Whole(rows) => rows.insert(row),
+            Form::Parts(parted) => parted.insert(row),
         }
-        self.insert_wide(row)
-    }
-
-    /// The same where rows are to be kept number by number from now on.
-    #[cold]
-    #[inline(never)]
-    fn insert_wide(&mut self, row: &[u32]) -> Result<u32, AllocError>
-        requires { length row.now ≡ self.old.width }
-        ensures interned { IfOk result (λ number. IsInterned self.old self.new row.now number) }
-        ensures same_width { self.new.width ≡ self.old.width }
-        ensures unchanged { OnErr result (self.new ≡ self.old) }
-    {
-        self.wide = self.unpacked()?;
-        self.bits = None;
-        self.words = Words::new(self.alloc);
-        self.wide.insert(row)
-    }
-
-    /// The rows, kept number by number.
-    fn unpacked(&self) -> Result<Interner, AllocError>
-        ensures { IfOk result (λ wide. wide ≡ self.now) }
-    {
-        let mut wide = Interner::new(self.alloc, self.width);
-        let mut row = Vec::new(self.alloc);
-        row.resize(self.width, 0)?;
-        for number in 0..self.len() {
-            if !self.read(number as u32, row.as_mut_slice()) {
-                unreachable!()
-            }
-            wide.insert(row.as_slice())?;
-        }
-        Ok(wide)
     }
 }

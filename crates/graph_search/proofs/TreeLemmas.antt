@@ -20,7 +20,7 @@ pub some_of : {A : Type 0} (o : Option A) → IsSome o → (x : A) × (o ≡ Som
 some_of None some = absurd (cc)
 some_of (Some x) some = (x, refl)
 
-slice_get-more : {A : Type 0} (xs : List A) (x : A) (i : ℕ) → i ≢ length xs →
+pub slice_get-more : {A : Type 0} (xs : List A) (x : A) (i : ℕ) → i ≢ length xs →
     slice_get (xs ++ x ∷ []) i ≡ slice_get xs i
 slice_get-more [] x zero other = absurd (other refl)
 slice_get-more [] x (suc i) other = refl
@@ -384,7 +384,7 @@ module _ (width n : ℕ) (rows row back rows' : List ℕ) (room : (n + 1) * widt
       let e = row_begins n width in
       length-take-le (n * width) rows (omega arith)
 
-  row_there : row_at width rows' n ≡ row
+  pub row_there : row_at width rows' n ≡ row
   row_there =
       let long = front_long in
       let e = row_begins n width in
@@ -394,7 +394,7 @@ module _ (width n : ℕ) (rows row back rows' : List ℕ) (room : (n + 1) * widt
       ∙ row_at-append width (take (n * width) rows ++ row) back n ends
       ∙ row_at-last width (take (n * width) rows) row n long wide
 
-  row_before : (k : ℕ) → k < n → row_at width rows' k ≡ row_at width rows k
+  pub row_before : (k : ℕ) → k < n → row_at width rows' k ≡ row_at width rows k
   row_before k below =
       let long = front_long in
       let ends : (k + 1) * width ≤ length (take (n * width) rows) = rw long (row_ends k n width below) in

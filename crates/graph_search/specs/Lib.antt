@@ -2,3 +2,4 @@ pub mod Walks
 pub mod Graphs
 pub mod Trees
 pub mod Searches
+pub mod Rounds

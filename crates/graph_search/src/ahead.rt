@@ -29,6 +29,7 @@ use std::alloc::{AllocError, Global};
 /// The steps along the edges of a node, label by label from one on.
 #[derive(Drop)]
 pub struct Ahead {
+    pub alloc: Global,
     /// The node.
     pub node: Vec<u32>,
     /// For each label, whether there is such an edge.
@@ -50,6 +51,7 @@ impl Ahead {
         let mut rows = Vec::new(alloc);
         rows.resize(room, 0)?;
         Ok(Ahead {
+            alloc,
             node,
             leads: Vec::new(alloc),
             rows,

@@ -3,10 +3,12 @@
 #![tactic(auto)]
 
 mod ahead;
+mod by_rounds;
 mod edges;
 mod graphs;
 mod progress;
 mod reached;
+mod rounds;
 mod search;
 mod trees;
 

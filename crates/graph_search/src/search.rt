@@ -17,6 +17,7 @@ ghost use Rattle.graph_search.specs.Trees.{state_at, edge_at};
 ghost use Rattle.graph_search.specs.Searches.{IsExplored, IsSearching, Reaches, place_of};
 
 use crate::ahead::Ahead;
+use crate::by_rounds::take_rounds;
 use crate::edges::Edge;
 use crate::graphs::Graph;
 use crate::progress::Progress;
@@ -48,7 +49,7 @@ pub fn explore<G: Graph, P: Progress>(
         IsExplored (G.next graph.new) s limit (state_at (G.meaning graph.new) found.nodes)
         (edge_at found.edges) (length found.nodes) found.complete) }
 {
-    let tree = Tree::new(alloc, start)?;
+    let tree = Tree::new(alloc, start, progress.helpers())?;
     let first = Edge { from: 0, label: 0 };
     search_on(alloc, graph, tree, first, limit, progress)
 }
@@ -152,18 +153,23 @@ fn expand_all<G: Graph, P: Progress>(
     ensures after { IfOk result (Reaches (G.next graph.new) (G.meaning graph.new) limit
         (length tree.new.nodes.rows) tree.new.nodes.rows tree.new.edges.items) }
 {
-    let mut node = place.from;
-    let mut label = place.label;
-    while node < tree.len() {
-        if node % REPORT_EVERY == 0 {
+    let mut place = place;
+    while place.from < tree.len() {
+        place = take_rounds(ahead.alloc, graph, tree, place, limit, progress)?;
+        if place.from == tree.len() {
+            return Ok(None);
+        }
+        if place.from % REPORT_EVERY == 0 {
             progress.report(tree.len());
         }
-        let cut = expand(graph, tree, ahead, limit, Edge { from: node, label })?;
+        let cut = expand(graph, tree, ahead, limit, place)?;
         if cut.is_some() {
             return Ok(cut);
         }
-        node += 1;
-        label = 0;
+        place = Edge {
+            from: place.from + 1,
+            label: 0,
+        };
     }
     Ok(None)
 }

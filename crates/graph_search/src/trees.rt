@@ -31,13 +31,13 @@ pub struct Tree {
 }
 
 impl Tree {
-    /// The tree of one node.
-    pub fn new(alloc: Global, start: &[u32]) -> Result<Tree, AllocError>
+    /// The tree of one node, in so many parts, to which helpers can add nodes side by side.
+    pub fn new(alloc: Global, start: &[u32], parts: u8) -> Result<Tree, AllocError>
         ensures nodes { IfOk result (λ tree. tree.nodes.rows ≡ start.now ∷ []) }
         ensures edges { IfOk result (λ tree. length tree.edges.items ≡ 1) }
         ensures width { IfOk result (λ tree. tree.nodes.width ≡ length start.now) }
     {
-        let mut nodes = Nodes::new(alloc, start.len());
+        let mut nodes = Nodes::parted(alloc, start.len(), parts)?;
         nodes.insert(start)?;
         let mut edges = Vec::new(alloc);
         edges.push(Edge { from: 0, label: 0 })?;

@@ -1,3 +1,5 @@
 pub mod RowLemmas
 pub mod SlotLemmas
 pub mod WordLemmas
+pub mod Unfold
+pub mod Rulesets

@@ -1,6 +1,7 @@
--- A table of slots: each is open, which is 0, or names a row beside the row's tag. A row is looked for
--- from the home of its tag on, place by place, up to the first open one.
-use Rattle.std.specs.Prelude.{◌≡◌, ◌≢◌, ℕ, ◌+◌, ◌*◌, ◌/◌, ◌%◌, ◌^◌, ◌<◌, ◌≤◌, List, length, slice_index}
+-- A table of slots: each is open, which is 0, or names a row beside the row's tag. A row is looked
+-- for from the home of its tag on, place by place, up to the first open one.
+use Rattle.std.specs.Prelude.{◌≡◌, ◌≢◌, ℕ, ◌+◌, ◌*◌, ◌/◌, ◌%◌, ◌^◌, ◌<◌, ◌≤◌, List, length}
+use Rattle.std.specs.Prelude.{slice_index}
 use Rattle.interner.specs.Rows.{row_at}
 use Rattle.interner.specs.Hashes.{tag_of, home_of}
 

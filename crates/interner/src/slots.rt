@@ -1,4 +1,5 @@
 //! A slot: open, or the name of a row beside the row's tag.
+#![tactic(auto, unfolding(crate::proofs::Unfold::slots))]
 
 ghost use Rattle.std.specs.Prelude.{
   ◌≡◌,
@@ -39,7 +40,6 @@ pub fn row_at(numbers: &[u32], width: usize, row: usize) -> &[u32]
 }
 
 /// The slot that names this row, whose tag this is.
-#[tactic(auto, unfolding(crate::specs::Slots::slot_of))]
 pub fn slot_of(tag: u32, number: u32) -> u64
     requires { number + 1 < 2 ^ 32 }
     ensures { result ≡ slot_of tag number }
@@ -48,7 +48,6 @@ pub fn slot_of(tag: u32, number: u32) -> u64
 }
 
 /// The tag in a slot.
-#[tactic(auto, unfolding(crate::specs::Slots::tag_in))]
 pub fn tag_in(slot: u64) -> u32
     ensures { result ≡ tag_in slot }
 {
@@ -56,7 +55,6 @@ pub fn tag_in(slot: u64) -> u32
 }
 
 /// The number of the row that a slot names.
-#[tactic(auto, unfolding(crate::specs::Slots::link_in))]
 pub fn number_in(slot: u64) -> u32
     requires { 0 < link_in slot }
     ensures { result + 1 ≡ link_in slot }

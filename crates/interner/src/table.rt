@@ -111,8 +111,8 @@ impl Interner {
         number_at(slots, place)
     }
 
-    /// The number of this row, which becomes the last one where it is not there. Fails only when out
-    /// of memory, or of numbers after 2^32 - 1 rows; then nothing changes.
+    /// The number of this row, which becomes the last one where it is not there. Fails only when
+    /// out of memory, or of numbers after 2^32 - 1 rows; then nothing changes.
     pub fn insert(&mut self, row: &[u32]) -> Result<u32, AllocError>
         requires { length row.now ≡ self.old.width }
         ensures interned { IfOk result (λ number. IsInterned self.old self.new row.now number) }

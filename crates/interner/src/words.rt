@@ -1,4 +1,5 @@
 //! The interner of words.
+#![tactic(auto, using(crate::proofs::Rulesets::words))]
 
 ghost use Rattle.std.specs.Prelude.{
   ◌≡◌,
@@ -77,7 +78,6 @@ impl Words {
     }
 
     /// The word of this number, if there is one.
-    #[tactic(auto, using(crate::proofs::WordLemmas::word_is, crate::proofs::WordLemmas::no_word))]
     pub fn word(&self, number: u32) -> Option<u64>
         ensures some { IfSome result (λ word. IsRow self.now number (word ∷ [])) }
         ensures none { result ≡ None → slice_get self.now.rows number ≡ None }

@@ -1,9 +1,8 @@
 -- What a verdict says of the machine's runs.
-use Rattle.std.proofs.Common.{◌≡◌, ℕ, zero, suc, ◌+◌, ◌*◌, ◌<◌, List, [], ◌∷◌, ◌++◌, length, sym, ◌∙◌, refl, subst}
+use Rattle.std.proofs.Common.{◌≡◌, ℕ, suc, ◌+◌, ◌*◌, ◌<◌, List, [], ◌∷◌, ◌++◌, length, sym, ◌∙◌, refl, subst}
 use Rattle.std.specs.Prelude.{Option, Some, IsSome, true, slice_get}
-use Rattle.std.proofs.lemmas.Option.{slice_get_within, none-some, same_Some}
+use Rattle.std.proofs.lemmas.Option.{slice_get_within}
 use Rattle.cheri_model.specs.declared.operation.Op.{Op}
-use Rattle.cheri_model.specs.runs.Image.{ImageParts}
 use Rattle.cheri_model.specs.runs.Machine.{MachineState, opening_state}
 use Rattle.cheri_model.specs.runs.Replay.{is_legal, state_after, replayed_state}
 use Rattle.explore_sights.specs.Sights.{hides}
@@ -19,13 +18,13 @@ use Rattle.graph_loops.specs.Loops.{IsKnown}
 use Rattle.graph_loops.specs.declared.scans.Loops.TheVariants as known
 use Rattle.loop_search.specs.declared.judging.FoundLoop.{FoundLoop}
 use Rattle.loop_search.specs.Verdicts.{IsFoundLoop, IsFoundFair}
-use Rattle.schedules.specs.Schedules.{next, operation_of_label, AreLabelsOf}
-use Rattle.schedules.specs.declared.ranges.SweepRange.{SweepRange}
+use Rattle.schedules.specs.Schedules.{next, operation_of_label}
 use Rattle.schedules.specs.Schedules.{AreAllowed}
 use Rattle.schedules.proofs.WalkLemmas.{legal_walk, legal_labels, replayed_reachable}
 use Rattle.states.specs.Graphs.{state_in}
 use Rattle.states.specs.Kept.{KeptParts, graph_of, at, count, IsSearch}
 use Rattle.states.proofs.NodeLemmas.{node_of}
+use Rattle.states.proofs.KeptLemmas.{labels_mean}
 use Rattle.state_loops.specs.declared.endless.Lasso.{Lasso}
 use Rattle.state_loops.specs.Endless.{IsLasso, IsLassoOf, IsLoop, IsFair, HasNoLoop, HasNoFairLoop, HasFewTurns, HasFewSteps, AreFairRounds, HasFewRounds}
 use Rattle.state_loops.proofs.LabelLemmas.{labels_steps, steps_takes}
@@ -47,16 +46,6 @@ turning kept = turn_by kept.image kept.sweeps kept.sight
 
 abbrev resting : KeptParts → MachineState → MachineState
 resting kept = rest_by kept.image kept.sweeps kept.sight
-
--- each of the labels has an operation
-labels_mean : (image : ImageParts) (sweeps : List SweepRange) (ls : List ℕ) (order : List Op) →
-    AreLabelsOf image sweeps ls order → (i l : ℕ) → slice_get ls i ≡ Some l → IsSome (operation_of_label image sweeps l)
-labels_mean image sweeps [] order are i l at = absurd (none-some l at)
-labels_mean image sweeps (x ∷ ls) [] are i l at = absurd are
-labels_mean image sweeps (x ∷ ls) (op ∷ order) are zero l at =
-    subst (λ (n : ℕ). IsSome (operation_of_label image sweeps n)) (same_Some x l at)
-    (subst (λ (o : Option Op). IsSome o) (sym are.0) refl)
-labels_mean image sweeps (x ∷ ls) (op ∷ order) are (suc i) l at = labels_mean image sweeps ls order are.1 i l at
 
 -- of the state that a legal order leaves, the one with each hart at its rest is kept, where all are
 all_kept : (kept : KeptParts) → IsSearch kept → kept.complete ≡ true → (order : List Op) → AreAllowed kept.sweeps order →

@@ -1,9 +1,9 @@
 -- Loops as labels and as operations.
-use Rattle.std.proofs.Common.{◌≡◌, ℕ, zero, suc, ◌+◌, ◌-◌, ◌<◌, List, [], ◌∷◌, length, take, arith, ap, sym, ◌∙◌, refl, inl, inr, subst, nat_lt}
-use Rattle.std.specs.Prelude.{Option, Some, None, true, option_map, slice_get}
+use Rattle.std.proofs.Common.{◌≡◌, ℕ, zero, suc, ◌+◌, ◌<◌, List, [], ◌∷◌, length, take, arith, ap, sym, ◌∙◌, refl, inl, inr, subst, nat_lt}
+use Rattle.std.specs.Prelude.{Some, true}
 use Rattle.std.proofs.lemmas.Bool.{cases_Bool}
 use Rattle.std.proofs.lemmas.Bool.Decides.{nat_tests}
-use Rattle.std.proofs.lemmas.Option.{none-some, same_Some}
+use Rattle.std.proofs.lemmas.Option.{same_Some}
 use Rattle.cheri_model.specs.declared.operation.Op.{Op}
 use Rattle.cheri_model.specs.declared.operation.Op.TheVariants as operation
 use Rattle.cheri_model.specs.runs.Image.{ImageParts}
@@ -11,9 +11,8 @@ use Rattle.cheri_model.specs.runs.Machine.{MachineState, may_take}
 use Rattle.graph_loops.specs.Loops.{Takes, actor_count}
 use Rattle.graph_loops.specs.Loops as graphs
 use Rattle.schedules.specs.declared.ranges.SweepRange.{SweepRange}
-use Rattle.schedules.specs.Schedules.{sweep_of, operation_of_label, next, AreLabelsOf}
-use Rattle.schedules.proofs.WalkLemmas.{legal_walk, legal_labels}
-use Rattle.state_loops.proofs.OperationLemmas.{next_some, label_of_step}
+use Rattle.schedules.specs.Schedules.{operation_of_label, next, AreLabelsOf}
+use Rattle.schedules.proofs.WalkLemmas.{next_some, label_of_step, step_label, legal_walk, legal_labels}
 use Rattle.state_loops.specs.Endless.{Steps, IsLoop, IsFair, step_count}
 
 step_is_no_sweep : (image : ImageParts) (sweeps : List SweepRange) (l lo hi : ℕ) → l < length image.harts →
@@ -22,25 +21,6 @@ step_is_no_sweep image sweeps l lo hi low is =
     let e : operation.Step l ≡ operation.Sweep lo hi =
     same_Some (operation.Step l) (operation.Sweep lo hi) (sym (label_of_step image sweeps l low) ∙ is) in
     absurd (cc)
-
--- the label of a step is its hart
-sweeps_no_step : (o : Option SweepRange) (hart : ℕ) → option_map sweep_of o ≡ Some (operation.Step hart) → ⊥
-sweeps_no_step None hart is = none-some (operation.Step hart) is
-sweeps_no_step (Some range) hart is =
-    let e : operation.Sweep range.lo range.hi ≡ operation.Step hart = same_Some (sweep_of range) (operation.Step hart) is in
-    absurd (cc)
-
-step_label : (image : ImageParts) (sweeps : List SweepRange) (l hart : ℕ) →
-    operation_of_label image sweeps l ≡ Some (operation.Step hart) → (l ≡ hart) × (l < length image.harts)
-unfolding operation_of_label
-step_label image sweeps l hart is = elim (cases_Bool (nat_lt l (length image.harts))) [
-  | inl low ↦
-      let e : operation.Step l ≡ operation.Step hart = same_Some (operation.Step l) (operation.Step hart) (rw low at is) in
-      let same : l ≡ hart = cc in
-      (same, grind (arith, nat_tests))
-  | inr high ↦
-      absurd (sweeps_no_step (slice_get sweeps (l - length image.harts)) hart (rw high at is))
-]
 
 pub takes_steps : (image : ImageParts) (sweeps : List SweepRange) (ls : List ℕ) (order : List Op) (m : ℕ) →
     AreLabelsOf image sweeps ls order → m < length image.harts → Takes ls m → Steps order m

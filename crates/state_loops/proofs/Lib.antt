@@ -1,4 +1,3 @@
-pub mod OperationLemmas
 pub mod LabelLemmas
 pub mod TurnLemmas
 pub mod EndlessLemmas
