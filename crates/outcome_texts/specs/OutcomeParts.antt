@@ -15,6 +15,7 @@ use Rattle.outcome_texts.specs.declared.told.Outcome.{Outcome}
 use Rattle.report_lines.specs.EventData.{image_data}
 use Rattle.report_lines.specs.JsonText.{item_text}
 use Rattle.report_lines.specs.Texts.{◌+++◌, line, numbered}
+use Rattle.shown_states.specs.StateTexts.{shown_state}
 use Rattle.shown_states.specs.declared.form.Format.{Format}
 use Rattle.shown_states.specs.declared.form.Format.TheVariants.{Text, Json}
 use Rattle.state_loops.specs.declared.endless.Endless.{Endless}
@@ -48,6 +49,12 @@ outcome_before Json number order = comma_if (nat_lt 0 number) ++ codes "{"
 abbrev pub outcome_after : Format → List ℕ → List ℕ
 outcome_after Text order = codes ""
 outcome_after Json order = codes ",\"order\":" +++ compact_text (string order) +++ codes "}"
+
+-- an outcome of a number, with its order and its state
+abbrev pub ordered_part : Format → MachineState → ℕ → List ℕ → List ℕ
+ordered_part format state number order =
+    outcome_before format number order
+    ++ (shown_state format state ++ outcome_after format order)
 
 -- an outcome by its number
 abbrev pub outcome_part : Format → MachineState → ℕ → Outcome → List ℕ

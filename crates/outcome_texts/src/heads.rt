@@ -63,14 +63,13 @@ pub fn write_head_lines(out: &mut String, head: Head<'_>, outcomes: usize) -> Re
 }
 
 /// Whether all states were kept, in JSON.
-fn complete_text(complete: bool) -> &'static str
+pub fn complete_text(complete: bool) -> &'static str
     ensures { result.now ≡ complete_text complete }
 {
     if complete { "true" } else { "false" }
 }
 
 /// Appends the members up to the image.
-#[tactic(auto, unfolding(crate::specs::OutcomeParts::json_head))]
 pub fn write_json_head(alloc: Global, out: &mut String, head: Head<'_>) -> Result<(), NoMemory>
     ensures { OnOk result (string_bytes out.new ≡ string_bytes out.old
         ++ json_head head.entry.reduced head.entry.complete head.entry.image.now

@@ -10,6 +10,7 @@ mod shown;
 mod told;
 
 pub use answers::{list_outcomes, show_outcomes};
-pub use heads::Head;
-pub use shown::shown_text;
+pub use heads::{Head, complete_text};
+pub use listed::write_ordered;
+pub use shown::{shown_text, write_rows, write_rows_json};
 pub use told::ShownRow;

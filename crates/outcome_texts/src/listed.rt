@@ -19,6 +19,7 @@ ghost use Rattle.outcome_texts.specs.OutcomeParts.{
   listed_head,
   listed_tail,
   listed_whole,
+  ordered_part,
   outcome_after,
   outcome_before,
   outcome_part,
@@ -41,13 +42,13 @@ fn write_before(
     format: Format,
     out: &mut String,
     number: usize,
-    outcome: &Outcome,
+    order: &String,
 ) -> Result<(), NoMemory>
     ensures { OnOk result (string_bytes out.new ≡ string_bytes out.old
-        ++ outcome_before format number (string_bytes outcome.now.order)) }
+        ++ outcome_before format number (string_bytes order.now)) }
 {
     match format {
-        Format::Text => writeln!(out, "outcome {number} order={}", outcome.order.as_str()),
+        Format::Text => writeln!(out, "outcome {number} order={}", order.as_str()),
         Format::Json => {
             write_comma(out, number > 0)?;
             out.push_str("{")
@@ -71,14 +72,14 @@ fn write_after(
     alloc: Global,
     format: Format,
     out: &mut String,
-    outcome: &Outcome,
+    order: &String,
 ) -> Result<(), NoMemory>
     ensures { OnOk result (string_bytes out.new ≡ string_bytes out.old
-        ++ outcome_after format (string_bytes outcome.now.order)) }
+        ++ outcome_after format (string_bytes order.now)) }
 {
     match format {
         Format::Text => Ok(()),
-        Format::Json => write_order_member(alloc, out, &outcome.order),
+        Format::Json => write_order_member(alloc, out, order),
     }
 }
 
@@ -94,6 +95,24 @@ fn load_outcome(state: &mut Loaded, kept: &Kept, number: u32)
     state.load(kept.state(number, &mut Room::new()));
 }
 
+/// Appends an outcome of a number: the order that leads to it, and its state. Fails only when out of
+/// memory.
+pub fn write_ordered(
+    alloc: Global,
+    format: Format,
+    out: &mut String,
+    number: usize,
+    order: &String,
+    state: &Loaded,
+) -> Result<(), NoMemory>
+    ensures { OnOk result (string_bytes out.new ≡ string_bytes out.old
+        ++ ordered_part format state.now number (string_bytes order.now)) }
+{
+    write_before(format, out, number, order)?;
+    write_state(alloc, format, out, state)?;
+    write_after(alloc, format, out, order)
+}
+
 /// Appends an outcome in its state.
 fn write_outcome(
     alloc: Global,
@@ -106,9 +125,7 @@ fn write_outcome(
     ensures { OnOk result (string_bytes out.new ≡ string_bytes out.old
         ++ outcome_part format state.now number outcome.now) }
 {
-    write_before(format, out, number, outcome)?;
-    write_state(alloc, format, out, state)?;
-    write_after(alloc, format, out, outcome)
+    write_ordered(alloc, format, out, number, &outcome.order, state)
 }
 
 /// Appends outcomes, one by one: each is loaded into the same state.

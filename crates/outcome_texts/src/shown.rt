@@ -58,8 +58,9 @@ fn write_row(
     out.push_str("\n")
 }
 
-/// Appends the lines of rows.
-fn write_rows(
+/// Appends the lines of rows, which say how many outcomes they have where nothing was left out. Fails
+/// only when out of memory.
+pub fn write_rows(
     out: &mut String,
     reduced: bool,
     names: &[&str],
@@ -123,8 +124,8 @@ fn write_row_json(
     write_json_value(alloc, out, row_json(alloc, reduced, names, row)?)
 }
 
-/// Appends rows in JSON.
-fn write_rows_json(
+/// Appends rows in JSON, as items of a list. Fails only when out of memory.
+pub fn write_rows_json(
     alloc: Global,
     out: &mut String,
     reduced: bool,

@@ -325,5 +325,3 @@ pub counted_new : (rows : List Row) (number outcome : ℕ) → length rows ≤ n
     → rows ++ record { first = outcome; states = 1 } ∷ [] ≡ counted number outcome rows
 unfolding counted
 counted_new rows number outcome past = rw (le-ltb number (length rows) past) refl
-
-pub ruleset counting = (counted_there, counted_new)

@@ -35,7 +35,6 @@ fn row_code<S: NumberedStates>(
 }
 
 /// How many numbers stand for the values of an outcome; 0 where there is none.
-#[tactic(auto, using(crate::proofs::CodeLemmas::row_size))]
 fn row_width<S: NumberedStates>(
     alloc: Global,
     states: &S,
@@ -56,7 +55,6 @@ fn row_width<S: NumberedStates>(
 
 /// Counts an outcome in the row of this number, or in a new one. Each row was counted for fewer
 /// than `most`, so that no count overflows.
-#[tactic(auto, using(crate::proofs::TableLemmas::counting))]
 fn count(rows: &mut Vec<Row>, number: u32, outcome: u32, most: usize) -> Result<(), AllocError>
     requires within { number ≤ length rows.old.items }
     requires room { (k : ℕ) (r : Row) → slice_get rows.old.items k ≡ Some r → r.states < most }

@@ -1,0 +1,4 @@
+pub mod ReducedLemmas
+pub mod LeftLemmas
+pub mod AnswerLemmas
+pub mod AskedLemmas

@@ -1,0 +1,3 @@
+pub mod AlikeTexts
+pub mod Grouped
+pub mod AlikeOutcomes

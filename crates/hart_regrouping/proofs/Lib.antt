@@ -1,0 +1,3 @@
+pub mod PlaceGroups
+pub mod RegroupLemmas
+pub mod AlikeLemmas

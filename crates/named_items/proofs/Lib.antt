@@ -1,0 +1,3 @@
+pub mod Unfold
+pub mod NamedLemmas
+pub mod ShownLemmas
