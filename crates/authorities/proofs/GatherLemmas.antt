@@ -237,7 +237,7 @@ gathered_none at values = record {
 }
 
 -- what is at two places of the list is not the same
-one_place : (xs : List Authority) → AreApart xs → (j k : ℕ) (a b : Authority) → slice_get xs j ≡ Some a →
+pub one_place : (xs : List Authority) → AreApart xs → (j k : ℕ) (a b : Authority) → slice_get xs j ≡ Some a →
     slice_get xs k ≡ Some b → a ≡ b → j ≡ k
 one_place xs apart j k a b is js same = elim (cases_lt j k) [
   | inl low ↦ absurd (before_self a.rights (sorted_get xs j k a a apart.sorted low is (js ∙ ap Some (sym same))))

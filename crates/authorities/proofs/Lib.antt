@@ -3,4 +3,5 @@ pub mod ListLemmas
 pub mod AddLemmas
 pub mod HolderLemmas
 pub mod GatherLemmas
+pub mod MergeLemmas
 pub mod KeptLemmas

@@ -1,3 +1,4 @@
 pub mod Authorities
 pub mod Holders
 pub mod Gathering
+pub mod Merging

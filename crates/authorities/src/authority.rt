@@ -51,8 +51,9 @@ pub fn authorities_of(alloc: Global, kept: Kept) -> Result<Authorities, AllocErr
     })
 }
 
-/// The greatest rights that each of so many harts has.
-fn hart_authorities(
+/// The greatest rights that each of so many harts has over all states that a search found, one list
+/// a hart. Fails only when out of memory.
+pub fn hart_authorities(
     alloc: Global,
     graph: &MachineGraph,
     found: &Reached,

@@ -168,7 +168,8 @@ fn gather_state(
     Ok(())
 }
 
-/// The greatest rights that a holder has over all states that a search found.
+/// The greatest rights that a holder has over all states that a search found. Fails only when out
+/// of memory.
 pub fn greatest_of(
     alloc: Global,
     graph: &MachineGraph,

@@ -13,11 +13,11 @@ rights_no_float : (t : Told) → has_float (rights_data t) ≡ false
 unfolding rights_data
 rights_no_float t = refl
 
-list_no_float : (list : List Told) → items_have_float (items_of (map rights_data list)) ≡ false
+pub list_no_float : (list : List Told) → items_have_float (items_of (map rights_data list)) ≡ false
 list_no_float [] = refl
 list_no_float (t ∷ list) = rw (rights_no_float t) (list_no_float list)
 
-lists_no_float : (lists : List (Vec Told Global)) → items_have_float (items_of (map (λ list. list_data list.items) lists)) ≡ false
+pub lists_no_float : (lists : List (Vec Told Global)) → items_have_float (items_of (map (λ list. list_data list.items) lists)) ≡ false
 lists_no_float [] = refl
 lists_no_float (l ∷ lists) = rw (list_no_float l.items) (lists_no_float lists)
 

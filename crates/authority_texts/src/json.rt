@@ -43,8 +43,8 @@ fn rights_json(alloc: Global, told: &Told) -> Result<Value, NoMemory>
     json!(in alloc; {"base": base, "first": first, "perms": perms, "top": top})
 }
 
-/// A list of rights.
-fn list_json(alloc: Global, list: &[Told]) -> Result<Value, NoMemory>
+/// A list of rights. Fails only when out of memory.
+pub fn list_json(alloc: Global, list: &[Told]) -> Result<Value, NoMemory>
     ensures { IfOk result (λ v. data_of v ≡ list_data list.now) }
 {
     let mut values = Vec::new(alloc);
@@ -54,8 +54,8 @@ fn list_json(alloc: Global, list: &[Told]) -> Result<Value, NoMemory>
     Ok(Value::Array(values))
 }
 
-/// The lists of all harts.
-fn harts_json(alloc: Global, lists: &[Vec<Told>]) -> Result<Value, NoMemory>
+/// The lists of all harts. Fails only when out of memory.
+pub fn harts_json(alloc: Global, lists: &[Vec<Told>]) -> Result<Value, NoMemory>
     ensures { IfOk result (λ v. data_of v ≡ harts_data lists.now) }
 {
     let mut values = Vec::new(alloc);

@@ -7,4 +7,6 @@ mod text;
 mod told;
 
 pub use answer::authority;
+pub use json::{harts_json, list_json};
+pub use text::{write_harts, write_list};
 pub use told::Told;

@@ -32,7 +32,7 @@ fn write_rights(out: &mut String, told: &Told) -> Result<(), NoMemory>
 }
 
 /// Appends the lines of a list.
-fn write_list(out: &mut String, list: &[Told]) -> Result<(), NoMemory>
+pub fn write_list(out: &mut String, list: &[Told]) -> Result<(), NoMemory>
     ensures { OnOk result (string_bytes out.new ≡ string_bytes out.old ++ rights_lines list.now) }
 {
     for told in list {
@@ -52,7 +52,7 @@ fn write_hart(out: &mut String, number: usize, list: &Vec<Told>) -> Result<(), N
 }
 
 /// Appends the blocks of all harts.
-fn write_harts(out: &mut String, harts: &[Vec<Told>]) -> Result<(), NoMemory>
+pub fn write_harts(out: &mut String, harts: &[Vec<Told>]) -> Result<(), NoMemory>
     ensures { OnOk result (string_bytes out.new
         ≡ string_bytes out.old ++ numbered hart_block 0 harts.now) }
 {

@@ -1,0 +1,9 @@
+pub mod Unfold
+pub mod GroupLemmas
+pub mod ToldLemmas
+pub mod BoundLemmas
+pub mod ListLemmas
+pub mod HolderLemmas
+pub mod AnswerLemmas
+pub mod AskedLemmas
+pub mod JsonLemmas

@@ -1,0 +1,3 @@
+pub mod StayLemmas
+pub mod ExchangeLemmas
+pub mod HoldingLemmas
