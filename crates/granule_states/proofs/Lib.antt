@@ -1,0 +1,12 @@
+pub mod Unfold
+pub mod Places
+pub mod AlongLemmas
+pub mod PassLemmas
+pub mod WithinLemmas
+pub mod QuietLemmas
+pub mod TurnLemmas
+pub mod PlacedLemmas
+pub mod RowLemmas
+pub mod ScanLemmas
+pub mod OwnedLemmas
+pub mod OrderLemmas

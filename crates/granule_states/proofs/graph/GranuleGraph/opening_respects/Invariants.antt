@@ -1,0 +1,19 @@
+-- the first harts are at their rest, and their ways pass
+use Rattle.std.proofs.Common.{◌≡◌, length}
+use Rattle.std.specs.Prelude.{Some, true}
+use Rattle.cheri_model.specs.runs.Machine.{MachineState}
+use Rattle.explore_turns.specs.declared.quiet.TheConstants.{MAX_QUIET_STEPS}
+use Rattle.granule_states.specs.Graphs.{Learns, quiet_in, state_in, step_in}
+use Rattle.granule_states.specs.Owners.{passes_in}
+use Rattle.own_granules.specs.Rests.{rest_first, ways_pass}
+use Rattle.granule_states.proofs.graph.GranuleGraph.opening_respects.Given as goal
+
+abbrev pub invariant-loop-hart : goal.invariant-loop-hart
+invariant-loop-hart l = record {
+  learns : Learns l.fn.self l.self;
+  same_room : length l.row ≡ length l.fn.row;
+  rests : (s : MachineState) → state_in l.fn.self l.fn.row ≡ Some s →
+      state_in l.self l.row ≡ Some (rest_first (step_in l.fn.self) (quiet_in l.fn.self) MAX_QUIET_STEPS l.hart s);
+  passed : (s : MachineState) → state_in l.fn.self l.fn.row ≡ Some s →
+      ways_pass (step_in l.fn.self) (quiet_in l.fn.self) (passes_in l.fn.self l.owners) MAX_QUIET_STEPS l.hart s ≡ true;
+}

@@ -1,0 +1,5 @@
+pub mod Accesses
+pub mod Graphs
+pub mod Orders
+pub mod Owners
+pub mod Owned

@@ -1,0 +1,12 @@
+//! Searches in which accesses to granules of one hart alone, or that nobody writes, are quiet
+//! steps, so that they keep fewer states.
+#![tactic(auto)]
+
+mod accesses;
+mod graph;
+mod kept;
+mod scan;
+mod touches;
+mod walks;
+
+pub use kept::{OwnedStates, search_owned};
