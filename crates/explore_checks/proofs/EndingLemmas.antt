@@ -23,5 +23,3 @@ pub none_left : (list : List PropertyVerdict) (i : ℕ) → length list ≤ i �
     None ≡ first_violated list
 unfolding first_violated
 none_left list i past so = rw (drop_of_length-le list past) at so
-
-pub ruleset endings = (none_more, one_found, none_left)

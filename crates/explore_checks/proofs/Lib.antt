@@ -4,3 +4,4 @@ pub mod CheckLemmas
 pub mod EndingLemmas
 pub mod OrderLemmas
 pub mod LoopLemmas
+pub mod Rulesets

@@ -23,5 +23,3 @@ pub none_asks : (list : List PropertyParts) (i : ℕ) → length list ≤ i → 
     false ≡ one_asks list
 unfolding one_asks
 none_asks list i past so = rw (drop_of_length-le list past) at so
-
-pub ruleset asking = (none_so_far, this_asks, none_asks)

@@ -19,8 +19,6 @@ pushed_order before after order is = ap orders_of is ∙ orders_append before (o
 pub no_order : (orders : List (List Op)) → orders ≡ orders ++ []
 no_order orders = sym (append-nil orders)
 
-pub ruleset pushing = (pushed_order, no_order)
-
 module _ (list : List PropertyVerdict) (i : ℕ) (d : PropertyVerdict) (within : i < length list) where
   left : drop i list ≡ slice_index_or list i d ∷ drop (i + 1) list
   left = rw add-one (drop-cons list i d within)

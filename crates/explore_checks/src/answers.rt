@@ -52,7 +52,6 @@ fn is_known(verdict: &Verdict) -> bool
 }
 
 /// The line of the first property that is violated.
-#[tactic(auto, using(crate::proofs::EndingLemmas::endings))]
 fn first_violated(told: &[PropertyVerdict<'_, '_>]) -> Option<usize>
     ensures { result ≡ first_violated told.now }
 {
@@ -87,7 +86,6 @@ pub fn ending_of(told: &[PropertyVerdict<'_, '_>]) -> Ending
 }
 
 /// Verdicts as text, or in JSON. Fails only when out of memory.
-#[tactic(auto, using(crate::proofs::TextLemmas::said_whole))]
 pub fn checked(
     alloc: Global,
     format: Format,
@@ -116,7 +114,6 @@ fn once_around(alloc: Global, lasso: &Lasso) -> Result<Vec<Op>, NoMemory>
 }
 
 /// Adds an order.
-#[tactic(auto, using(crate::proofs::OrderLemmas::pushing))]
 fn push_order(orders: &mut Vec<Vec<Op>>, order: Vec<Op>) -> Result<(), NoMemory>
     ensures { OnOk result (orders_of orders.new.items
         ≡ orders_of orders.old.items ++ order.items ∷ []) }
@@ -126,7 +123,6 @@ fn push_order(orders: &mut Vec<Vec<Op>>, order: Vec<Op>) -> Result<(), NoMemory>
 }
 
 /// Adds the order that violates a property, if one does.
-#[tactic(auto, using(crate::proofs::OrderLemmas::pushing))]
 fn add_order(alloc: Global, orders: &mut Vec<Vec<Op>>, verdict: &Verdict) -> Result<(), NoMemory>
     ensures { OnOk result (orders_of orders.new.items
         ≡ orders_of orders.old.items ++ order_against verdict.now) }

@@ -1,5 +1,5 @@
 //! The answer to `check`: what a search says of the properties that a listing carries.
-#![tactic(auto)]
+#![tactic(auto, using(crate::proofs::Rulesets::checks))]
 
 mod answers;
 mod head;

@@ -52,7 +52,6 @@ fn asks_of_loops(claim: &Claim) -> bool
 }
 
 /// Whether a property asks whether runs go on for ever.
-#[tactic(auto, using(crate::proofs::LoopLemmas::asking))]
 pub fn one_asks(properties: &[Property<'_>]) -> bool
     ensures { result ≡ one_asks properties.now }
 {

@@ -1,5 +1,5 @@
 -- Which arguments write the numbers of runs, and that no number is greater than its greatest one.
-use Rattle.std.proofs.Common.{◌≡◌, ℕ, ◌^◌, ◌<◌, ◌≤◌, inl, inr, refl, arith, Option, Some, None, nat_le, ◌&&◌, Bool, true, false, cond, IfSome}
+use Rattle.std.proofs.Common.{◌≡◌, ℕ, ◌≤◌, refl, arith, Option, Some, None, nat_le, ◌&&◌, Bool, true, false, cond, IfSome}
 use Rattle.std.proofs.lemmas.Bool.Decides.{nat_tests}
 use Rattle.std.specs.Prelude.{option_and_then}
 use Rattle.clap.specs.Words.{Text}

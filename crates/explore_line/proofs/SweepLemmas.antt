@@ -1,12 +1,11 @@
 -- The sweeps that arguments write, one by one.
-use Rattle.std.proofs.Common.{◌≡◌, ◌∙◌, ◌<◌, ◌≤◌, ◌+◌, ◌^◌, ◌==◌, ◌&&◌, nat_lt, nat_le, ℕ, suc, Bool, true, false, cond, inl, inr, arith, take, List, [], ◌∷◌, ◌++◌, map, length, drop, Option, Some, None, refl, sym, ap, append-nil, append_assoc, drop-cons, drop_of_length-le}
+use Rattle.std.proofs.Common.{◌≡◌, ◌∙◌, ◌<◌, ◌≤◌, nat_le, ℕ, suc, Bool, true, false, cond, arith, List, [], ◌∷◌, ◌++◌, map, length, drop, Option, Some, None, refl, sym, ap, append-nil, append_assoc, drop-cons, drop_of_length-le}
 use Rattle.std.proofs.lemmas.List.{length-map}
 use Rattle.std.proofs.lemmas.Bool.Decides.{nat_tests}
 use Rattle.std.specs.Borrow.{Bor}
 use Rattle.std.specs.List.{slice_index_or}
 use Rattle.std.specs.Prelude.{option_map}
 use Rattle.clap.specs.Words.{Text}
-use Rattle.command_line.specs.Found.{◌>>=◌}
 use Rattle.explore_line.specs.Sweeps.{few_sweeps_of, sweeps_of}
 use Rattle.explore_sweeps.specs.Sweeps.{sweep_of}
 use Rattle.explore_sweeps.specs.declared.Sweep.{Sweep}

@@ -9,11 +9,11 @@ use Rattle.command_line.specs.Arguments.{single_option, wanting_subcommand}
 abbrev pub repeated_option : Text → Rule
 repeated_option name = record (new_rule name) { long = Some name; action = Some Append }
 
--- `[--states N] [--steps] [--json]`, which each command takes
+-- `[--states N] [--steps] [--jobs J] [--json]`, which each search takes
 abbrev pub with_options : App → App
 with_options app =
-    with_rule (with_rule (with_rule app (single_option (codes "states"))) (flag (codes "steps")))
-    (flag (codes "json"))
+    with_rule (with_rule (with_rule (with_rule app (single_option (codes "states")))
+    (flag (codes "steps"))) (single_option (codes "jobs"))) (flag (codes "json"))
 
 -- and before them `[--sweep LO,HI]..`
 abbrev pub with_search_options : App → App
@@ -24,12 +24,12 @@ abbrev pub with_explaining_options : App → App
 with_explaining_options app =
     with_rule (with_rule app (flag (codes "explain"))) (single_option (codes "map"))
 
--- `outcomes LISTING [--show ITEM[,ITEM]..] [--keep WORD[,WORD]..]`
+-- `outcomes LISTING [--show ITEM[,ITEM]..] [--keep WORD[,WORD]..] [--alike]`
 abbrev pub outcomes_command : App
 outcomes_command =
-    with_search_options (with_rule (with_rule (with_rule (new_app (codes "outcomes"))
+    with_search_options (with_rule (with_rule (with_rule (with_rule (new_app (codes "outcomes"))
     (required_word (codes "listing"))) (single_option (codes "show")))
-    (single_option (codes "keep")))
+    (single_option (codes "keep"))) (flag (codes "alike")))
 
 -- `find LISTING CONDITION [--explain] [--map MAP] [--keep WORD[,WORD]..]`
 abbrev pub find_command : App
@@ -38,10 +38,11 @@ find_command =
     (new_app (codes "find")) (required_word (codes "listing")))
     (required_word (codes "condition")))) (single_option (codes "keep")))
 
--- `authority LISTING`
+-- `authority LISTING [--keep WORD[,WORD]..]`
 abbrev pub authority_command : App
 authority_command =
-    with_search_options (with_rule (new_app (codes "authority")) (required_word (codes "listing")))
+    with_search_options (with_rule (with_rule (new_app (codes "authority"))
+    (required_word (codes "listing"))) (single_option (codes "keep")))
 
 -- `check LISTING [--explain] [--map MAP] [--keep WORD[,WORD]..]`, whose sweeps are lines of the
 -- listing

@@ -9,13 +9,14 @@ use Rattle.command_line.specs.Numbers.{number_or}
 use Rattle.command_line.specs.declared.found.Format.{Format}
 use Rattle.command_line.specs.declared.found.Format.TheVariants as forms
 use Rattle.explore_line.specs.Commands.{explore_program}
-use Rattle.explore_line.specs.Samples.{IsJobs, IsSampleBounded, MergeAsked, SampleAsked}
+use Rattle.explore_line.specs.Samples.{IsJobs, IsSampleBounded, MergeAsked, SampleAsked, optional_number}
 use Rattle.explore_line.specs.Samples.{merge_asked_by, merge_asked_of}
 use Rattle.explore_line.specs.Samples.{sample_asked_by, sample_asked_of}
 use Rattle.explore_line.specs.Sweeps.{sweeps_in}
 use Rattle.explore_sweeps.specs.declared.Sweep.{Sweep}
 use Rattle.explore_sweeps.specs.declared.TheConstants.{MAX_SWEEPS}
 use Rattle.explore_line.specs.declared.requests.TheConstants.{GREATEST_STATES, USUAL_STATES}
+use Rattle.explore_line.specs.declared.samples.TheConstants.{GREATEST_JOBS}
 use Rattle.explore_line.specs.declared.requests.Keeping.{Keeping}
 use Rattle.explore_line.specs.declared.requests.Question.{Question}
 use Rattle.explore_line.specs.declared.requests.Question.TheVariants as questions
@@ -26,6 +27,7 @@ use Rattle.explore_line.specs.declared.requests.Request.TheVariants as requests
 -- requests by the texts of their arguments
 pub data AskedQuestion : Type 0 where
   Outcomes : Option Text → AskedQuestion
+  Alike : Option Text → AskedQuestion
   Find : Text → AskedQuestion
   Authority : AskedQuestion
   Check : AskedQuestion
@@ -35,6 +37,7 @@ pub record SearchAsked : Type 0 where
   pub map : Option Text
   pub sweeps : List Sweep
   pub states : ℕ
+  pub jobs : Option ℕ
   pub every_step : Bool
   pub keeps_registers : Bool
   pub keeps_harts : Bool
@@ -49,6 +52,7 @@ pub data ExploreAsked : Type 0 where
 
 abbrev pub question_asked_by : Question → AskedQuestion
 question_asked_by (questions.Outcomes show) = Outcomes (option_map (λ items. items.now) show)
+question_asked_by (questions.Alike show) = Alike (option_map (λ items. items.now) show)
 question_asked_by (questions.Find condition) = Find condition.now
 question_asked_by questions.Authority = Authority
 question_asked_by questions.Check = Check
@@ -62,6 +66,7 @@ search_asked_by request = record {
   map = option_map name_of request.map;
   sweeps = request.sweeps.items;
   states = request.states;
+  jobs = request.jobs;
   every_step = request.every_step;
   keeps_registers = request.keeps_registers;
   keeps_harts = request.keeps_harts;
@@ -78,7 +83,7 @@ asked_by (requests.Merge request) = Merge (merge_asked_by request)
 -- the limits that a request keeps
 abbrev pub IsBounded : Request → Type 0
 IsBounded (requests.Search request) =
-    (length request.sweeps.items ≤ MAX_SWEEPS) × (1 ≤ request.states)
+    (length request.sweeps.items ≤ MAX_SWEEPS) × (1 ≤ request.states) × IsJobs request.jobs
 IsBounded (requests.Sample request) = IsSampleBounded request
 IsBounded (requests.Merge request) = IsJobs request.jobs
 
@@ -93,10 +98,16 @@ keeping_of (Some list) =
     else if bytes_eq list (codes "harts,registers") then Some (record { registers = true; harts = true })
     else None
 
+-- what `outcomes` asks
+abbrev pub outcomes_question : List Row → AskedQuestion
+outcomes_question rows =
+    if is_given (first_of (codes "alike") rows) then Alike (first_of (codes "show") rows)
+    else Outcomes (first_of (codes "show") rows)
+
 -- what the command of this name asks
 unfoldable pub question_of : Text → List Row → Option AskedQuestion
 question_of name rows =
-    if bytes_eq name (codes "outcomes") then Some (Outcomes (first_of (codes "show") rows))
+    if bytes_eq name (codes "outcomes") then Some (outcomes_question rows)
     else if bytes_eq name (codes "find") then option_map Find (first_of (codes "condition") rows)
     else if bytes_eq name (codes "authority") then Some Authority
     else if bytes_eq name (codes "check") then Some Check
@@ -113,6 +124,7 @@ search_asked_of name rows = do
   question ← question_of name rows
   listing ← first_of (codes "listing") rows
   states ← number_or USUAL_STATES 1 GREATEST_STATES (first_of (codes "states") rows)
+  jobs ← optional_number 1 GREATEST_JOBS (first_of (codes "jobs") rows)
   keeping ← keeping_of (first_of (codes "keep") rows)
   explained ← explained_in (form_of (first_of (codes "json") rows))
       (is_given (first_of (codes "explain") rows))
@@ -122,6 +134,7 @@ search_asked_of name rows = do
     map = first_of (codes "map") rows;
     sweeps = sweeps;
     states = states;
+    jobs = jobs;
     every_step = is_given (first_of (codes "steps") rows);
     keeps_registers = keeping.registers;
     keeps_harts = keeping.harts;

@@ -31,7 +31,7 @@ fn repeated_option<'a>(alloc: Global, name: &'a str) -> Arg<'a>
     Arg::new(alloc, name).long(name).action(ArgAction::Append)
 }
 
-/// A command with the options of each: `[--states N] [--steps] [--json]`.
+/// A command with the options of each search: `[--states N] [--steps] [--jobs J] [--json]`.
 fn with_options<'a>(alloc: Global, command: Command<'a>) -> Result<Command<'a>, AllocError>
     ensures app { IfOk result (λ more. app_of more ≡ with_options (app_of command.entry)) }
     ensures local { has_globals command.entry ≡ false
@@ -39,7 +39,8 @@ fn with_options<'a>(alloc: Global, command: Command<'a>) -> Result<Command<'a>, 
 {
     let with_states = command.arg(single_option(alloc, "states"))?;
     let with_steps = with_states.arg(flag(alloc, "steps"))?;
-    with_steps.arg(flag(alloc, "json"))
+    let with_jobs = with_steps.arg(single_option(alloc, "jobs"))?;
+    with_jobs.arg(flag(alloc, "json"))
 }
 
 /// A command with the options of a search: `[--sweep LO,HI]..` and those of each.
@@ -66,7 +67,7 @@ fn with_explaining_options<'a>(
     with_explain.arg(single_option(alloc, "map"))
 }
 
-/// `outcomes LISTING [--show ITEM[,ITEM]..] [--keep WORD[,WORD]..]`.
+/// `outcomes LISTING [--show ITEM[,ITEM]..] [--keep WORD[,WORD]..] [--alike]`.
 fn outcomes_command<'a>(alloc: Global) -> Result<Command<'a>, AllocError>
     ensures app { IfOk result (λ command. app_of command ≡ outcomes_command) }
     ensures local { IfOk result (λ command. has_globals command ≡ false) }
@@ -74,7 +75,8 @@ fn outcomes_command<'a>(alloc: Global) -> Result<Command<'a>, AllocError>
     let command = Command::new(alloc, "outcomes")
         .arg(required(alloc, "listing"))?
         .arg(single_option(alloc, "show"))?
-        .arg(single_option(alloc, "keep"))?;
+        .arg(single_option(alloc, "keep"))?
+        .arg(flag(alloc, "alike"))?;
     with_search_options(alloc, command)
 }
 
@@ -91,12 +93,14 @@ fn find_command<'a>(alloc: Global) -> Result<Command<'a>, AllocError>
     with_search_options(alloc, keeping)
 }
 
-/// `authority LISTING`.
+/// `authority LISTING [--keep WORD[,WORD]..]`.
 fn authority_command<'a>(alloc: Global) -> Result<Command<'a>, AllocError>
     ensures app { IfOk result (λ command. app_of command ≡ authority_command) }
     ensures local { IfOk result (λ command. has_globals command ≡ false) }
 {
-    let command = Command::new(alloc, "authority").arg(required(alloc, "listing"))?;
+    let command = Command::new(alloc, "authority")
+        .arg(required(alloc, "listing"))?
+        .arg(single_option(alloc, "keep"))?;
     with_search_options(alloc, command)
 }
 

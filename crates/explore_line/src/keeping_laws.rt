@@ -2,7 +2,7 @@
 //! read them by.
 
 ghost use Rattle.std.specs.Prelude.{◌≡◌, Some, None, true, false, [], ◌∷◌, codes};
-ghost use Rattle.explore_line.specs.Requests.{Check, Find, Outcomes, Search, explore_asked};
+ghost use Rattle.explore_line.specs.Requests.{Authority, Check, Find, Outcomes, Search, explore_asked};
 
 use command_line::Format;
 
@@ -15,6 +15,7 @@ pub fn known_keeping_lines()
           map = None;
           sweeps = [];
           states = 1000000;
+          jobs = None;
           every_step = false;
           keeps_registers = true;
           keeps_harts = false;
@@ -29,6 +30,7 @@ pub fn known_keeping_lines()
           map = None;
           sweeps = [];
           states = 1000000;
+          jobs = None;
           every_step = false;
           keeps_registers = false;
           keeps_harts = true;
@@ -43,6 +45,7 @@ pub fn known_keeping_lines()
           map = None;
           sweeps = [];
           states = 1000000;
+          jobs = None;
           every_step = false;
           keeps_registers = true;
           keeps_harts = true;
@@ -57,6 +60,7 @@ pub fn known_keeping_lines()
           map = None;
           sweeps = [];
           states = 1000000;
+          jobs = None;
           every_step = false;
           keeps_registers = true;
           keeps_harts = true;
@@ -71,12 +75,28 @@ pub fn known_keeping_lines()
           map = None;
           sweeps = [];
           states = 1000000;
+          jobs = None;
           every_step = false;
           keeps_registers = true;
           keeps_harts = false;
           form = Format.Text;
           explained = false;
           question = Outcomes (Some (codes "0.c7"));
+        })) }
+    ensures authority_keeping { explore_asked (codes "cheri_explore" ∷ codes "authority"
+        ∷ codes "first.lst" ∷ codes "--keep=harts" ∷ [])
+        ≡ Some (Search (record {
+          listing = codes "first.lst";
+          map = None;
+          sweeps = [];
+          states = 1000000;
+          jobs = None;
+          every_step = false;
+          keeps_registers = false;
+          keeps_harts = true;
+          form = Format.Text;
+          explained = false;
+          question = Authority;
         })) }
     ensures check_keeping { explore_asked (codes "cheri_explore" ∷ codes "check"
         ∷ codes "first.lst" ∷ codes "--keep" ∷ codes "registers" ∷ [])
@@ -85,6 +105,7 @@ pub fn known_keeping_lines()
           map = None;
           sweeps = [];
           states = 1000000;
+          jobs = None;
           every_step = false;
           keeps_registers = true;
           keeps_harts = false;
@@ -96,8 +117,8 @@ pub fn known_keeping_lines()
 
 /// Command lines with `--keep` that ask for nothing.
 pub fn wrong_keeping_lines()
-    ensures authority_keeping { explore_asked (codes "cheri_explore" ∷ codes "authority"
-        ∷ codes "first.lst" ∷ codes "--keep=registers" ∷ [])
+    ensures sample_keeping { explore_asked (codes "cheri_explore" ∷ codes "sample"
+        ∷ codes "first.lst" ∷ codes "--orders=8" ∷ codes "--keep=harts" ∷ [])
         ≡ None }
     ensures keeping_nothing { explore_asked (codes "cheri_explore" ∷ codes "find"
         ∷ codes "first.lst" ∷ codes "0 is halted" ∷ codes "--keep=" ∷ [])

@@ -25,6 +25,7 @@ pub fn known_explore_lines()
           map = None;
           sweeps = [];
           states = 1000000;
+          jobs = None;
           every_step = false;
           keeps_registers = false;
           keeps_harts = false;
@@ -39,6 +40,7 @@ pub fn known_explore_lines()
           map = None;
           sweeps = [];
           states = 1000000;
+          jobs = None;
           every_step = false;
           keeps_registers = false;
           keeps_harts = false;
@@ -53,6 +55,7 @@ pub fn known_explore_lines()
           map = None;
           sweeps = [];
           states = 1000000;
+          jobs = None;
           every_step = false;
           keeps_registers = false;
           keeps_harts = false;
@@ -67,6 +70,7 @@ pub fn known_explore_lines()
           map = None;
           sweeps = [];
           states = 1000000;
+          jobs = None;
           every_step = false;
           keeps_registers = false;
           keeps_harts = false;
@@ -81,6 +85,7 @@ pub fn known_explore_lines()
           map = None;
           sweeps = [];
           states = 10;
+          jobs = None;
           every_step = false;
           keeps_registers = false;
           keeps_harts = false;
@@ -95,6 +100,7 @@ pub fn known_explore_lines()
           map = None;
           sweeps = [];
           states = 1000000;
+          jobs = None;
           every_step = true;
           keeps_registers = false;
           keeps_harts = false;
@@ -110,6 +116,7 @@ pub fn known_explore_lines()
           sweeps = record { lo = 16; hi = 32 }
               ∷ record { lo = 0; hi = 18446744073709551616 } ∷ [];
           states = 1000000;
+          jobs = None;
           every_step = false;
           keeps_registers = false;
           keeps_harts = false;
@@ -124,6 +131,7 @@ pub fn known_explore_lines()
           map = None;
           sweeps = record { lo = 7; hi = 7 } ∷ [];
           states = 1000000;
+          jobs = None;
           every_step = false;
           keeps_registers = false;
           keeps_harts = false;
@@ -138,6 +146,7 @@ pub fn known_explore_lines()
           map = None;
           sweeps = [];
           states = 100000000;
+          jobs = None;
           every_step = false;
           keeps_registers = false;
           keeps_harts = false;
@@ -200,6 +209,7 @@ pub fn known_explore_lines()
           map = None;
           sweeps = [];
           states = 7;
+          jobs = None;
           every_step = true;
           keeps_registers = false;
           keeps_harts = false;
@@ -214,6 +224,7 @@ pub fn known_explore_lines()
           map = None;
           sweeps = [];
           states = 1000000;
+          jobs = None;
           every_step = false;
           keeps_registers = false;
           keeps_harts = false;
@@ -228,6 +239,7 @@ pub fn known_explore_lines()
           map = None;
           sweeps = [];
           states = 1000000;
+          jobs = None;
           every_step = false;
           keeps_registers = false;
           keeps_harts = false;
@@ -242,6 +254,7 @@ pub fn known_explore_lines()
           map = Some (codes "first.map");
           sweeps = [];
           states = 1000000;
+          jobs = None;
           every_step = false;
           keeps_registers = false;
           keeps_harts = false;
@@ -256,6 +269,7 @@ pub fn known_explore_lines()
           map = Some (codes "first.map");
           sweeps = [];
           states = 1000000;
+          jobs = None;
           every_step = false;
           keeps_registers = false;
           keeps_harts = false;

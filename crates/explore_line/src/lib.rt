@@ -4,7 +4,9 @@
 ghost use Rattle.std.specs.Prelude.{◌≡◌, IfOk, Err, Some, None, map};
 ghost use Rattle.explore_line.specs.Requests.{asked_by, explore_asked, IsBounded};
 
+pub mod alike_laws;
 mod commands;
+pub mod job_laws;
 pub mod keeping_laws;
 pub mod laws;
 mod numbers;

@@ -12,15 +12,17 @@ ghost use Rattle.explore_line.specs.Requests.{
   explore_asked_of,
   keeping_of,
   name_of,
+  outcomes_question,
   question_asked_by,
   question_of,
   search_asked_by,
   search_asked_of,
   IsBounded,
 };
+ghost use Rattle.explore_line.specs.Samples.{IsJobs};
 ghost use Rattle.explore_sweeps.specs.declared.TheConstants.{MAX_SWEEPS};
 
-use crate::samples::{MergeRequest, SampleRequest, merge_of, sample_of};
+use crate::samples::{MergeRequest, SampleRequest, jobs_found, merge_of, sample_of};
 use crate::sweeps::sweeps_found;
 use clap::ArgMatches;
 use command_line::found::{flag_found, form_found, value_found};
@@ -48,6 +50,8 @@ pub struct Keeping {
 pub enum Question<'a> {
     /// Which outcomes there are, told by the items of this text, if it is there.
     Outcomes { show: Option<&'a str> },
+    /// The same, up to which of several equal harts stands where.
+    Alike { show: Option<&'a str> },
     /// Whether a state is reached in which this condition holds.
     Find { condition: &'a str },
     /// Which authority each hart, and memory, ever has.
@@ -57,9 +61,9 @@ pub enum Question<'a> {
 }
 
 /// What a command line asks for: to search the states that the image of the listing in the file of
-/// this name reaches, with these sweeps, up to so many states, and to answer in this form. Where
-/// `every_step` is true, states are told apart after each step, also where the question doesn't
-/// see it. Where `keeps_registers` is true, they are told apart by all registers, also by those that
+/// this name reaches, with these sweeps, up to so many states, and to answer in this form. So many
+/// `jobs` share the work, where it is said. Where `every_step` is true, states are told apart after
+/// each step, also where the question doesn't see it. Where `keeps_registers` is true, they are told apart by all registers, also by those that
 /// no longer matter, and where `keeps_harts` is true, by which of equal harts stands where. Where
 /// `explained` is true, the answer's orders are explained, and the form is text. Of `find` and
 /// `check` `map` may name the file of the map of the listing's program.
@@ -69,6 +73,7 @@ pub struct ExploreRequest<'a> {
     pub map: Option<&'a str>,
     pub sweeps: Vec<Sweep>,
     pub states: u32,
+    pub jobs: Option<u16>,
     pub every_step: bool,
     pub keeps_registers: bool,
     pub keeps_harts: bool,
@@ -117,15 +122,25 @@ fn keeping_of(list: Option<&str>) -> Option<Keeping>
     }
 }
 
+/// What `outcomes` asks.
+fn outcomes_question<'a>(found: &ArgMatches<'a>) -> Question<'a>
+    ensures { question_asked_by result ≡ outcomes_question (rows_of (found_of found.now)) }
+{
+    let show = value_found(found, "show");
+    if flag_found(found, "alike") {
+        Question::Alike { show }
+    } else {
+        Question::Outcomes { show }
+    }
+}
+
 /// What the command of this name asks.
 fn question_of<'a>(name: &str, found: &ArgMatches<'a>) -> Option<Question<'a>>
     ensures { option_map question_asked_by result
         ≡ question_of name.now (rows_of (found_of found.now)) }
 {
     match name {
-        "outcomes" => Some(Question::Outcomes {
-            show: value_found(found, "show"),
-        }),
+        "outcomes" => Some(outcomes_question(found)),
         "find" => {
             let condition = value_found(found, "condition")?;
             Some(Question::Find { condition })
@@ -182,11 +197,13 @@ fn search_of<'a>(
         → search_asked_of name.now (rows_of (found_of found.now)) ≡ None }
     ensures few { IfOk result (λ request. length request.sweeps.items ≤ MAX_SWEEPS) }
     ensures some { IfOk result (λ request. 1 ≤ request.states) }
+    ensures jobs { IfOk result (λ request. IsJobs request.jobs) }
 {
     let question = question_of(name, found).ok_or(CommandFault::Usage)?;
     let listing = value_found(found, "listing").ok_or(CommandFault::Usage)?;
     let map = value_found(found, "map");
     let states = states_found(found).ok_or(CommandFault::Usage)?;
+    let jobs = jobs_found(found).ok_or(CommandFault::Usage)?;
     let keeping = keeping_of(value_found(found, "keep")).ok_or(CommandFault::Usage)?;
     let explained = explained_found(found).ok_or(CommandFault::Usage)?;
     let sweeps = sweeps_found(alloc, found)?;
@@ -195,6 +212,7 @@ fn search_of<'a>(
         map,
         sweeps,
         states,
+        jobs,
         every_step: flag_found(found, "steps"),
         keeps_registers: keeping.registers,
         keeps_harts: keeping.harts,

@@ -160,7 +160,7 @@ fn depth_found(found: &ArgMatches<'_>) -> Option<Option<u8>>
 }
 
 /// The threads, where they are given.
-fn jobs_found(found: &ArgMatches<'_>) -> Option<Option<u16>>
+pub(crate) fn jobs_found(found: &ArgMatches<'_>) -> Option<Option<u16>>
     ensures jobs { result ≡ optional_number 1 GREATEST_JOBS
         (first_of (codes "jobs") (rows_of (found_of found.now))) }
     ensures bounds { IfSome result IsJobs }

@@ -1,11 +1,12 @@
 -- What is answered to each question, of the image of a listing.
 use Rattle.std.specs.Prelude.{◌≡◌, ℕ, Bool, true, false, List}
-use Rattle.std.specs.Prelude.{◌++◌, map, Result, Ok, Err, Some, None}
-use Rattle.authority_texts.specs.Answers.{IsAuthorityAnswer}
+use Rattle.std.specs.Prelude.{◌++◌, map, Option, Result, Ok, Err, Some, None}
+use Rattle.alike_outcomes.specs.AlikeOutcomes.{IsAlikeListed, IsAlikeShown}
+use Rattle.alike_authority.specs.AlikeAuthority.{IsAlikeAuthority}
 use Rattle.cheri_model.specs.declared.operation.Op.{Op}
 use Rattle.cheri_model.specs.runs.Image.{ImageParts}
 use Rattle.explained_orders.specs.ExplainedOrders.{explained_orders}
-use Rattle.explore_line.specs.Requests.{AskedQuestion, Find, Outcomes, Authority, Check}
+use Rattle.explore_line.specs.Requests.{AskedQuestion, Alike, Find, Outcomes, Authority, Check}
 use Rattle.explore_properties.specs.Properties.{PropertiesParts}
 use Rattle.explore_properties.specs.Reading.{properties_of}
 use Rattle.explore_sweeps.specs.declared.Sweep.{Sweep}
@@ -80,6 +81,19 @@ IsShownSaid search format keeps items answer =
     IsSaidOf (λ byte. text_fault (Place byte))
     (λ list. IsShownStatesAnswer keeps search list format) (items_of search.image items) answer
 
+-- `outcomes` up to which of several equal harts stands where, with the items that a text writes, and
+-- with or without items
+abbrev pub IsAlikeShownSaid : SearchParts → Format → Keeps → List ℕ → Answer Ending Fault → Type 0
+IsAlikeShownSaid search format keeps items answer =
+    IsSaidOf (λ byte. text_fault (Place byte)) (λ list. IsAlikeShown keeps search list format)
+    (items_of search.image items) answer
+
+abbrev pub IsAlikeSaid : SearchParts → Format → Keeps → Option (List ℕ) → Answer Ending Fault
+    → Type 0
+IsAlikeSaid search format keeps None answer = IsSaid (IsAlikeListed keeps.harts search format) answer
+IsAlikeSaid search format keeps (Some items) answer =
+    IsAlikeShownSaid search format keeps items answer
+
 -- the search with the sweeps that a listing allows
 abbrev pub swept_by : SearchParts → PropertiesParts → SearchParts
 swept_by search read = record search { sweeps = map range_of read.sweeps }
@@ -104,7 +118,9 @@ IsSaidTo (Outcomes None) labels listed search format explained keeps answer =
     IsSaid (IsListedAnswer search format) answer
 IsSaidTo (Outcomes (Some items)) labels listed search format explained keeps answer =
     IsShownSaid search format keeps.registers items answer
+IsSaidTo (Alike show) labels listed search format explained keeps answer =
+    IsAlikeSaid search format keeps show answer
 IsSaidTo Authority labels listed search format explained keeps answer =
-    IsSaid (IsAuthorityAnswer search format) answer
+    IsSaid (IsAlikeAuthority keeps.harts search format) answer
 IsSaidTo Check labels listed search format explained keeps answer =
     IsCheckSaid labels listed search format explained keeps answer

@@ -12,12 +12,14 @@ ghost use Rattle.explore_program.specs.Listings.{listed_of};
 ghost use Rattle.explore_program.specs.Questions.{IsCheckSaid, IsFindSaid};
 ghost use Rattle.explore_program.specs.Questions.{IsSaid, IsSaidTo, IsShownSaid};
 
+use crate::alike::answer_alike;
 use crate::faults::{Fault, property_fault, text_fault};
 use crate::listing::Listed;
 use crate::questions::{
     Authority, Check, Explaining, Find, Outcomes, SearchQuestion, ShownOutcomes,
 };
 use crate::ranges::ranges_of;
+use alike_authority::Manner;
 use condition_texts::{read_condition, read_items};
 use explore_line::Question;
 use explore_properties::read_properties;
@@ -44,7 +46,7 @@ pub struct Asking<'l, 's> {
 }
 
 /// Answers a question.
-fn ask<Q: SearchQuestion, P: Progress, S: Sink>(
+pub(crate) fn ask<Q: SearchQuestion, P: Progress, S: Sink>(
     alloc: Global,
     question: &Q,
     progress: &mut P,
@@ -224,11 +226,23 @@ pub fn answer_question<P: Progress, S: Sink>(
         (S.written sink.old) (S.written sink.new)) }
     ensures identity { S.identity sink.new ≡ S.identity sink.old }
 {
-    let Asking { search, format, .. } = asking;
+    let Asking {
+        search,
+        format,
+        keeps,
+        ..
+    } = asking;
     match question {
         Question::Find { condition } => answer_find(alloc, asking, condition, progress, sink),
         Question::Check => answer_check(alloc, asking, progress, sink),
-        Question::Authority => ask(alloc, &Authority { search, format }, progress, sink),
+        Question::Authority => {
+            let manner = Manner {
+                format,
+                keeps_harts: keeps.harts,
+            };
+            ask(alloc, &Authority { search, manner }, progress, sink)
+        }
+        Question::Alike { show } => answer_alike(alloc, asking, show, progress, sink),
         Question::Outcomes { show } => match show {
             Some(items) => answer_shown(alloc, asking, items, progress, sink),
             None => ask(alloc, &Outcomes { search, format }, progress, sink),

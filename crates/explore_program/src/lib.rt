@@ -1,6 +1,7 @@
 //! What the program `cheri_explore` does: answers one question, or reports why it cannot.
 #![tactic(auto)]
 
+mod alike;
 mod answers;
 mod faults;
 mod listing;
@@ -10,6 +11,7 @@ mod progress;
 mod questions;
 mod ranges;
 mod sampling;
+mod threads;
 
 pub use faults::{Fault, OwnFault};
 pub use program::perform;

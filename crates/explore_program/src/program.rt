@@ -1,6 +1,6 @@
 //! The program: answers one question, or reports why it cannot.
 
-ghost use Rattle.std.specs.Prelude.{◌≡◌, ◌≤◌, length, None, Ok, Some, IfOk, IfErr, option_map};
+ghost use Rattle.std.specs.Prelude.{◌≡◌, ◌<◌, ◌≤◌, length, None, Ok, Some, IfOk, IfErr, option_map};
 ghost use Rattle.explore_line.specs.Requests.{asked_by, explore_asked, search_asked_by};
 ghost use Rattle.explore_line.specs.Requests.{IsBounded, Sample};
 ghost use Rattle.explore_line.specs.Samples.{sample_asked_by, IsSampleBounded};
@@ -18,14 +18,16 @@ use crate::answers::{Asking, answer_question};
 use crate::faults::{Fault, OwnFault};
 use crate::listing::{Listed, read_map_text, read_mapped_image};
 use crate::merging::merge;
-use crate::progress::{Counted, TerminalProgress};
+use crate::progress::{Counted, QuietProgress, TerminalProgress};
 use crate::questions::format_of;
 use crate::ranges::ranges_of;
 use crate::sampling::sample;
+use crate::threads::threads_for;
 use cheri_model::Image;
 use explore_line::{ExploreRequest, Request, SampleRequest, explore_request};
 use grammar::labels::Labels;
-use graph_search::{NoProgress, Progress};
+use graph_nodes::Team;
+use graph_search::Progress;
 use inputs::{Files, command_args, read_listing_text};
 use listing_labels::labels_of;
 use printing::give_back;
@@ -249,6 +251,17 @@ fn counted_for(request: &Request<'_>) -> Counted {
     }
 }
 
+/// By how many threads states are searched as a request is answered.
+fn threads_of<R: Threads>(rt: &R, request: &Request<'_>) -> u16
+    requires { IsBounded request.now }
+    ensures { 0 < result }
+{
+    match request {
+        Request::Search(request) => threads_for(rt, request.jobs),
+        Request::Sample(_) | Request::Merge(_) => 1,
+    }
+}
+
 /// Answers a request. In a terminal, which is given by its clock, how far it is is reported on
 /// `err`, where this takes long; elsewhere nothing is.
 fn answer_at<F: Files, S: Sink, R: AllocGlobal + Threads + Sync, E: Write, C: Clock>(
@@ -270,12 +283,17 @@ fn answer_at<F: Files, S: Sink, R: AllocGlobal + Threads + Sync, E: Write, C: Cl
     ensures identity { S.identity sink.new ≡ S.identity sink.old }
 {
     let alloc = rt.alloc();
+    let threads = threads_of(rt, request);
+    let crew = Team { rt, threads };
     match terminal {
         Some(clock) => {
-            let mut progress = TerminalProgress::new(clock, err, counted_for(request));
+            let mut progress = TerminalProgress::new(clock, err, counted_for(request), crew);
             answer_request(rt, alloc, request, files, &mut progress, sink)
         }
-        None => answer_request(rt, alloc, request, files, &mut NoProgress, sink),
+        None => {
+            let mut progress = QuietProgress { crew };
+            answer_request(rt, alloc, request, files, &mut progress, sink)
+        }
     }
 }
 
@@ -322,8 +340,8 @@ fn conclude<E: Write>(err: &mut E, ended: Result<Ending, Fault>) -> u8
 /// nothing. Else `err` got the line of a fault, whether it took it or not: 1 where a text was
 /// refused, or where the whole answer tells of a property that is violated, 2 where the command
 /// line was, and 3 for every other fault. Where `err` is a terminal, `terminal` is the clock by
-/// which lines of how far a long search or a sample is come there before. Only `sample` starts
-/// threads.
+/// which lines of how far a long search or a sample is come there before. Searches and `sample`
+/// start threads.
 pub fn perform<F: Files, R: AllocGlobal + Threads + Sync, O: Write, E: Write, C: Clock>(
     rt: &R,
     args: &[String],

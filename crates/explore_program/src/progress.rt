@@ -1,9 +1,10 @@
-//! Reports of long searches.
+//! Reports of long searches, and who does them.
 
 ghost use Rattle.std.specs.Prelude.{◌≡◌, ◌⊎◌, Some, IfSome};
 ghost use Rattle.explore_program.specs.Progress.{counted_word, progress_text};
 ghost use Rattle.explore_program.specs.Progress.{IsDue, IsQuiet, IsTold};
 
+use graph_nodes::{Crew, Task};
 use graph_search::Progress;
 use printing::write_line;
 use std::fmt;
@@ -48,18 +49,19 @@ impl fmt::Display for Found {
 }
 
 /// Reports on a terminal how many states were found, or runs made, at most once a second. Where the
-/// clock fails, it reports nothing.
+/// clock fails, it reports nothing. A crew does the search.
 #[derive(Drop)]
-pub struct TerminalProgress<'a, C, E> {
+pub struct TerminalProgress<'a, C, E, K> {
     clock: &'a C,
     err: E,
     counted: Counted,
     last: Option<Instant>,
+    crew: K,
 }
 
-impl<'a, C: Clock, E: Write> TerminalProgress<'a, C, E> {
+impl<'a, C: Clock, E: Write, K: Crew> TerminalProgress<'a, C, E, K> {
     /// Reports on `err`, which is a terminal: for the first time a second from now.
-    pub fn new(clock: &'a C, err: E, counted: Counted) -> TerminalProgress<'a, C, E>
+    pub fn new(clock: &'a C, err: E, counted: Counted, crew: K) -> TerminalProgress<'a, C, E, K>
         ensures { result.err ≡ err }
     {
         let last = Instant::now(clock).ok();
@@ -68,6 +70,7 @@ impl<'a, C: Clock, E: Write> TerminalProgress<'a, C, E> {
             err,
             counted,
             last,
+            crew,
         }
     }
 
@@ -85,7 +88,25 @@ impl<'a, C: Clock, E: Write> TerminalProgress<'a, C, E> {
     }
 }
 
-impl<C: Clock, E: Write> Progress for TerminalProgress<'_, C, E> {
+impl<C: Clock, E: Write, K: Crew> Crew for TerminalProgress<'_, C, E, K> {
+    type Begun = K::Begun;
+
+    ghost is_of = { K.is_of };
+
+    fn helpers(&self) -> u8 {
+        self.crew.helpers()
+    }
+
+    fn start(&self, task: Task) -> K::Begun {
+        self.crew.start(task)
+    }
+
+    fn finish(&self, begun: K::Begun) -> Task {
+        self.crew.finish(begun)
+    }
+}
+
+impl<C: Clock, E: Write, K: Crew> Progress for TerminalProgress<'_, C, E, K> {
     fn report(&mut self, found: u32)
         ensures { IsQuiet self.old.last self.new.last
             (E.contents self.old.err) (E.contents self.new.err)
@@ -106,4 +127,32 @@ impl<C: Clock, E: Write> Progress for TerminalProgress<'_, C, E> {
             }
         }
     }
+}
+
+/// Reports nothing. A crew does the search.
+#[derive(Drop)]
+pub struct QuietProgress<K> {
+    pub crew: K,
+}
+
+impl<K: Crew> Crew for QuietProgress<K> {
+    type Begun = K::Begun;
+
+    ghost is_of = { K.is_of };
+
+    fn helpers(&self) -> u8 {
+        self.crew.helpers()
+    }
+
+    fn start(&self, task: Task) -> K::Begun {
+        self.crew.start(task)
+    }
+
+    fn finish(&self, begun: K::Begun) -> Task {
+        self.crew.finish(begun)
+    }
+}
+
+impl<K: Crew> Progress for QuietProgress<K> {
+    fn report(&mut self, _found: u32) {}
 }

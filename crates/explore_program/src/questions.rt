@@ -2,7 +2,7 @@
 
 ghost use Rattle.std.specs.Prelude.{◌≡◌, ◌+◌, ℕ, List, Ok, IfOk, IfErr, true, string_bytes};
 ghost use Rattle.std.specs.Io.KnownBytes.{Appends};
-ghost use Rattle.authority_texts.specs.Answers.{IsAuthorityAnswer};
+ghost use Rattle.alike_authority.specs.AlikeAuthority.{IsAlikeAuthority};
 ghost use Rattle.conditions.specs.Items.{list_of};
 ghost use Rattle.forgotten_checks.specs.StateChecks.{IsCheckStatesAnswer};
 ghost use Rattle.forgotten_outcomes.specs.ShownStates.{IsShownStatesAnswer};
@@ -17,7 +17,7 @@ ghost use Rattle.explore_program.specs.Questions.{explained_text, format_of, IsE
 ghost use Rattle.states.specs.Searches.{IsSearchable, search_of};
 
 use crate::listing::Listed;
-use authority_texts::authority;
+use alike_authority::authority_alike;
 use cheri_model::{Image, NoMemory};
 use conditions::{Condition, Items};
 use explained_orders::explain_orders;
@@ -198,13 +198,14 @@ impl<'a, 'b, 't> SearchQuestion for Find<'a, 'b, 't> {
 #[derive(Clone, Copy)]
 pub struct Authority<'a> {
     pub search: Search<'a>,
-    pub format: Format,
+    pub manner: alike_authority::Manner,
 }
 
 impl<'a> SearchQuestion for Authority<'a> {
     ghost is_askable = { λ q. IsSearchable (search_of q.search) };
 
-    ghost answers = { λ q. IsAuthorityAnswer (search_of q.search) q.format };
+    ghost answers = { λ q. IsAlikeAuthority q.manner.keeps_harts (search_of q.search)
+        q.manner.format };
 
     fn write<P: Progress, S: Sink>(
         &self,
@@ -212,7 +213,7 @@ impl<'a> SearchQuestion for Authority<'a> {
         progress: &mut P,
         sink: &mut S,
     ) -> Result<Ending, WriteFault> {
-        authority(alloc, &self.search, self.format, progress, sink)
+        authority_alike(alloc, &self.search, self.manner, progress, sink)
     }
 }
 

@@ -16,6 +16,7 @@ ghost use Rattle.explore_program.specs.Samples.{IsSampled, IsShownSampled, Makes
 use crate::faults::{Fault, property_fault, text_fault};
 use crate::questions::format_of;
 use crate::ranges::ranges_of;
+use crate::threads::threads_for;
 use cheri_model::{Image, NoMemory};
 use condition_texts::read_items;
 use conditions::Items;
@@ -35,10 +36,7 @@ use sample_threads::{Runs, count_all};
 use schedules::SweepRange;
 use shown_states::{Answer, Format};
 use std::alloc::{AllocError, Global};
-use std::thread::{self, Threads};
-
-/// The most threads where their number is not given.
-const MAX_THREADS: u16 = 256;
+use std::thread::Threads;
 
 /// A good listing, and its image.
 #[derive(Clone, Copy)]
@@ -92,29 +90,6 @@ fn tell<'x>(
         text,
         ending: sample_ending(told.as_slice()),
     })
-}
-
-/// So many threads as there are processors.
-fn processors<R: Threads>(rt: &R) -> u16
-    ensures { 0 < result }
-{
-    match thread::available_parallelism(rt) {
-        Ok(count) => u16::try_from(count.get())
-            .unwrap_or(MAX_THREADS)
-            .clamp(1, MAX_THREADS),
-        Err(_) => 1,
-    }
-}
-
-/// By how many threads runs are counted.
-fn threads_for<R: Threads>(rt: &R, jobs: Option<u16>) -> u16
-    requires { IfSome jobs (λ jobs. 1 ≤ jobs) }
-    ensures { 0 < result }
-{
-    match jobs {
-        Some(jobs) => jobs,
-        None => processors(rt),
-    }
 }
 
 /// The numbers of the runs that are asked for.

@@ -1,6 +1,7 @@
 -- The properties of a listing (this project's own format).
 use Rattle.std.specs.Prelude.{◌≡◌, ℕ, ◌+◌, ◌==◌, Bool, not, if◌then◌else◌, List, [], ◌∷◌, ◌++◌}
-use Rattle.std.specs.Prelude.{length, drop, codes, bytes_eq, min, Option, Some, None, Result, Ok, Err}
+use Rattle.std.specs.Prelude.{length, drop, codes, bytes_eq, min, Option, Some, None, Result, Ok}
+use Rattle.std.specs.Prelude.{Err}
 use Rattle.std.specs.List.{before_first, after_first}
 use Rattle.cheri_model.specs.instructions.Tables.{found_at}
 use Rattle.cheri_model.specs.runs.Image.{ImageParts}

@@ -168,8 +168,8 @@ impl Reader<'_> {
 }
 
 /// The properties that a good listing carries, of which this is the image, by what may be named
-/// beside it, from the first line on. The first fault is reported; a listing without a property has one in line 0.
-/// Running out of memory says nothing of the listing.
+/// beside it, from the first line on. The first fault is reported; a listing without a property has
+/// one in line 0. Running out of memory says nothing of the listing.
 pub fn read_properties<'t>(
     alloc: Global,
     names: &Names<'_>,

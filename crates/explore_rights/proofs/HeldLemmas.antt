@@ -3,21 +3,21 @@ use Rattle.std.proofs.Common.{◌≡◌, ℕ, zero, suc, ◌+◌, ◌<◌, List,
 use Rattle.std.proofs.lemmas.Grind.{common_steps}
 use Rattle.std.specs.Prelude.{Bool, true, ◌||◌, slice_get, Some, if◌then◌else◌}
 use Rattle.std.specs.List.{list_all, list_any}
-use Rattle.std.proofs.lemmas.Bool.{cases_Bool}
+use Rattle.std.proofs.lemmas.Bool.{cases_Bool, and_parts, and_from}
 use Rattle.std.proofs.lemmas.Option.{none-some, same_Some}
 use Rattle.cap_model.specs.values.CapValue.{CapValue, tag_of}
 use Rattle.cheri_model.specs.steps.Hart.{HartState, register}
 use Rattle.explore_rights.specs.declared.rights.Rights.{Rights}
 use Rattle.explore_rights.specs.Rights.{rights_of, is_within}
 use Rattle.explore_rights.specs.Held.{Holds, held_by, bounds, is_kept, keeps_rights}
-use Rattle.explore_rights.proofs.RightsLemmas.{both_true, true_both, within_self, within_trans}
+use Rattle.explore_rights.proofs.RightsLemmas.{within_self, within_trans}
 
 all_get : (p : CapValue → Bool) (xs : List CapValue) (k : ℕ) (v : CapValue) → list_all p xs ≡ true →
     slice_get xs k ≡ Some v → p v ≡ true
 all_get p [] k v all is = absurd (none-some v is)
 all_get p (x ∷ xs) zero v all is =
-    subst (λ (y : CapValue). p y ≡ true) (same_Some x v is) (both_true (p x) (list_all p xs) all).0
-all_get p (x ∷ xs) (suc k) v all is = all_get p xs k v (both_true (p x) (list_all p xs) all).1 is
+    subst (λ (y : CapValue). p y ≡ true) (same_Some x v is) (and_parts (p x) (list_all p xs) all).0
+all_get p (x ∷ xs) (suc k) v all is = all_get p xs k v (and_parts (p x) (list_all p xs) all).1 is
 
 -- a value of the list that passes
 abbrev Passing : (CapValue → Bool) → List CapValue → Type 0
@@ -42,7 +42,7 @@ kept_any others v tagged kept =
 bounds_both : (r : Rights) (v : CapValue) → bounds r v ≡ true →
     (tag_of v ≡ true) × (is_within r (rights_of v) ≡ true)
 unfolding bounds
-bounds_both r v is = both_true (tag_of v) (is_within r (rights_of v)) is
+bounds_both r v is = and_parts (tag_of v) (is_within r (rights_of v)) is
 
 pub kept_within : (before after : HartState) (r : Rights) → keeps_rights before after ≡ true →
     Holds (held_by before) r → (s : Rights) × Holds (held_by after) s × (is_within r s ≡ true)
@@ -86,7 +86,7 @@ get_any p (x ∷ xs) (suc k) v is so = elim (cases_Bool (p x)) [
 
 both_bound : (r : Rights) (v : CapValue) → tag_of v ≡ true → is_within r (rights_of v) ≡ true → bounds r v ≡ true
 unfolding bounds
-both_bound r v tagged within = true_both (tag_of v) (is_within r (rights_of v)) tagged within
+both_bound r v tagged within = and_from (tag_of v) (is_within r (rights_of v)) tagged within
 
 pub bounding_any : (values : List CapValue) (r : Rights) → Holds values r → list_any (bounds r) values ≡ true
 bounding_any values r held =

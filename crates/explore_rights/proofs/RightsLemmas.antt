@@ -1,20 +1,12 @@
 -- How rights lie within others, and their order.
-use Rattle.std.proofs.Common.{◌≡◌, ◌≢◌, ℕ, ◌<◌, ◌≤◌, arith, ap, sym, ◌∙◌, refl, inl, inr, ◌⊎◌, nat_lt}
+use Rattle.std.proofs.Common.{◌≡◌, ◌≢◌, ℕ, ◌<◌, ◌≤◌, arith, ap, sym, ◌∙◌, inl, inr, ◌⊎◌, nat_lt}
 use Rattle.std.specs.Prelude.{Bool, true, false, ◌&&◌, ◌==◌, nat_le, bit_and, if◌then◌else◌}
 use Rattle.std.specs.Int.Bits.{and_self}
-use Rattle.std.proofs.lemmas.Bool.{cases_eq, cases_lt, cases_Bool}
+use Rattle.std.proofs.lemmas.Bool.{cases_eq, cases_lt, cases_Bool, and_parts, and_from}
 use Rattle.std.proofs.lemmas.Bool.Decides.{nat_tests}
 use Rattle.std.proofs.lemmas.Nat.{and_assoc}
 use Rattle.explore_rights.specs.declared.rights.Rights.{Rights}
 use Rattle.explore_rights.specs.Rights.{is_within, is_before}
-
-pub both_true : (a b : Bool) → (a && b) ≡ true → (a ≡ true) × (b ≡ true)
-both_true true b e = (refl, e)
-both_true false b e = absurd (cc)
-
-pub true_both : (a b : Bool) → a ≡ true → b ≡ true → (a && b) ≡ true
-true_both true b one two = two
-true_both false b one two = absurd (cc)
 
 pub true_false : (b : Bool) → b ≡ true → b ≡ false → ⊥
 true_false b yea nay = cc
@@ -55,8 +47,8 @@ pub record Lies (a b : Rights) : Type 0 where
 pub lies : (a b : Rights) → is_within a b ≡ true → Lies a b
 unfolding is_within
 lies a b t =
-    let outer = both_true (nat_le b.base a.base && nat_le a.top b.top) (bit_and a.perms.0 b.perms.0 == a.perms.0) t in
-    let inner = both_true (nat_le b.base a.base) (nat_le a.top b.top) outer.0 in
+    let outer = and_parts (nat_le b.base a.base && nat_le a.top b.top) (bit_and a.perms.0 b.perms.0 == a.perms.0) t in
+    let inner = and_parts (nat_le b.base a.base) (nat_le a.top b.top) outer.0 in
     record {
       base = le_of b.base a.base inner.0;
       top = le_of a.top b.top inner.1;
@@ -66,8 +58,8 @@ lies a b t =
 pub within_of : (a b : Rights) → Lies a b → is_within a b ≡ true
 unfolding is_within
 within_of a b h =
-    true_both (nat_le b.base a.base && nat_le a.top b.top) (bit_and a.perms.0 b.perms.0 == a.perms.0)
-    (true_both (nat_le b.base a.base) (nat_le a.top b.top) (of_le b.base a.base h.base) (of_le a.top b.top h.top))
+    and_from (nat_le b.base a.base && nat_le a.top b.top) (bit_and a.perms.0 b.perms.0 == a.perms.0)
+    (and_from (nat_le b.base a.base) (nat_le a.top b.top) (of_le b.base a.base h.base) (of_le a.top b.top h.top))
     (of_eq (bit_and a.perms.0 b.perms.0) a.perms.0 h.perms)
 
 pub within_self : (a : Rights) → is_within a a ≡ true

@@ -1,9 +1,10 @@
 -- A state that is asked for stays one by a step that is hidden.
 use Rattle.std.proofs.Common.{◌≡◌, ℕ, zero, suc, ◌+◌, ◌<◌, ◌≤◌, List, [], ◌∷◌, ◌++◌, length, take, slice_get, slice_set, ap, sym, ◌∙◌, refl, subst}
-use Rattle.std.specs.Prelude.{Bool, true, false, not, ◌&&◌, slice_index_or, Some}
+use Rattle.std.specs.Prelude.{Bool, true, false, not, slice_index_or, Some}
 use Rattle.std.proofs.lemmas.List.{take_all, take_more}
 use Rattle.std.specs.List.{list_all}
 use Rattle.std.proofs.lemmas.Option.{none-some, same_Some}
+use Rattle.std.proofs.lemmas.Bool.{and_parts}
 use Rattle.cheri_model.specs.runs.Machine.{MachineState}
 use Rattle.cheri_model.specs.steps.Hart.{HartState}
 use Rattle.conditions.specs.Holding.{holds}
@@ -50,10 +51,6 @@ keeps false watch before after state hart kind hidden here met =
     (hidden_keeps watch.condition after before (with_hart state hart after) hart hides_it
     (put_there state.harts hart before after here) now)) is_it)
 
-both_true : (a b : Bool) → (a && b) ≡ true → (a ≡ true) × (b ≡ true)
-both_true true b e = (refl, e)
-both_true false b e = absurd (cc)
-
 pub watch_keeps : (watch : Watch) (before after : HartState) (state : MachineState) (hart : ℕ) →
     hides watch before after ≡ true → slice_get state.harts hart ≡ Some before →
     is_met watch state ≡ true → is_met watch (with_hart state hart after) ≡ true
@@ -65,7 +62,7 @@ all_append : {X : Type 0} (test : X → Bool) (xs : List X) (x : X) → list_all
     list_all test (xs ++ x ∷ []) ≡ true
 all_append test [] x all so = rw so refl
 all_append test (y ∷ xs) x all so =
-    let parts = both_true (test y) (list_all test xs) all in
+    let parts = and_parts (test y) (list_all test xs) all in
     rw (parts.0, all_append test xs x parts.1 so) refl
 
 pub all_more : {X : Type 0} (test : X → Bool) (xs : List X) (i : ℕ) (d : X) → i < length xs → list_all test (take i xs) ≡ true →
@@ -86,8 +83,8 @@ pub one_of_all : {X : Type 0} (test : X → Bool) (xs : List X) (k : ℕ) (x : X
     slice_get xs k ≡ Some x → test x ≡ true
 one_of_all test [] k x all is = absurd (none-some x is)
 one_of_all test (y ∷ ys) zero x all is =
-    subst (λ z. test z ≡ true) (same_Some y x is) (both_true (test y) (list_all test ys) all).0
-one_of_all test (y ∷ ys) (suc k) x all is = one_of_all test ys k x (both_true (test y) (list_all test ys) all).1 is
+    subst (λ z. test z ≡ true) (same_Some y x is) (and_parts (test y) (list_all test ys) all).0
+one_of_all test (y ∷ ys) (suc k) x all is = one_of_all test ys k x (and_parts (test y) (list_all test ys) all).1 is
 
 pub watches_keep : (watches : List Watch) (number : ℕ) (watch : Watch) (before after : HartState)
     (state : MachineState) (hart : ℕ) → sights.hides (sight.Watches watches) before after ≡ true →

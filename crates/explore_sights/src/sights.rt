@@ -1,4 +1,5 @@
 //! What a question sees of a hart's steps.
+#![tactic(auto, unfolding(crate::specs::Sights::hides))]
 
 ghost use Rattle.std.specs.Prelude.{◌≡◌, IfOk};
 ghost use Rattle.explore_sights.specs.Sights.{hides};
@@ -16,8 +17,8 @@ pub enum Sight {
     EveryStep,
     /// No step, as a question on states in which no hart runs.
     NoStep,
-    /// A step that takes from a hart what the condition says of it, as a question on states in which
-    /// the condition holds.
+    /// A step that takes from a hart what the condition says of it, as a question on states in
+    /// which the condition holds.
     Condition(Condition),
     /// A step that may end that a state is one of those that some question asks for.
     Watches(Watches),
@@ -28,7 +29,6 @@ pub enum Sight {
 
 impl Sight {
     /// Whether nothing is seen of the step between these two states of a hart.
-    #[tactic(auto, unfolding(crate::specs::Sights::hides))]
     pub fn hides(&self, before: &Hart, after: &Hart) -> bool
         ensures { result ≡ hides self.now before.now after.now }
     {

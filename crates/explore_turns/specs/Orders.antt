@@ -1,5 +1,6 @@
 -- Turns as orders of operations: each step of a turn is one of the order.
-use Rattle.std.specs.Prelude.{◌≡◌, ◌<◌, Bool, ℕ, suc, length, slice_get, List, [], ◌∷◌, ◌++◌, replicate, Option, Some, None}
+use Rattle.std.specs.Prelude.{◌≡◌, ◌<◌, Bool, ℕ, suc, length, slice_get, List, [], ◌∷◌, ◌++◌}
+use Rattle.std.specs.Prelude.{replicate, Option, Some, None}
 use Rattle.cheri_model.specs.declared.instr.Instr.{Instr}
 use Rattle.cheri_model.specs.declared.operation.Op.{Op}
 use Rattle.cheri_model.specs.declared.operation.Op.TheVariants as operation
@@ -42,8 +43,8 @@ turns_from image sweeps sight state (op ∷ ops) =
     ++ turns_from image sweeps sight (rest_by image sweeps sight (state_after_one image state op))
     ops)
 
--- The operations of turns from the opening state, where these are the first ones of each turn: before
--- them are the quiet steps of that state.
+-- The operations of turns from the opening state, where these are the first ones of each turn:
+-- before them are the quiet steps of that state.
 unfoldable pub order_of_turns : ImageParts → List SweepRange → Sight → List Op → List Op
 order_of_turns image sweeps sight ops =
     quiet_order image sweeps sight 0 (opening_state image).harts

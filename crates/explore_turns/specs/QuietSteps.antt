@@ -1,5 +1,5 @@
--- Quiet steps: those that no other hart, no sweep and no question can see. What a question sees of a
--- step is a test of the hart before and after it, true where it sees nothing.
+-- Quiet steps: those that no other hart, no sweep and no question can see. What a question sees of
+-- a step is a test of the hart before and after it, true where it sees nothing.
 use Rattle.std.specs.Prelude.{ℕ, zero, suc, ◌==◌, Bool, true, false, not, ◌&&◌, if◌then◌else◌}
 use Rattle.std.specs.List.{list_all}
 use Rattle.std.specs.Prelude.{List, [], length, Option, Some, None, unwrap_or, Result, Ok, Err}
@@ -48,8 +48,8 @@ own_step program hart = (hart_step program hart []).hart
 abbrev pub is_whole : List SweepRange → HartState → Bool
 is_whole sweeps hart = list_all (λ range. cleared_in_hart range.lo range.hi hart == 0) sweeps
 
--- the hart runs, and its next step asks for no access, changes nothing that a sweep would, and isn't
--- seen
+-- the hart runs, and its next step asks for no access, changes nothing that a sweep would, and
+-- isn't seen
 unfoldable pub is_quiet : List Instr → List SweepRange → (HartState → HartState → Bool) → HartState
     → Bool
 is_quiet program sweeps hides hart =
@@ -65,8 +65,8 @@ come program sweeps hides (suc k) hart =
     if is_quiet program sweeps hides hart
     then come program sweeps hides k (own_step program hart) else Some hart
 
--- The hart at its rest: after its quiet steps, where there are at most so many. Where there are more,
--- it rests where it is.
+-- The hart at its rest: after its quiet steps, where there are at most so many. Where there are
+-- more, it rests where it is.
 unfoldable pub rest : List Instr → List SweepRange → (HartState → HartState → Bool) → ℕ → HartState
     → HartState
 rest program sweeps hides most hart = unwrap_or (come program sweeps hides most hart) hart

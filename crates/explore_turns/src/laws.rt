@@ -13,7 +13,14 @@ ghost use Rattle.cheri_model.specs.steps.HartStep.{hart_step};
 ghost use Rattle.explore_turns.specs.QuietSteps.{asks_memory, own_step, rest};
 ghost use Rattle.explore_sights.specs.Sights.{hides};
 ghost use Rattle.explore_turns.specs.Orders.{order_of_turns};
-ghost use Rattle.explore_turns.specs.Turns.{KeepsPassing, has_harts_of, rest_by, rest_of, start_by, turn_by};
+ghost use Rattle.explore_turns.specs.Turns.{
+  KeepsPassing,
+  has_harts_of,
+  rest_by,
+  rest_of,
+  start_by,
+  turn_by,
+};
 ghost use Rattle.graph_search.specs.Walks.{IsReachable, IsWalk};
 ghost use Rattle.graph_merging.specs.Merging.{IsMerging};
 ghost use Rattle.schedules.specs.declared.ranges.SweepRange.{SweepRange};

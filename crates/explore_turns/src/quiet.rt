@@ -2,7 +2,14 @@
 
 ghost use Rattle.std.specs.Prelude.{◌≡◌, Some, None, false, if◌then◌else◌};
 ghost use Rattle.explore_sights.specs.Sights.{hides};
-ghost use Rattle.explore_turns.specs.QuietSteps.{asks_memory, is_access, is_quiet, is_whole, own_step, rest};
+ghost use Rattle.explore_turns.specs.QuietSteps.{
+  asks_memory,
+  is_access,
+  is_quiet,
+  is_whole,
+  own_step,
+  rest,
+};
 ghost use Rattle.instructions.specs.Actions.{action_of};
 
 use cheri_model::{Instr, Status};

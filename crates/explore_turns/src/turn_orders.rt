@@ -1,6 +1,17 @@
 //! The orders of turns: each step of a turn is one of the order.
 
-ghost use Rattle.std.specs.Prelude.{◌≡◌, ◌<◌, ◌++◌, ℕ, length, map, replicate, Some, slice_get, IfOk};
+ghost use Rattle.std.specs.Prelude.{
+  ◌≡◌,
+  ◌<◌,
+  ◌++◌,
+  ℕ,
+  length,
+  map,
+  replicate,
+  Some,
+  slice_get,
+  IfOk,
+};
 ghost use Rattle.cheri_model.specs.runs.Machine.{opening_state, state_after_one};
 ghost use Rattle.cheri_model.specs.runs.Sweeps.{swept_hart};
 ghost use Rattle.explore_sights.specs.Sights.{hides};

@@ -20,7 +20,6 @@ pub struct Decision<'a> {
 
 impl Decision<'_> {
     /// Whether this one does.
-    #[tactic(auto, unfolding(crate::specs::Deciding::decides))]
     fn is_made_in<V: StateView>(&self, view: &V) -> bool
         ensures { result ≡ decides self.now.when self.now.condition.now (V.state view.now) }
     {

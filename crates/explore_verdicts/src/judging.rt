@@ -87,8 +87,8 @@ fn violated_by(alloc: Global, lasso: &Lasso) -> Result<Verdict, AllocError>
     }))
 }
 
-/// The verdict on whether every run ends, or every run in which each hart is let on. Fails only when
-/// out of memory.
+/// The verdict on whether every run ends, or every run in which each hart is let on. Fails only
+/// when out of memory.
 pub fn judge_ends(alloc: Global, endless: &Endless, fairly: bool) -> Result<Verdict, AllocError>
     ensures { IfOk result (IsEndsVerdict fairly endless.now) }
 {

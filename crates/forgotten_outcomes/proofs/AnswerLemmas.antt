@@ -1,6 +1,7 @@
 -- What was found is an answer.
 use Rattle.std.proofs.Common.{◌≡◌, ℕ, List, [], Bool, true, Option, Result, Ok, Err, IfOk, IfErr, refl, sym, ap, ◌∙◌, subst}
 use Rattle.std.specs.Prelude.{Some, slice_get}
+use Rattle.std.proofs.lemmas.Bool.{eq-eqb}
 use Rattle.std.proofs.lemmas.Option.{slice_get_within}
 use Rattle.asked_registers.specs.Asked.{HasAsked, items_ask}
 use Rattle.cheri_model.specs.runs.Image.{ImageParts}
@@ -9,11 +10,14 @@ use Rattle.cheri_model.specs.runs.Replay.{replayed_state}
 use Rattle.conditions.specs.Items.{ItemList}
 use Rattle.conditions.specs.declared.parts.Shown.{Shown}
 use Rattle.forgotten_runs.specs.ForgottenRuns.{forgotten_state}
-use Rattle.forgotten_states.proofs.SurveyLemmas.{all_there_ungrouped}
+use Rattle.forgotten_states.proofs.SurveyLemmas.{all_there}
 use Rattle.forgotten_states.specs.Surveys.{IsSurvey, SurveyParts, at, count}
-use Rattle.graph_search.specs.Trees.{IsFound}
-use Rattle.hart_order.specs.Arrangements.{IsUngrouped}
+use Rattle.hart_order.specs.Arrangements.{IsUngrouped, group_of}
+use Rattle.hart_order.specs.GroupedTurns.{keeps_number}
+use Rattle.hart_symmetry.specs.Named.{NamedStay}
+use Rattle.hart_symmetry.specs.Renaming.{IsRenaming}
 use Rattle.live_registers.specs.LiveSets.{LiveSets}
+use Rattle.named_items.specs.NamedItems.{items_name}
 use Rattle.outcomes.proofs.RestLemmas.{final_rests}
 use Rattle.outcomes.specs.Items.{values_of}
 use Rattle.outcomes.specs.Outcomes.{AreOutcomesBelow, is_final}
@@ -31,7 +35,7 @@ use Rattle.sinks.specs.declared.fault.WriteFault.{WriteFault}
 use Rattle.sinks.specs.declared.fault.WriteFault.TheVariants.{Write, NoMemory}
 use Rattle.state_loops.specs.declared.endless.Endless.{Endless}
 use Rattle.states.specs.Searches.{SearchParts}
-use Rattle.forgotten_outcomes.proofs.ForgetLemmas.{final_same, values_same}
+use Rattle.forgotten_outcomes.proofs.ForgetLemmas.{final_renamed, final_same, values_renamed, values_same}
 use Rattle.forgotten_outcomes.proofs.ToldLemmas.{told_at, values_left}
 use Rattle.forgotten_outcomes.specs.ShownStates.{AreAllShown, AreFinalRows, AreRowsTold, IsReducedShownAnswer, IsRowTold, IsSurveyed}
 
@@ -41,24 +45,34 @@ pub rows_final : {X : Type 0} (survey : SurveyParts) (value : ℕ → X) (number
 rows_final survey value numbers rows are distinct k row is =
     let first = (distinct.each k row is).listed in are.each first.0 row.first first.1
 
+-- where no hart is of a group each that items name stays
+pub none_moves : (groups : List ℕ) (items : List Shown) → IsUngrouped groups → NamedStay (keeps_number groups) (items_name items)
+none_moves groups items none hart names = eq-eqb (group_of groups hart) 0 (none hart)
+
 -- ---- each final state has a row
 
 module _ (survey : SurveyParts) (is : IsSurvey survey) (items : List Shown) (asked : HasAsked survey.live.asked (items_ask items))
-    (ungrouped : IsUngrouped survey.groups) (numbers : List ℕ) (rows : List Row) (told : List ShownRow)
+    (named : NamedStay (keeps_number survey.groups) (items_name items)) (numbers : List ℕ) (rows : List Row) (told : List ShownRow)
     (outcomes : AreOutcomesBelow (at survey) (count survey) numbers)
     (distinct : AreRows (values_at (at survey) items) numbers rows) (are : AreRowsTold survey items rows told) where
-  -- what items hold in a node is what they hold in a state that forgets to be it
-  node_values : (number : ℕ) (s : MachineState) → at survey number ≡ Some (forgotten_state survey.live s) →
+  -- a node that a state forgets to be, in some order of harts of a group
+  abbrev IsLike : MachineState → MachineState → Type 0
+  IsLike s r = IsRenaming (keeps_number survey.groups) (forgotten_state survey.live s) r
+
+  -- what items hold in such a node is what they hold in the state
+  node_values : (number : ℕ) (s r : MachineState) → IsLike s r → at survey number ≡ Some r →
       values_at (at survey) items number ≡ values_of items s
   unfolding values_at
-  node_values number s there =
+  node_values number s r like there =
       ap (λ (o : Option MachineState). values_of items (state_meant o)) there
-      ∙ values_same survey.image.program survey.live is.right s items asked
+      ∙ (values_renamed (keeps_number survey.groups) items named (forgotten_state survey.live s) r like
+      ∙ values_same survey.image.program survey.live is.right s items asked)
 
   -- what was told of a row is what items hold in its first node
   told_values : (row : Row) (t : ShownRow) → IsRowTold survey items row t → t.values.items ≡ values_at (at survey) items row.first
   told_values row t of_row =
-      of_row.values ∙ sym (values_left survey items row.first of_row.node of_row.order is asked ungrouped of_row.there of_row.leads)
+      of_row.values
+      ∙ sym (values_left survey items row.first of_row.node of_row.order is asked (λ hart names. named hart names) of_row.there of_row.leads)
 
   row_shown : (k : ℕ) (row : Row) (values : List ItemValue) → slice_get rows k ≡ Some row →
       values_at (at survey) items row.first ≡ values →
@@ -67,22 +81,24 @@ module _ (survey : SurveyParts) (is : IsSurvey survey) (items : List Shown) (ask
       let shown = told_at survey items rows told k row are there in
       (k, shown.0, shown.1, told_values row shown.0 shown.2 ∙ same)
 
-  -- of the state of a node in which no hart runs
-  node_shown : (number : ℕ) (s : MachineState) → at survey number ≡ Some (forgotten_state survey.live s) → is_final s ≡ true →
+  -- of the node of a state in which no hart runs
+  node_shown : (number : ℕ) (s r : MachineState) → IsLike s r → at survey number ≡ Some r → is_final s ≡ true →
       (k : ℕ) × (row : ShownRow) × (slice_get told k ≡ Some row) × (row.values.items ≡ values_of items s)
-  node_shown number s there final =
-      let below = slice_get_within survey.states number (forgotten_state survey.live s) there in
-      let one = outcomes.all number (forgotten_state survey.live s) below there (final_same survey.live s ∙ final) in
+  node_shown number s r like there final =
+      let below = slice_get_within survey.states number r there in
+      let stopped = final_renamed (keeps_number survey.groups) (forgotten_state survey.live s) r like
+      ∙ (final_same survey.live s ∙ final) in
+      let one = outcomes.all number r below there stopped in
       let row = distinct.all one.0 number one.1 in
-      row_shown row.0 row.1 (values_of items s) row.2 (row.3 ∙ node_values number s there)
+      row_shown row.0 row.1 (values_of items s) row.2 (row.3 ∙ node_values number s r like there)
 
   pub all_shown : survey.complete ≡ true → AreAllShown survey.image items told
   all_shown done order allowed legal final =
       let s = replayed_state survey.image order in
-      let found : IsFound (at survey) (forgotten_state survey.live s) =
-      subst (λ (t : MachineState). IsFound (at survey) (forgotten_state survey.live t))
-      (final_rests survey.image [] survey.sight s final) (all_there_ungrouped survey is done order allowed legal ungrouped) in
-      node_shown found.0 s found.1 final
+      let there = all_there survey is done order allowed legal in
+      let like : IsLike s there.0 =
+      subst (λ (t : MachineState). IsLike t there.0) (final_rests survey.image [] survey.sight s final) there.1 in
+      node_shown there.2.0 s there.0 like there.2.1 final
 
 -- ---- of lists as slices
 
@@ -124,8 +140,8 @@ reduced_said search live groups items format survey endless told numbers rows sh
       distinct = distinct;
       shown_rows = shown_rows;
       told = rows_told;
-      all = all_shown survey surveyed.nodes items.shown asked_there ungrouped_there numbers rows shown_rows surveyed.outcomes
-          distinct rows_told;
+      all = all_shown survey surveyed.nodes items.shown asked_there (none_moves survey.groups items.shown ungrouped_there) numbers rows
+          shown_rows surveyed.outcomes distinct rows_told;
       text_is =
           rw (forgot, complete_is, image_is, states_are, told_is, names_are)
           (sym (reduced_is format items.names survey.complete survey.image (count survey) endless outcomes shown_rows));

@@ -9,10 +9,11 @@ use Rattle.cheri_model.specs.runs.Machine.{MachineState}
 use Rattle.cheri_model.specs.runs.Replay.{replayed_state}
 use Rattle.conditions.specs.declared.parts.Shown.{Shown}
 use Rattle.forgotten_runs.specs.ForgottenRuns.{forgotten_state}
-use Rattle.forgotten_states.proofs.SurveyLemmas.{order_leads_ungrouped}
 use Rattle.forgotten_states.specs.Sought.{IsOrderTo}
 use Rattle.forgotten_states.specs.Surveys.{IsSurvey, SurveyParts, at, count}
-use Rattle.hart_order.specs.Arrangements.{IsUngrouped}
+use Rattle.hart_order.specs.GroupedTurns.{keeps_number}
+use Rattle.hart_symmetry.specs.Named.{NamedStay}
+use Rattle.named_items.specs.NamedItems.{items_name}
 use Rattle.order_texts.specs.OrderTexts.{order_text}
 use Rattle.outcomes.specs.Items.{values_of}
 use Rattle.outcomes.specs.Outcomes.{is_final}
@@ -21,34 +22,39 @@ use Rattle.outcomes.specs.declared.rows.Row.{Row}
 use Rattle.outcome_texts.specs.declared.told.ShownRow.{ShownRow}
 use Rattle.shown_states.specs.Meant.{state_meant}
 use Rattle.forgotten_outcomes.specs.ShownStates.{AreFinalRows, AreRowsTold, IsRowTold}
-use Rattle.forgotten_outcomes.proofs.ForgetLemmas.{final_same, values_same}
+use Rattle.forgotten_outcomes.proofs.ForgetLemmas.{final_renamed, final_same, values_renamed, values_same}
 
--- what the state that an order leaves forgets to be is the node, where no hart is of a group
-left_is : (survey : SurveyParts) (node : MachineState) (order : List Op) → IsUngrouped survey.groups →
-    IsOrderTo survey.image survey.sight survey.live survey.groups node order →
-    forgotten_state survey.live (replayed_state survey.image order) ≡ node
-left_is survey node order ungrouped to =
-    order_leads_ungrouped survey.image survey.sight survey.live survey.groups node order ungrouped to
-
--- what items hold in the node of a number is what they hold in the state that its order leaves
+-- what items hold in the node of a number is what they hold in the state that its order leaves, where
+-- each hart that they name keeps its number
 pub values_left : (survey : SurveyParts) (items : List Shown) (number : ℕ) (node : MachineState) (order : List Op) → IsSurvey survey →
-    HasAsked survey.live.asked (items_ask items) → IsUngrouped survey.groups → at survey number ≡ Some node →
-    IsOrderTo survey.image survey.sight survey.live survey.groups node order →
+    HasAsked survey.live.asked (items_ask items) → NamedStay (keeps_number survey.groups) (items_name items) →
+    at survey number ≡ Some node → IsOrderTo survey.image survey.sight survey.live survey.groups node order →
     values_at (at survey) items number ≡ values_of items (replayed_state survey.image order)
 unfolding values_at
-values_left survey items number node order is asked ungrouped there to =
-    ap (λ (s : MachineState). values_of items s) (ap state_meant there ∙ sym (left_is survey node order ungrouped to))
-    ∙ values_same survey.image.program survey.live is.right (replayed_state survey.image order) items asked
+values_left survey items number node order is asked named there to =
+    let left = replayed_state survey.image order in
+    ap (λ (s : MachineState). values_of items s) (ap state_meant there)
+    ∙ (values_renamed (keeps_number survey.groups) items named (forgotten_state survey.live left) node to.leads
+    ∙ values_same survey.image.program survey.live is.right left items asked)
+
+-- no hart runs in the state that the order leaves, as none does in its node
+pub final_left : (survey : SurveyParts) (node : MachineState) (order : List Op) →
+    IsOrderTo survey.image survey.sight survey.live survey.groups node order → is_final node ≡ true →
+    is_final (replayed_state survey.image order) ≡ true
+final_left survey node order to final =
+    let left = replayed_state survey.image order in
+    sym (final_same survey.live left)
+    ∙ (sym (final_renamed (keeps_number survey.groups) (forgotten_state survey.live left) node to.leads) ∙ final)
 
 -- a row is told by the values and the order of its first node
 pub row_is : (survey : SurveyParts) (items : List Shown) (row : Row) (told : ShownRow) (order : List Op) → IsSurvey survey →
-    HasAsked survey.live.asked (items_ask items) → IsUngrouped survey.groups → row.first < count survey →
-    ((s : MachineState) → at survey row.first ≡ Some s → is_final s ≡ true) →
+    HasAsked survey.live.asked (items_ask items) → NamedStay (keeps_number survey.groups) (items_name items) →
+    row.first < count survey → ((s : MachineState) → at survey row.first ≡ Some s → is_final s ≡ true) →
     ((s : MachineState) → at survey row.first ≡ Some s →
     IsOrderTo survey.image survey.sight survey.live survey.groups s order) →
     told.values.items ≡ values_at (at survey) items row.first → string_bytes told.order ≡ order_text order →
     IsRowTold survey items row told
-row_is survey items row told order is asked ungrouped below final leads values_are text_is =
+row_is survey items row told order is asked named below final leads values_are text_is =
     let meant = is.nodes.meant row.first below in
     let to = leads meant.0 meant.1 in
     record {
@@ -56,9 +62,8 @@ row_is survey items row told order is asked ungrouped below final leads values_a
       there = meant.1;
       order = order;
       leads = to;
-      final = sym (final_same survey.live (replayed_state survey.image order))
-          ∙ (ap is_final (left_is survey meant.0 order ungrouped to) ∙ final meant.0 meant.1);
-      values = values_are ∙ values_left survey items row.first meant.0 order is asked ungrouped meant.1 to;
+      final = final_left survey meant.0 order to (final meant.0 meant.1);
+      values = values_are ∙ values_left survey items row.first meant.0 order is asked (λ hart names. named hart names) meant.1 to;
       text_is = text_is;
     }
 

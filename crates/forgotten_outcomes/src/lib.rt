@@ -7,3 +7,5 @@ mod searching;
 mod told;
 
 pub use answers::{Manner, show_states};
+pub use searching::Nodes;
+pub use told::rows_told;

@@ -21,7 +21,7 @@ use std::alloc::{AllocError, Global};
 
 /// The states of a survey by their numbers.
 #[derive(Clone, Copy)]
-pub(crate) struct Nodes<'a> {
+pub struct Nodes<'a> {
     pub survey: &'a Survey<'a>,
 }
 

@@ -5,7 +5,9 @@ ghost use Rattle.asked_registers.specs.Asked.{HasAsked, items_ask};
 ghost use Rattle.cheri_model.specs.runs.Machine.{MachineState};
 ghost use Rattle.forgotten_outcomes.specs.ShownStates.{AreFinalRows, AreRowsTold, IsRowTold};
 ghost use Rattle.forgotten_states.specs.Surveys.{at, count};
-ghost use Rattle.hart_order.specs.Arrangements.{IsUngrouped};
+ghost use Rattle.hart_order.specs.GroupedTurns.{keeps_number};
+ghost use Rattle.hart_symmetry.specs.Named.{NamedStay};
+ghost use Rattle.named_items.specs.NamedItems.{items_name};
 ghost use Rattle.outcomes.specs.Outcomes.{is_final};
 
 use crate::searching::Nodes;
@@ -25,7 +27,7 @@ fn row_told(
     row: Row,
 ) -> Result<ShownRow, NoMemory>
     requires asked { HasAsked survey.now.live.asked (items_ask shown.now) }
-    requires ungrouped { IsUngrouped survey.now.groups }
+    requires named { NamedStay (keeps_number survey.now.groups) (items_name shown.now) }
     requires there { row.first < count survey.now }
     requires stopped { (s : MachineState) → at survey.now row.first ≡ Some s → is_final s ≡ true }
     ensures { IfOk result (IsRowTold survey.now shown.now row) }
@@ -43,15 +45,16 @@ fn row_told(
     })
 }
 
-/// Rows with their values and their orders, one by one. Fails only when out of memory.
-pub(crate) fn rows_told(
+/// Rows with their values and their orders, one by one, where each hart that items name keeps its
+/// number. Fails only when out of memory.
+pub fn rows_told(
     alloc: Global,
     survey: &Survey<'_>,
     shown: &[Shown],
     rows: &[Row],
 ) -> Result<Vec<ShownRow>, NoMemory>
     requires asked { HasAsked survey.now.live.asked (items_ask shown.now) }
-    requires ungrouped { IsUngrouped survey.now.groups }
+    requires named { NamedStay (keeps_number survey.now.groups) (items_name shown.now) }
     requires rows { AreFinalRows survey.now rows.now }
     ensures { IfOk result (λ told. AreRowsTold survey.now shown.now rows.now told.items) }
 {

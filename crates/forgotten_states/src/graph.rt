@@ -86,6 +86,13 @@ impl<'a> ForgottenGraph<'a> {
         }
     }
 
+    /// The graph in which no hart forgets, of which its states are states.
+    pub fn machine(&self) -> &MachineGraph
+        ensures { result.now ≡ self.now.graph }
+    {
+        &self.graph
+    }
+
     /// What the graph knows of its states.
     pub fn store(&self) -> &Store
         ensures { result.now ≡ self.now.graph.store }

@@ -8,9 +8,11 @@ pub mod laws;
 mod nodes;
 mod replaying;
 mod seeking;
+mod survey_rows;
 mod surveying;
 mod surveys;
 
 pub use seeking::{Matters, Sought, seek};
+pub use survey_rows::SurveyRows;
 pub use surveying::survey;
 pub use surveys::{Looped, Survey};

@@ -1,3 +1,4 @@
+pub mod Unfold
 pub mod RunLemmas
 pub mod ReplayLemmas
 pub mod FoundLemmas

@@ -40,7 +40,6 @@ fn absent_joint(complete: bool) -> &'static str
 }
 
 /// The lines.
-#[tactic(auto, unfolding(crate::specs::FoundTexts::absent_line))]
 fn absent_lines(
     alloc: Global,
     left_out: Option<LeftOut>,
@@ -58,7 +57,6 @@ fn absent_lines(
 }
 
 /// The object where nothing was left out.
-#[tactic(auto, unfolding(crate::specs::FoundTexts::absent_data))]
 fn plain_json(alloc: Global, complete: bool, image: &Image, states: u32) -> Result<Value, NoMemory>
     ensures { IfOk result (λ v. data_of v ≡ absent_data complete image.now states) }
 {
@@ -71,7 +69,6 @@ fn plain_json(alloc: Global, complete: bool, image: &Image, states: u32) -> Resu
 }
 
 /// The object where something was.
-#[tactic(auto, unfolding(crate::specs::ReducedTexts::reduced_absent_data))]
 fn reduced_json(
     alloc: Global,
     left_out: LeftOut,
@@ -108,7 +105,6 @@ fn absent_json(
 }
 
 /// The object's line.
-#[tactic(auto, using(crate::proofs::FoundLemmas::absent_no_float))]
 fn json_line(
     alloc: Global,
     left_out: Option<LeftOut>,

@@ -4,7 +4,6 @@ ghost use Rattle.std.specs.Prelude.{◌≡◌, if◌then◌else◌, []};
 ghost use Rattle.found_texts.specs.ReducedTexts.{reduced_line};
 
 /// The line of it, where they were; else nothing.
-#[tactic(auto, unfolding(crate::specs::ReducedTexts::reduced_line))]
 pub fn reduced_line(reduced: bool) -> &'static str
     ensures { result.now ≡ (if reduced then reduced_line else []) }
 {

@@ -40,7 +40,7 @@ fn take_steps(image: &Image, harts: &mut [Hart], ram: &mut Ram, order: &[Op])
 }
 
 /// The state that an order of steps leaves, however many there are. Fails only when out of memory.
-pub(crate) fn replayed(alloc: Global, image: &Image, order: &[Op]) -> Result<Loaded, NoMemory>
+pub fn replayed(alloc: Global, image: &Image, order: &[Op]) -> Result<Loaded, NoMemory>
     requires allowed { AreAllowed [] order.now }
     requires legal { is_legal image.now (opening_state image.now) order.now ≡ true }
     ensures { IfOk result (λ state. state ≡ replayed_state image.now order.now) }

@@ -22,7 +22,6 @@ use shown_states::{Format, Loaded, write_json_string, write_state};
 use std::alloc::Global;
 
 /// Appends the lines before the state.
-#[tactic(auto, unfolding(crate::specs::FoundTexts::found_line))]
 fn write_text_head(
     alloc: Global,
     out: &mut String,
@@ -39,7 +38,6 @@ fn write_text_head(
 }
 
 /// Appends the members up to the image.
-#[tactic(auto, using(report_lines::proofs::JsonLemmas::floatless))]
 fn write_image_members(
     alloc: Global,
     out: &mut String,
@@ -68,7 +66,6 @@ fn order_text(alloc: Global, order: &[Op]) -> Result<String, NoMemory>
 }
 
 /// Appends the member of the order.
-#[tactic(auto, unfolding(crate::specs::FoundParts::order_member))]
 fn write_order_member(alloc: Global, out: &mut String, order: &[Op]) -> Result<(), NoMemory>
     ensures { OnOk result (string_bytes out.new ≡ string_bytes out.old ++ order_member order.now) }
 {

@@ -45,7 +45,6 @@ fn words_json(alloc: Global, words: &[String]) -> Result<Value, NoMemory>
 }
 
 /// The list in JSON that says the same. Fails only when out of memory.
-#[tactic(auto, unfolding(crate::specs::ReducedTexts::reduced_data))]
 pub fn reduced_value(alloc: Global, left_out: LeftOut) -> Result<Value, NoMemory>
     ensures { IfOk result (λ value. data_of value ≡ reduced_data left_out) }
 {
@@ -70,7 +69,6 @@ pub fn write_reduced_line(
 }
 
 /// Appends the list as a member of an object in JSON, after a comma.
-#[tactic(auto, using(crate::proofs::DataLemmas::reduced_no_float))]
 fn write_member(alloc: Global, out: &mut String, left_out: LeftOut) -> Result<(), NoMemory>
     ensures { OnOk result (string_bytes out.new
         ≡ string_bytes out.old ++ reduced_member left_out) }

@@ -32,7 +32,6 @@ fn write_harts(out: &mut String, groups: &HartGroups, group: u8) -> Result<(), N
 }
 
 /// The word for a group.
-#[tactic(auto, unfolding(crate::specs::ReducedTexts::group_word))]
 fn group_word(alloc: Global, groups: &HartGroups, group: u8) -> Result<String, NoMemory>
     ensures { IfOk result (λ word. string_bytes word ≡ group_word groups.now group) }
 {

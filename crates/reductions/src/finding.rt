@@ -50,7 +50,6 @@ fn asked_by(keeps: bool, asked: RegisterSet) -> RegisterSet
 }
 
 /// The groups of harts that may change places.
-#[tactic(auto, using(explore_turns::proofs::ImageSizes::harts_few))]
 fn groups_by(keeps: bool, image: &Image, named: &HartSet) -> HartGroups
     ensures { IsGroupedBy keeps image.now named.now result }
 {

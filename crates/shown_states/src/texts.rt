@@ -1,4 +1,5 @@
 //! The harts and the granules of a state as they are shown, as text and in JSON.
+#![tactic(auto, using(crate::proofs::Rulesets::texts), unfolding(crate::proofs::Unfold::texts))]
 
 ghost use Rattle.std.specs.Prelude.{◌≡◌, ◌++◌, OnOk, codes, string_bytes};
 ghost use Rattle.report_lines.specs.Lines.{granule_line};
@@ -43,7 +44,6 @@ fn states_word(complete: bool) -> &'static str
 }
 
 /// Appends the line of how many states were kept, and whether these are all.
-#[tactic(auto, unfolding(crate::specs::StateTexts::states_line))]
 pub fn write_states_line(out: &mut String, complete: bool, states: u32) -> Result<(), NoMemory>
     ensures { OnOk result (string_bytes out.new
         ≡ string_bytes out.old ++ states_line complete states) }
@@ -64,7 +64,6 @@ fn write_registers(out: &mut String, hart: &Hart) -> Result<(), NoMemory>
 }
 
 /// Appends the lines of a hart.
-#[tactic(auto, unfolding(reports::specs::Report::hart_lines))]
 fn write_hart(out: &mut String, number: usize, hart: &Hart) -> Result<(), NoMemory>
     ensures { OnOk result (string_bytes out.new
         ≡ string_bytes out.old ++ hart_lines number hart.now) }
@@ -106,7 +105,6 @@ fn write_state_lines(out: &mut String, state: &Loaded) -> Result<(), NoMemory>
 }
 
 /// Appends the member of the harts.
-#[tactic(auto, using(crate::proofs::JsonLemmas::harts_no_float))]
 fn write_harts_member(alloc: Global, out: &mut String, harts: &[Hart]) -> Result<(), NoMemory>
     ensures { OnOk result (string_bytes out.new ≡ string_bytes out.old
         ++ (codes "\"harts\":" ++ compact_text (harts_data harts.now))) }
@@ -116,7 +114,6 @@ fn write_harts_member(alloc: Global, out: &mut String, harts: &[Hart]) -> Result
 }
 
 /// Appends the member of the granules, after another.
-#[tactic(auto, using(crate::proofs::JsonLemmas::memory_no_float))]
 fn write_memory_member(alloc: Global, out: &mut String, ram: &Ram) -> Result<(), NoMemory>
     ensures { OnOk result (string_bytes out.new ≡ string_bytes out.old
         ++ (codes ",\"mem\":" ++ compact_text (memory_data ram.now))) }
@@ -126,7 +123,6 @@ fn write_memory_member(alloc: Global, out: &mut String, ram: &Ram) -> Result<(),
 }
 
 /// Appends the members of the harts and of the granules.
-#[tactic(auto, unfolding(crate::specs::StateTexts::state_members))]
 fn write_state_members(alloc: Global, out: &mut String, state: &Loaded) -> Result<(), NoMemory>
     ensures { OnOk result (string_bytes out.new
         ≡ string_bytes out.old ++ state_members state.now) }

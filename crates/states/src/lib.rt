@@ -15,6 +15,7 @@ mod sweeping;
 
 pub use graph::{MAX_SWEEPS, MachineGraph};
 pub use kept::{Kept, Searched};
+pub use locals::site_of;
 pub use passing::StateTest;
 pub use room::Room;
 pub use search::{Found, Search, find_from, search_from};

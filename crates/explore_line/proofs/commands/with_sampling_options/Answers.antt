@@ -1,7 +1,6 @@
-use Rattle.std.proofs.Common.{◌≡◌, ◌∙◌, ◌||◌, false, ap₂, refl}
+use Rattle.std.proofs.Common.{◌∙◌, ◌||◌, ap₂, refl}
 use Rattle.std.proofs.lemmas.Result.{IfOk-weaker}
-use Rattle.clap.specs.Words.{app_of, with_rule}
-use Rattle.command_line.specs.Arguments.{has_globals}
+use Rattle.clap.specs.Words.{with_rule}
 use Rattle.explore_line.proofs.commands.with_sampling_options.Goals as goal
 
 pub returns-clause-app : goal.returns-clause-app

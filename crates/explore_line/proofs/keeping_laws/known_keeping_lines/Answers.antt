@@ -27,6 +27,10 @@ pub returns-clause-outcomes_keeping : goal.returns-clause-outcomes_keeping
 unfolding clap_on_literals explore_asked explore_asked_of search_asked_of question_of sweep_of sweeps_of decimal_within number_in number_of
 returns-clause-outcomes_keeping c = refl
 
+pub returns-clause-authority_keeping : goal.returns-clause-authority_keeping
+unfolding clap_on_literals explore_asked explore_asked_of search_asked_of question_of sweep_of sweeps_of decimal_within number_in number_of
+returns-clause-authority_keeping c = refl
+
 pub returns-clause-check_keeping : goal.returns-clause-check_keeping
 unfolding clap_on_literals explore_asked explore_asked_of search_asked_of question_of sweep_of sweeps_of decimal_within number_in number_of
 returns-clause-check_keeping c = refl

@@ -7,9 +7,9 @@ use Rattle.explore_line.specs.Sweeps.{sweeps_of}
 use Rattle.explore_sweeps.specs.Sweeps.{sweep_of}
 use Rattle.explore_line.proofs.keeping_laws.wrong_keeping_lines.Goals as goal
 
-pub returns-clause-authority_keeping : goal.returns-clause-authority_keeping
+pub returns-clause-sample_keeping : goal.returns-clause-sample_keeping
 unfolding clap_on_literals explore_asked explore_asked_of search_asked_of question_of sweep_of sweeps_of decimal_within number_in number_of
-returns-clause-authority_keeping c = refl
+returns-clause-sample_keeping c = refl
 
 pub returns-clause-keeping_nothing : goal.returns-clause-keeping_nothing
 unfolding clap_on_literals explore_asked explore_asked_of search_asked_of question_of sweep_of sweeps_of decimal_within number_in number_of

@@ -6,7 +6,7 @@ use Rattle.live_registers.specs.LiveSets.{LiveSets}
 use Rattle.outcome_texts.proofs.AnswerLemmas.{said_as}
 use Rattle.shown_states.specs.Endings.{ending_of}
 use Rattle.states.specs.Searches.{search_of}
-use Rattle.forgotten_outcomes.proofs.AnswerLemmas.{reduced_said, rows_distinct, rows_final, rows_known}
+use Rattle.forgotten_outcomes.proofs.AnswerLemmas.{none_moves, reduced_said, rows_distinct, rows_final, rows_known}
 use Rattle.forgotten_outcomes.specs.ShownStates.{IsReducedShownAnswer}
 use Rattle.forgotten_outcomes.proofs.answers.surveyed_answer.Goals as goal
 
@@ -21,8 +21,9 @@ rows_told-requires-clause-asked c =
     (subst (λ (l : LiveSets). HasAsked l.asked (items_ask c.args.items.now.shown.items)) (sym c.requires.found.survey_is.live_is)
     c.requires.asked)
 
-pub rows_told-requires-clause-ungrouped : goal.rows_told-requires-clause-ungrouped
-rows_told-requires-clause-ungrouped c = subst IsUngrouped (sym c.requires.found.survey_is.groups_are) c.requires.ungrouped
+pub rows_told-requires-clause-named : goal.rows_told-requires-clause-named
+rows_told-requires-clause-named c =
+    none_moves c.args.surveyed.now.survey.groups _ (subst IsUngrouped (sym c.requires.found.survey_is.groups_are) c.requires.ungrouped)
 
 pub rows_told-requires-clause-rows : goal.rows_told-requires-clause-rows
 rows_told-requires-clause-rows c =
