@@ -1,6 +1,6 @@
-//! Why the other registers can be forgotten: conditions hold in a state, and see of a step, and items
-//! show of a state, what they do where each hart has forgotten. The laws hold of every program, all sets that are right
-//! for it and have what is asked for, and every state.
+//! Why the other registers can be forgotten: conditions hold in a state, and see of a step, and
+//! items show of a state, what they do where each hart has forgotten. The laws hold of every
+//! program, all sets that are right for it and have what is asked for, and every state.
 
 ghost use Rattle.std.specs.Prelude.{◌≡◌, All, List};
 ghost use Rattle.asked_registers.specs.Asked.{

@@ -140,8 +140,8 @@ pub fn late_value<S: Scene>(
     }
 }
 
-/// The value of a symbol by the table, or its fault. The last argument is the fault where the symbol
-/// is met again.
+/// The value of a symbol by the table, or its fault. The last argument is the fault where the
+/// symbol is met again.
 pub fn late_symbol<S: Scene>(
     alloc: Global,
     scene: &S,
@@ -157,8 +157,8 @@ pub fn late_symbol<S: Scene>(
     }
 }
 
-/// The value of an expression where it stands, by the table of symbols' values, if it has one. Fails
-/// only when out of memory.
+/// The value of an expression where it stands, by the table of symbols' values, if it has one.
+/// Fails only when out of memory.
 pub fn value_if_known<S: Scene>(
     alloc: Global,
     scene: &S,

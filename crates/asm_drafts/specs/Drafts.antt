@@ -1,5 +1,6 @@
 -- What the statements so far make.
-use Rattle.std.specs.Prelude.{◌≡◌, ◌⊎◌, ℕ, ◌==◌, Bool, List, [], ◌∷◌, Option, Some, None, Result, Ok, Err}
+use Rattle.std.specs.Prelude.{◌≡◌, ◌⊎◌, ℕ, ◌==◌, Bool, List, [], ◌∷◌, Option, Some, None, Result}
+use Rattle.std.specs.Prelude.{Ok, Err}
 use Rattle.asm_tokens.specs.declared.fault.AsmFault.{AsmFault}
 use Rattle.asm_tokens.specs.declared.fault.AsmFaultKind.TheVariants as faults
 use Rattle.asm_tokens.specs.Faults.{◌>>=◌, no_memory}

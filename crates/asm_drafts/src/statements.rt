@@ -65,8 +65,8 @@ impl<'a> Draft<'a> {
         Ok(())
     }
 
-    /// What a statement is after its labels, of a number in its file. `entry` is the section that it
-    /// names, if it names one. Fails at the first token at which the statement can't go on.
+    /// What a statement is after its labels, of a number in its file. `entry` is the section that
+    /// it names, if it names one. Fails at the first token at which the statement can't go on.
     pub fn put_body(
         &mut self,
         alloc: Global,

@@ -92,6 +92,4 @@ place_below bits long =
 
 pub ruleset counts = (constant_of_word, constant_at_zero, constant_length)
 
-pub ruleset steps = (constant_of_word, constant_at_zero)
-
-pub ruleset places = (place_below)
+pub ruleset levels = (constant_of_word, constant_at_zero, place_below)

@@ -1,5 +1,5 @@
 //! The instructions that leave a constant in a register.
-#![tactic(auto)]
+#![tactic(auto, using(crate::proofs::Levels::levels), unfolding(crate::proofs::Unfold::constants))]
 
 ghost use Rattle.std.specs.Prelude.{◌≡◌, ◌++◌, OnOk, false};
 ghost use Rattle.cheri_model.specs.runs.Replay.{IsPrefixOf};
@@ -29,7 +29,6 @@ pub(crate) fn is_word(bits: u64) -> bool
 }
 
 /// A constant without its low part.
-#[tactic(auto, unfolding(crate::specs::Constants::upper))]
 fn upper(bits: u64) -> u64
     ensures { result ≡ upper bits }
 {
@@ -37,7 +36,6 @@ fn upper(bits: u64) -> u64
 }
 
 /// The place of the lowest 1 of a constant's upper part.
-#[tactic(auto, using(crate::proofs::Levels::places), unfolding(crate::proofs::Unfold::uppers))]
 fn upper_place(bits: u64) -> u8
     requires { is_word bits ≡ false }
     ensures { result ≡ upper_place bits }
@@ -46,7 +44,6 @@ fn upper_place(bits: u64) -> u8
 }
 
 /// What a constant's upper part is from that place on, with its sign.
-#[tactic(auto, using(crate::proofs::Levels::places), unfolding(crate::proofs::Unfold::uppers))]
 pub(crate) fn upper_rest(bits: u64) -> u64
     requires { is_word bits ≡ false }
     ensures { result ≡ upper_rest bits }
@@ -56,7 +53,6 @@ pub(crate) fn upper_rest(bits: u64) -> u64
 }
 
 /// Appends the instructions for a constant of 32 bits.
-#[tactic(auto, unfolding(crate::specs::Constants::word_constant))]
 fn write_word(out: &mut Vec<Instr>, rd: Reg, bits: u64) -> Result<(), AllocError>
     ensures written { OnOk result (out.new.items ≡ out.old.items ++ word_constant rd bits) }
     ensures kept { IsPrefixOf out.old.items out.new.items }
@@ -82,7 +78,6 @@ fn write_word(out: &mut Vec<Instr>, rd: Reg, bits: u64) -> Result<(), AllocError
 
 /// Appends the instructions that put the rest of a constant's upper part in its place, and add the
 /// low part.
-#[tactic(auto, unfolding(crate::specs::Constants::placed))]
 fn write_placed(out: &mut Vec<Instr>, rd: Reg, bits: u64) -> Result<(), AllocError>
     requires { is_word bits ≡ false }
     ensures written { OnOk result (out.new.items ≡ out.old.items ++ placed rd bits) }
@@ -105,7 +100,6 @@ fn write_placed(out: &mut Vec<Instr>, rd: Reg, bits: u64) -> Result<(), AllocErr
 }
 
 /// Appends the instructions for a constant, of which at most so many levels are taken.
-#[tactic(auto, using(crate::proofs::Levels::steps))]
 fn write_levels(out: &mut Vec<Instr>, levels: u8, rd: Reg, bits: u64) -> Result<(), AllocError>
     ensures written { OnOk result (out.new.items ≡ out.old.items ++ constant levels rd bits) }
     ensures kept { IsPrefixOf out.old.items out.new.items }
@@ -120,7 +114,6 @@ fn write_levels(out: &mut Vec<Instr>, levels: u8, rd: Reg, bits: u64) -> Result<
 
 /// Appends the instructions that leave a constant in a register. Fails only when out of memory, and
 /// then some of them may be there.
-#[tactic(auto, unfolding(crate::proofs::Unfold::constants))]
 pub(crate) fn write_constant(out: &mut Vec<Instr>, rd: Reg, n: i64) -> Result<(), AllocError>
     ensures written { OnOk result (out.new.items ≡ out.old.items ++ li rd n) }
     ensures kept { IsPrefixOf out.old.items out.new.items }

@@ -1,5 +1,5 @@
 //! How many instructions an instruction of assembly becomes.
-#![tactic(auto, using(crate::proofs::Levels::counts))]
+#![tactic(auto, using(crate::proofs::Levels::counts), unfolding(crate::proofs::Unfold::counts))]
 
 ghost use Rattle.std.specs.Prelude.{◌≡◌, ◌≤◌, ◌+◌, ◌*◌, ℕ, length};
 ghost use Rattle.asm_expansions.specs.Constants.{constant, li, placed, word_constant};
@@ -11,7 +11,6 @@ use crate::operation::{Operation, PseudoTwoOp};
 use cheri_model::Reg;
 
 /// The count of a constant of 32 bits.
-#[tactic(auto, unfolding(crate::specs::Constants::word_constant))]
 fn word_count(rd: Reg, bits: u64) -> usize
     ensures count { result ≡ length (word_constant rd bits) }
     ensures bound { result ≤ 2 }
@@ -26,7 +25,6 @@ fn word_count(rd: Reg, bits: u64) -> usize
 }
 
 /// The count of what follows the rest of a constant.
-#[tactic(auto, unfolding(crate::specs::Constants::placed))]
 fn placed_count(bits: u64) -> usize
     ensures count { (rd : ℕ) → result ≡ length (placed rd bits) }
     ensures bound { result ≤ 2 }
@@ -46,7 +44,6 @@ fn count_levels(levels: u8, rd: Reg, bits: u64) -> usize
 }
 
 /// The count of `li`.
-#[tactic(auto, unfolding(crate::proofs::Unfold::constants))]
 fn constant_count(rd: Reg, n: i64) -> usize
     ensures { result ≡ length (li rd n) }
 {
@@ -58,7 +55,6 @@ fn constant_count(rd: Reg, n: i64) -> usize
 
 impl PseudoTwoOp {
     /// How many instructions this is.
-    #[tactic(auto, unfolding(crate::specs::Expansions::pseudo_two))]
     fn count(self) -> usize
         ensures { (d s : ℕ) → result ≡ length (pseudo_two self d s) }
     {
@@ -71,7 +67,6 @@ impl PseudoTwoOp {
 
 impl Operation {
     /// How many instructions this one stands for. Only that of `li` depends on the value.
-    #[tactic(auto, unfolding(crate::specs::Expansions::count_of))]
     pub fn count(self, value: i64) -> usize
         ensures { result ≡ count_of self value }
     {

@@ -1,5 +1,5 @@
 //! Immediates: their ranges, and the two parts of a number of 32 bits.
-#![tactic(auto)]
+#![tactic(auto, unfolding(crate::proofs::Unfold::immediates))]
 
 ghost use Rattle.std.specs.Prelude.{◌≡◌, ◌%◌, ◌<◌, ◌≤◌, IfSome};
 ghost use Rattle.asm_expansions.specs.Immediates.{
@@ -24,7 +24,6 @@ pub(crate) fn rest(bits: u64) -> u16
 }
 
 /// The low part of a number, of its bits.
-#[tactic(auto, unfolding(crate::specs::Immediates::low))]
 pub(crate) fn low_part(bits: u64) -> i16
     ensures { result ≡ low bits }
 {
@@ -40,7 +39,6 @@ pub fn low(n: i64) -> i16
 }
 
 /// The number without its low part, in units of 4,096, as 20 bits, of its bits.
-#[tactic(auto, unfolding(crate::specs::Immediates::high_bits))]
 pub(crate) fn high_bits(bits: u64) -> u32
     ensures { result ≡ high_bits bits }
 {
@@ -60,7 +58,6 @@ fn is_reachable(n: i64) -> bool
 
 /// The immediate of `lui` or `auipcc` for a number: the number without its low part, in units of
 /// 4,096, as 20 bits. `None` where that is not a number of 20 bits with a sign.
-#[tactic(auto, unfolding(crate::specs::Immediates::high_field))]
 pub fn high_field(n: i64) -> Option<u32>
     ensures { result ≡ high_field n }
 {
@@ -80,7 +77,6 @@ fn is_signed(n: i64) -> bool
 }
 
 /// An immediate of 12 bits with a sign. `None` where the number is out of its range.
-#[tactic(auto, unfolding(crate::specs::Immediates::signed))]
 pub(crate) fn signed(n: i64) -> Option<i16>
     ensures { result ≡ signed n }
 {
@@ -88,7 +84,6 @@ pub(crate) fn signed(n: i64) -> Option<i16>
 }
 
 /// A number from 0 to a limit. `None` where it isn't one.
-#[tactic(auto, unfolding(crate::specs::Immediates::up_to))]
 pub(crate) fn up_to(most: u32, n: i64) -> Option<u32>
     ensures value { result ≡ up_to most n }
     ensures bound { IfSome result (λ number. number ≤ most) }

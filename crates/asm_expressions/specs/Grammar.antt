@@ -4,7 +4,8 @@
 --                  (each from the left)
 --     term       = number | local label | name | name@plt | . | - term | + term | ~ term
 --                | ( expression )
-use Rattle.std.specs.Prelude.{◌≡◌, Result, Ok, ℕ, ◌+◌, ◌≤◌, false, List, [], ◌∷◌, ◌++◌, length, Some}
+use Rattle.std.specs.Prelude.{◌≡◌, Result, Ok, ℕ, ◌+◌, ◌≤◌, false, List, [], ◌∷◌, ◌++◌, length}
+use Rattle.std.specs.Prelude.{Some}
 use Rattle.asm_tokens.specs.declared.token.Mark.{Mark}
 use Rattle.asm_tokens.specs.declared.token.Mark.TheVariants as marks
 use Rattle.asm_tokens.specs.declared.token.TokenKind.TheVariants as tokens

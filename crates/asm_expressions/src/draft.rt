@@ -3,7 +3,15 @@
 ghost use Rattle.std.specs.Prelude.{◌≡◌, ◌<◌, ◌≤◌, ◌+◌, ◌-◌, ◌^◌, OnOk, reverse};
 ghost use Rattle.asm_expressions.specs.declared.moves.Move.TheVariants.{Open, Close};
 ghost use Rattle.asm_expressions.specs.Drafts.{pending_of, taken_first};
-ghost use Rattle.asm_expressions.specs.Expressions.{taken, settled, with_leaf, with_waiting, closed, turned, moved};
+ghost use Rattle.asm_expressions.specs.Expressions.{
+  taken,
+  settled,
+  with_leaf,
+  with_waiting,
+  closed,
+  turned,
+  moved,
+};
 
 use crate::moves::{Move, Phase};
 use crate::node::{Node, NodeKind};

@@ -1,8 +1,8 @@
 //! Expressions of assembly: read from tokens, and worked out.
 //!
-//! An expression is a list of nodes, each after those of its operands, so that it is worked out from
-//! the first to the last. The operators bind as GNU's and LLVM's assemblers have it for RISC-V, and
-//! not as in C.
+//! An expression is a list of nodes, each after those of its operands, so that it is worked out
+//! from the first to the last. The operators bind as GNU's and LLVM's assemblers have it for
+//! RISC-V, and not as in C.
 #![tactic(auto)]
 
 mod draft;

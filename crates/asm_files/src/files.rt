@@ -208,9 +208,9 @@ fn make_files<'a>(
     Ok(made)
 }
 
-/// The program that files are, by their texts. Fails at the first file that is too long, with `Size`;
-/// else at the first place where no token begins, with `Byte`; else at the first request that is
-/// none, with `Hart`; else at the first token at which a statement can't go on.
+/// The program that files are, by their texts. Fails at the first file that is too long, with
+/// `Size`; else at the first place where no token begins, with `Byte`; else at the first request
+/// that is none, with `Hart`; else at the first token at which a statement can't go on.
 pub fn read_program<'a>(alloc: Global, texts: &[&'a [u8]]) -> Result<Program<'a>, AssemblyFault>
     requires { length texts.now < 2 ^ 32 }
     ensures { GivesAll program_parts result (program_of (map text_of texts.now)) }

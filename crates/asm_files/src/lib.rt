@@ -1,5 +1,5 @@
-//! Files of assembly, read as one program: their tokens, requests and statements, with what these make
-//! and where each stands.
+//! Files of assembly, read as one program: their tokens, requests and statements, with what these
+//! make and where each stands.
 //!
 //! A fault here is one that can be told while files are read. What expressions are worth is found
 //! later, when everything has its address.

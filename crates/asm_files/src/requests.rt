@@ -39,8 +39,8 @@ pub struct HartRequest<'a> {
     pub words: Vec<Word<'a>>,
 }
 
-/// The bytes of memory that are asked for, `None` at or above 2^128; by which file from 1 on, and at
-/// which place.
+/// The bytes of memory that are asked for, `None` at or above 2^128; by which file from 1 on, and
+/// at which place.
 #[derive(Clone, Copy, Debug)]
 pub struct RamRequest {
     pub file: u32,

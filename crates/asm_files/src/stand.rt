@@ -17,8 +17,8 @@ use asm_statements::Statement;
 use asm_tokens::{AsmFault, Token};
 use std::alloc::{AllocError, Global};
 
-/// Where a statement stands, after its labels: so many bytes from the beginning of the chunk that its
-/// file goes on in.
+/// Where a statement stands, after its labels: so many bytes from the beginning of the chunk that
+/// its file goes on in.
 #[derive(Clone, Copy, Debug, PartialEq, Eq)]
 pub struct Stand {
     /// The number of the chunk.
@@ -67,8 +67,8 @@ fn closing_of(draft: &Draft, stand: Stand) -> Stand
     }
 }
 
-/// Puts the statement of a number in its file, and says where it stands. `entry` is the section that
-/// it names, if it names one. Fails at the first token at which it can't go on.
+/// Puts the statement of a number in its file, and says where it stands. `entry` is the section
+/// that it names, if it names one. Fails at the first token at which it can't go on.
 pub(crate) fn put_statement<'a>(
     alloc: Global,
     draft: &mut Draft<'a>,

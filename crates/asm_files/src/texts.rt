@@ -3,7 +3,13 @@
 
 ghost use Rattle.std.specs.Prelude.{◌≡◌, ◌++◌, ◌<◌, ◌^◌, OnOk, length, map};
 ghost use Rattle.asm_files.specs.Faults.{GivesAll};
-ghost use Rattle.asm_files.specs.Files.{all_names, file_read, files_of, length_judged, lengths_judged};
+ghost use Rattle.asm_files.specs.Files.{
+  all_names,
+  file_read,
+  files_of,
+  length_judged,
+  lengths_judged,
+};
 ghost use Rattle.asm_files.specs.Programs.{file_parts, text_of};
 ghost use Rattle.asm_files.specs.Sections.{bytes_of};
 ghost use Rattle.asm_files.specs.Steps.{Leaves};
@@ -78,8 +84,8 @@ pub(crate) fn read_files<'a>(
     Ok(files)
 }
 
-/// Appends the names of the sections that statements of files name, in order. Fails only when out of
-/// memory.
+/// Appends the names of the sections that statements of files name, in order. Fails only when out
+/// of memory.
 pub(crate) fn push_all_names(
     alloc: Global,
     names: &mut Vec<Vec<u8>>,

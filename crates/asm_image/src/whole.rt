@@ -101,16 +101,16 @@ fn scene_of<'p>(late: Late<'p, '_>, exit: Option<u64>) -> Result<Scene<'p>, Allo
     })
 }
 
-/// The size of a program's RAM that is taken up to an address. Fails with `Size` where RAM can't have
-/// it, and with `Hart` where the request for it can't be done.
+/// The size of a program's RAM that is taken up to an address. Fails with `Size` where RAM can't
+/// have it, and with `Hart` where the request for it can't be done.
 fn ram_for(program: &Program, memory_end: u64) -> Result<u32, AssemblyFault>
     ensures { result ≡ ram_for (program_parts program.now) memory_end }
 {
     ram_of(program.requests.ram, memory_end)
 }
 
-/// The image of a program with these contents and harts, of which a map tells these notes, in RAM of
-/// a size.
+/// The image of a program with these contents and harts, of which a map tells these notes, in RAM
+/// of a size.
 fn draw_in<'a>(
     alloc: Global,
     contents: Contents,

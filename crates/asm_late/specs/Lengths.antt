@@ -76,8 +76,8 @@ length_by program scene values file size None (Some rest) =
     length_said program scene values file rest size
 length_by program scene values file size None None = 0
 
--- those of `.comm`; else what `.size` says, where that is a number that it may be and not 0; else up
--- to the chunk's end; 0 of what is no data. `size` is the statement that says it.
+-- those of `.comm`; else what `.size` says, where that is a number that it may be and not 0; else
+-- up to the chunk's end; 0 of what is no data. `size` is the statement that says it.
 unfoldable pub length_of : ProgramParts → SceneParts → List (Option Value) → Option ℕ
     → DefinitionParts → ℕ
 length_of program scene values size symbol =

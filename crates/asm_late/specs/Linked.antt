@@ -20,8 +20,8 @@ use Rattle.asm_late.specs.Reach.{instructions_to, reach_of}
 use Rattle.asm_late.specs.Scene.{scene_of}
 use Rattle.asm_tables.specs.Tables.{TableParts, table_parts, table_of}
 
--- the names that all files see, the symbols of the capability table, where everything is, the values
--- of symbols and their bytes, what code reaches, and how many instructions there are
+-- the names that all files see, the symbols of the capability table, where everything is, the
+-- values of symbols and their bytes, what code reaches, and how many instructions there are
 pub record LinkedParts : Type 0 where
   pub seen : List ℕ → Option ℕ
   pub table : TableParts

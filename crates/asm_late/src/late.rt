@@ -97,8 +97,8 @@ impl<'p, 'a> Late<'p, 'a> {
         operand_fault(self.program, file, statement, operand, kind)
     }
 
-    /// The value of an operand of a statement; `dot` is the place of `.`. Fails with `Expression` at
-    /// an operator that has no value and at a name that is met again while it is worked out, and
+    /// The value of an operand of a statement; `dot` is the place of `.`. Fails with `Expression`
+    /// at an operator that has no value and at a name that is met again while it is worked out, and
     /// with `Symbol` at a name that there isn't.
     pub fn operand_value(
         self,

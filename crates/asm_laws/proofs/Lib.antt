@@ -10,3 +10,4 @@ pub mod PairLemmas
 pub mod Calls
 pub mod Machines
 pub mod Loads
+pub mod Rulesets

@@ -1,4 +1,5 @@
 //! What expansions mean, over the machine's own step.
+#![tactic(auto, using(crate::proofs::Rulesets::laws))]
 
 ghost use Rattle.std.specs.Prelude.{◌≡◌, ℕ, ℤ, pos, ◌<◌, ◌≢◌, ◌%◌, ◌^◌, List, [], ◌∷◌};
 ghost use Rattle.std.specs.Prelude.{length, replicate, FitsSigned};
@@ -27,7 +28,6 @@ ghost use Rattle.asm_laws.specs.Pairs.{arrived, link_behind};
 
 /// In a machine's replay steps of one hart leave what they leave of that hart and of memory, and
 /// the other harts as they were. So the laws below, of a hart alone, are laws of replays.
-#[tactic(auto, using(crate::proofs::Machines::machines))]
 pub fn steps_of_one_hart_are_replayed()
     ensures { (image : ImageParts) (state : MachineState) (number count : ℕ)
         → number < length state.harts
@@ -38,7 +38,6 @@ pub fn steps_of_one_hart_are_replayed()
 
 /// After as many steps as `li` has instructions the register has the constant, of any 64 bits, and
 /// PC is behind them. Nothing else has changed.
-#[tactic(auto, using(crate::proofs::Constants::constants))]
 pub fn li_leaves_its_constant()
     ensures { (program : List Instr) (hart : HartState) (memory : List CapValue) (rd : ℕ) (n : ℤ)
         → FitsSigned w64 n → rd < 32 → HasRegisters hart → StandsAt program (li rd n) hart
@@ -47,7 +46,6 @@ pub fn li_leaves_its_constant()
 
 /// After as many steps as a pseudo-instruction on registers has instructions its destination has
 /// the number that it means, and PC is behind them. Nothing else has changed.
-#[tactic(auto, using(crate::proofs::Pseudo::pseudo))]
 pub fn pseudo_instructions_leave_their_values()
     ensures two { (program : List Instr) (hart : HartState) (memory : List CapValue)
         (op : PseudoTwoOp) (d s : ℕ) → d < 32 → integer hart s < 2 ^ 64 → HasRegisters hart
@@ -104,7 +102,6 @@ pub fn calls_arrive()
 {}
 
 /// `unimp` traps: the tag of c0 is not set.
-#[tactic(auto, using(crate::proofs::Calls::calls))]
 pub fn unimp_traps()
     ensures { (program : List Instr) (hart : HartState) (memory : List CapValue)
         → HasRegisters hart → StandsAt program (CJalr 0 0 (pos 0) ∷ []) hart

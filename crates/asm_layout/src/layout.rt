@@ -4,7 +4,13 @@
 
 ghost use Rattle.std.specs.Prelude.{◌≡◌, IfOk};
 ghost use Rattle.asm_layout.specs.Placement.{parts_of};
-ghost use Rattle.asm_layout.specs.Layout.{LayoutParts, layout_parts, opening, layout_of, memory_size};
+ghost use Rattle.asm_layout.specs.Layout.{
+  LayoutParts,
+  layout_parts,
+  opening,
+  layout_of,
+  memory_size,
+};
 
 use crate::chunk::{Chunk, ChunkKind};
 use crate::placement::{Placement, padding};

@@ -1,5 +1,6 @@
 -- Which statement says the bytes of a symbol.
-use Rattle.std.specs.Prelude.{ℕ, zero, suc, ◌+◌, List, [], ◌∷◌, length, slice_get, slice_set, replicate}
+use Rattle.std.specs.Prelude.{ℕ, zero, suc, ◌+◌, List, [], ◌∷◌, length, slice_get, slice_set}
+use Rattle.std.specs.Prelude.{replicate}
 use Rattle.std.specs.Prelude.{Option, Some, None}
 use Rattle.asm_tokens.specs.Tokens.{TokenParts}
 use Rattle.asm_expressions.specs.Tokens.{text_at}

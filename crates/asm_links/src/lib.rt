@@ -1,5 +1,5 @@
-//! What files of a program have together: the symbols that all of them see, and their sections, with
-//! the order in which chunks are laid out.
+//! What files of a program have together: the symbols that all of them see, and their sections,
+//! with the order in which chunks are laid out.
 #![tactic(auto)]
 
 mod locals;

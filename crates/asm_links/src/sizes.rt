@@ -6,7 +6,13 @@ ghost use Rattle.asm_tokens.specs.Tokens.{token_parts};
 ghost use Rattle.asm_statements.specs.Statements.{statement_parts};
 ghost use Rattle.asm_symbols.specs.Names.{names_of};
 ghost use Rattle.asm_files.specs.Programs.{file_parts, program_parts};
-ghost use Rattle.asm_links.specs.Sizes.{file_sizes, first_sizes, numbered_sizes, size_put, sized_symbol};
+ghost use Rattle.asm_links.specs.Sizes.{
+  file_sizes,
+  first_sizes,
+  numbered_sizes,
+  size_put,
+  sized_symbol,
+};
 
 use crate::replacing::put_at;
 use asm_expressions::text_at;

@@ -7,7 +7,13 @@ ghost use Rattle.cap_model.specs.values.CapValue.{CapValue};
 ghost use Rattle.canonical.specs.Listable.{IsWritable, IsWritablePcc, IsWritableHart};
 ghost use Rattle.asm_capabilities.specs.declared.code.Reach.{Reach};
 ghost use Rattle.asm_capabilities.specs.declared.data.DataKind.{DataKind};
-ghost use Rattle.asm_capabilities.specs.Capabilities.{pcc_at, sentry_at, data_at, table_of, stack_at};
+ghost use Rattle.asm_capabilities.specs.Capabilities.{
+  pcc_at,
+  sentry_at,
+  data_at,
+  table_of,
+  stack_at,
+};
 ghost use Rattle.asm_harts.specs.declared.registers.Registers.{Registers};
 ghost use Rattle.asm_harts.specs.declared.hart.HartPlaces.{HartPlaces};
 ghost use Rattle.asm_harts.specs.declared.hart.OpenHart.{OpenHart};

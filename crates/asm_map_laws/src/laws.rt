@@ -14,9 +14,9 @@ pub fn written_lines_are_read()
     ensures { (line : MapLine) → IsWritable line → line_of (line_text line) ≡ Some (line_parts line) }
 {}
 
-/// A map that was written is read as what its lines say: where each instruction of a program with so
-/// many instructions and harts comes from, or the number of the first line that this program cannot
-/// have.
+/// A map that was written is read as what its lines say: where each instruction of a program with
+/// so many instructions and harts comes from, or the number of the first line that this program
+/// cannot have.
 pub fn written_maps_are_read()
     ensures { (counts : Counts) (lines : List MapLine) → All IsWritable lines
         → map_meaning counts (map_text lines) ≡ said_of counts (map line_parts lines) }

@@ -8,9 +8,10 @@ use Rattle.asm_map_reader.specs.declared.draft.Counts.{Counts}
 use Rattle.asm_map_reader.specs.Reading.{DraftParts, empty_draft, file_name, with_file, with_source, with_statement}
 use Rattle.asm_map_reader.specs.Reading.{with_symbol, with_entry, with_hart, with_line, with_end, with_body}
 use Rattle.asm_map_reader.specs.Reading.{with_head, with_rest, with_text}
+use Rattle.asm_tokens.specs.Bytes.{is_name_start, is_name_byte}
 
 unfoldable pub words : List ℕ → Option ℕ
-unfolding number_64 plain_number address_of text_of symbol_of
+unfolding number_64 plain_number address_of text_of symbol_of is_name_start is_name_byte
 words text = plain_number text
 
 unfoldable pub lines : List ℕ → Option LineParts

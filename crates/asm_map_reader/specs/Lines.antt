@@ -14,8 +14,8 @@ pub record LabelParts : Type 0 where
   pub name : List ℕ
   pub offset : ℕ
 
--- a line by what it is about: a file; an instruction of a statement, the guard or the exit; a symbol
--- in memory; an entry of the capability table; and a hart
+-- a line by what it is about: a file; an instruction of a statement, the guard or the exit; a
+-- symbol in memory; an entry of the capability table; and a hart
 pub data LineParts : Type 0 where
   file : ℕ → List ℕ → LineParts
   code : ℕ → ℕ → ℕ → Option LabelParts → LineParts

@@ -1,4 +1,5 @@
 //! Reading a map.
+#![tactic(auto, unfolding(crate::specs::Reading::finished))]
 
 ghost use Rattle.asm_map_reader.specs.Drafts.{Gives, draft_parts};
 ghost use Rattle.asm_map_reader.specs.Reading.{finished, map_meaning};
@@ -10,7 +11,6 @@ use std::alloc::Global;
 
 /// Where the instructions come from, where the last line was read; else the next line, which is
 /// missing.
-#[tactic(auto, unfolding(crate::specs::Reading::finished))]
 fn finished<'a>(draft: Draft<'a>, number: usize) -> Result<Vec<Source<'a>>, MapFault>
     ensures { Gives result (finished number (draft_parts draft.entry)) }
 {

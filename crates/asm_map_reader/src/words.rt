@@ -1,5 +1,5 @@
 //! The words of a map's lines.
-#![tactic(auto, unfolding(crate::proofs::Unfold::words))]
+#![tactic(auto, using(crate::proofs::TextLemmas::texts), unfolding(crate::proofs::Unfold::words))]
 
 ghost use Rattle.std.specs.Prelude.{◌≡◌, ◌≤◌, option_map};
 ghost use Rattle.std.specs.List.{list_all};
@@ -51,7 +51,6 @@ pub(crate) fn address_of(text: &[u8]) -> Option<u64>
 }
 
 /// Bytes as a text, where they are one.
-#[tactic(auto, using(crate::proofs::TextLemmas::texts))]
 pub(crate) fn text_of(bytes: &[u8]) -> Option<&str>
     ensures { option_map (λ text. text.now) result ≡ text_of bytes.now }
 {
@@ -62,7 +61,6 @@ pub(crate) fn text_of(bytes: &[u8]) -> Option<&str>
 }
 
 /// Whether a name of assembly may begin with a byte.
-#[tactic(auto, unfolding(asm_tokens::specs::Bytes::is_name_start))]
 fn is_name_start(byte: u8) -> bool
     ensures { result ≡ is_name_start byte }
 {
@@ -70,7 +68,6 @@ fn is_name_start(byte: u8) -> bool
 }
 
 /// Whether it may go on with a byte.
-#[tactic(auto, unfolding(asm_tokens::specs::Bytes::is_name_byte))]
 fn is_name_byte(byte: u8) -> bool
     ensures { result ≡ is_name_byte byte }
 {

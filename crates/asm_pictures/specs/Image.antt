@@ -1,5 +1,6 @@
 -- The image of a program: its sizes, its memory, its listing.
-use Rattle.std.specs.Prelude.{ℕ, ◌+◌, ◌*◌, ◌==◌, nat_lt, Bool, ◌||◌, if◌then◌else◌, List, ◌++◌, length}
+use Rattle.std.specs.Prelude.{ℕ, ◌+◌, ◌*◌, ◌==◌, nat_lt, Bool, ◌||◌, if◌then◌else◌, List, ◌++◌}
+use Rattle.std.specs.Prelude.{length}
 use Rattle.std.specs.Prelude.{Option, Some, None, Result, Ok, Err}
 use Rattle.cap_model.specs.values.CapValue.{CapValue}
 use Rattle.cheri_model.specs.declared.instr.Instr.{Instr}

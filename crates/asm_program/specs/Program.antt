@@ -16,7 +16,8 @@ use Rattle.inputs.specs.Files.{KnownFiles}
 use Rattle.printing.specs.Endings.{EndsBy, FailsBy}
 use Rattle.program_io.specs.Endings.{IsTold}
 use Rattle.program_io.specs.declared.fault.Fault.TheVariants.{Usage}
-use Rattle.asm_program.specs.Faults.{Answer, Fault, assembly_fault, failure_of, fault_text, status_of}
+use Rattle.asm_program.specs.Faults.{Answer, Fault, assembly_fault, failure_of, fault_text}
+use Rattle.asm_program.specs.Faults.{status_of}
 use Rattle.asm_program.specs.Texts.{OfFiles}
 
 -- the command line of the arguments that are given after the program's name

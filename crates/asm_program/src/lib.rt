@@ -1,5 +1,5 @@
-//! What the program `cheri_asm` does: assembles files, and prints a listing or a map, or reports why
-//! it failed.
+//! What the program `cheri_asm` does: assembles files, and prints a listing or a map, or reports
+//! why it failed.
 #![tactic(auto)]
 
 mod answers;

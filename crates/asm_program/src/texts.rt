@@ -10,7 +10,8 @@ use crate::faults::{Fault, OwnFault};
 use inputs::{FileFault, Files, InputFault};
 use std::alloc::Global;
 
-/// One byte more than a file of assembly has at most: where a file has more, its first bytes say so.
+/// One byte more than a file of assembly has at most: where a file has more, its first bytes say
+/// so.
 const ASSEMBLY_READ: u64 = 4_194_305;
 
 /// The bytes of a file of assembly. Of one that is too long, its beginning.

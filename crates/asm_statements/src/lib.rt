@@ -2,7 +2,8 @@
 //! its tokens alone.
 //!
 //! A statement is all that was read of it before its first fault, with that fault. What depends on
-//! other statements, as whether a name is defined twice or an expression is known, isn't judged here.
+//! other statements, as whether a name is defined twice or an expression is known, isn't judged
+//! here.
 #![tactic(auto)]
 
 mod bodies;

@@ -1,4 +1,5 @@
-//! What names of a program mean, and its capability table: a symbol for each entry that code asks for.
+//! What names of a program mean, and its capability table: a symbol for each entry that code asks
+//! for.
 #![tactic(auto)]
 
 mod entries;

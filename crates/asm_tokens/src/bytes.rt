@@ -1,5 +1,5 @@
 //! What bytes are by themselves.
-#![tactic(auto, unfolding(crate::proofs::Unfold::classes))]
+#![tactic(auto, using(crate::proofs::Rulesets::cuts), unfolding(crate::proofs::Unfold::classes))]
 
 ghost use Rattle.std.specs.Prelude.{◌≡◌, ◌≤◌, drop, length, take, take_while};
 ghost use Rattle.asm_tokens.specs.Bytes.{
@@ -61,7 +61,6 @@ pub fn line_count(text: &[u8]) -> usize
 }
 
 /// A text without so many bytes at its beginning.
-#[tactic(auto, using(crate::proofs::Rulesets::cuts))]
 pub fn skipped(text: &[u8], count: usize) -> &[u8]
     requires { count ≤ length text.now }
     ensures { result.now ≡ drop count text.now }
@@ -70,7 +69,6 @@ pub fn skipped(text: &[u8], count: usize) -> &[u8]
 }
 
 /// The first bytes of a text, so many.
-#[tactic(auto, using(crate::proofs::Rulesets::cuts))]
 pub fn taken(text: &[u8], count: usize) -> &[u8]
     requires { count ≤ length text.now }
     ensures { result.now ≡ take count text.now }

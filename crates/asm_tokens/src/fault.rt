@@ -1,4 +1,5 @@
 //! What is wrong with assembly, by kinds, and where.
+#![tactic(auto, using(std::proofs::lemmas::Grind::common_steps))]
 
 ghost use Rattle.std.specs.Prelude.{◌≡◌};
 
@@ -50,7 +51,6 @@ impl AsmFaultKind {
     }
 
     /// The kind's name.
-    #[tactic(auto, using(std::proofs::lemmas::Grind::common_steps))]
     pub fn name(self) -> &'static str
         ensures { result.now ≡ fault_name self }
     {

@@ -1,5 +1,5 @@
 //! Numbers, and the numbers of local labels.
-#![tactic(auto, unfolding(crate::specs::Numbers::written_number, crate::specs::Numbers::is_local))]
+#![tactic(auto, using(crate::proofs::Rulesets::numbers), unfolding(crate::proofs::Unfold::numbers))]
 
 ghost use Rattle.std.specs.Prelude.{◌≡◌, ◌≤◌, ◌==◌, length, option_map, take_while};
 ghost use Rattle.text_numbers.specs.Numerals.{number_in, is_numeral};
@@ -26,7 +26,6 @@ fn narrowed(number: Option<u128>) -> Option<u64>
 }
 
 /// The number that digits of a base write, `Some(None)` where it is 2^64 or more.
-#[tactic(auto, using(crate::proofs::NumberLemmas::narrowed_within))]
 fn number_of_base(base: u8, digits: &[u8]) -> Option<Option<u64>>
     requires { 1 ≤ base }
     ensures { result ≡ option_map within_64_bits (number_in base digits.now) }
@@ -48,7 +47,6 @@ fn written_number(word: &[u8]) -> Option<Option<u64>>
 }
 
 /// Whether a text is decimal digits.
-#[tactic(auto, using(crate::proofs::NumberLemmas::is_read))]
 fn is_decimal(digits: &[u8]) -> bool
     ensures { result ≡ is_numeral 10 digits.now }
 {
@@ -66,7 +64,6 @@ fn is_local(word: &[u8]) -> bool
 }
 
 /// What a word that begins with a digit is: a number, else a local label's.
-#[tactic(auto, unfolding(crate::specs::Numbers::number_kind))]
 pub fn number_kind(word: &[u8]) -> Option<TokenKind>
     ensures { result ≡ number_kind word.now }
 {
@@ -85,7 +82,6 @@ fn zero_count(digits: &[u8]) -> usize
 }
 
 /// Decimal digits without zeros before them: two local labels are the same where these are.
-#[tactic(auto, using(crate::proofs::Rulesets::cuts))]
 pub fn without_zeros(digits: &[u8]) -> &[u8]
     ensures { result.now ≡ without_zeros digits.now }
 {

@@ -1,7 +1,7 @@
 //! A bump allocator over a capability: it hands out buffers from the start of a region on, each
 //! with bounds that are exact, so that no buffer reaches into another one. A small caller of
 //! `cap_ops` and `cap_bounds`.
-#![tactic(auto)]
+#![tactic(auto, using(crate::proofs::BufferLemmas::buffers), unfolding(crate::proofs::BufferLemmas::buffer_words))]
 
 ghost use Rattle.std.specs.Prelude.{◌≡◌, ◌^◌, ◌<◌, ◌≤◌, false, None, IfSome};
 ghost use Rattle.cap_model.specs.results.Addresses.{is_open};
@@ -54,7 +54,6 @@ impl BumpAllocator {
     /// A buffer of at least `len` bytes, with the region's permissions: its bounds are exact, and
     /// no later buffer holds an address of it. `None` where the region has no room for it, and then
     /// nothing changes.
-    #[tactic(auto, using(crate::proofs::BufferLemmas::buffers), unfolding(crate::proofs::BufferLemmas::buffer_words))]
     pub fn allocate(&mut self, len: u64) -> Option<Cap>
         requires { 0 < len }
         ensures handed { result ≡ buffer self.old len }
@@ -85,7 +84,6 @@ impl BumpAllocator {
 }
 
 /// What a buffer of at least `len` bytes begins at a multiple of.
-#[tactic(auto, using(crate::proofs::BufferLemmas::buffers))]
 fn alignment(len: u64) -> u128
     ensures value { result ≡ alignment (length_at_zero len) }
     ensures positive { 0 < result }
@@ -96,7 +94,6 @@ fn alignment(len: u64) -> u128
 
 /// The least length of exact bounds that has at least `len` bytes. `None` where it is 2^64, which
 /// no register holds.
-#[tactic(auto, using(crate::proofs::BufferLemmas::buffers))]
 fn exact_length(len: u64) -> Option<u64>
     requires { 0 < len }
     ensures { result ≡ exact_length len }

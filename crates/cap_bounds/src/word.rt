@@ -39,8 +39,8 @@ pub fn fields(upper: u64) -> Fields
     }
 }
 
-/// The fields of an upper half, or the upper half with these fields: both ways the exclusive-or with
-/// the null capability's fields (CHERI ISA v9, "capability encoding").
+/// The fields of an upper half, or the upper half with these fields: both ways the exclusive-or
+/// with the null capability's fields (CHERI ISA v9, "capability encoding").
 pub fn exclusive_or_null(upper: u64) -> u64
     ensures { result ≡ with_null_fields upper }
 {

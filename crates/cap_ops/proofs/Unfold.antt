@@ -14,6 +14,7 @@ use Rattle.cap_model.specs.results.Readings.{offset_of, type_number_of, is_subse
 use Rattle.cap_model.proofs.Results.Values.{perms_known, top_lt}
 use Rattle.cap_model.proofs.Results.FieldResultsMade.{unsealed_perms_known}
 use Rattle.cap_ops.specs.Tagged.{stored_exponent}
+use Rattle.cap_ops.specs.Tagged.{length_steps}
 
 unfoldable pub address : CapValue → ℕ
 unfolding capability_at address_of
@@ -40,16 +41,8 @@ unfolding is_subset is_equal_exact
 comparisons v w = is_subset v w
 
 unfoldable pub stored : ℕ → ℕ
-unfolding stored_exponent word_ie stored_t stored_b
+unfolding stored_exponent word_ie stored_t stored_b word_b word_t length_steps
 stored upper = stored_exponent upper
-
-unfoldable pub base_digits : ℕ → ℕ
-unfolding word_b word_ie stored_b
-base_digits upper = word_b upper
-
-unfoldable pub top_digits : ℕ → ℕ
-unfolding word_t word_ie stored_t
-top_digits upper = word_t upper
 
 -- the bounds and the permissions of a lawful value
 pub ruleset known = (top_lt, perms_known)

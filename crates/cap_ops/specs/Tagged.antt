@@ -1,5 +1,6 @@
 -- Values of a tag and a word from outside: a tag counts on the word of a lawful capability alone.
-use Rattle.std.specs.Prelude.{ℕ, ◌+◌, ◌-◌, ◌*◌, ◌%◌, ◌^◌, ◌==◌, nat_le, nat_lt, not, Bool, ◌&&◌, if◌then◌else◌}
+use Rattle.std.specs.Prelude.{ℕ, ◌+◌, ◌-◌, ◌*◌, ◌%◌, ◌^◌, ◌==◌, nat_le, nat_lt, not, Bool, ◌&&◌}
+use Rattle.std.specs.Prelude.{if◌then◌else◌}
 use Rattle.cap_model.specs.bounds.Window.{is_in_window}
 use Rattle.cap_model.specs.words.Fields.{word_ie, stored_t, stored_b, word_b, word_t}
 use Rattle.cap_model.specs.values.Capability.{last_sealable_type, word_of, capability_at}

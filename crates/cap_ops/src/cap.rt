@@ -2,6 +2,7 @@
 //!
 //! A value keeps its bounds and fields beside its word, so that they are decoded once, where the
 //! word is new.
+#![tactic(auto, unfolding(crate::proofs::Unfold::address))]
 
 ghost use Rattle.std.specs.Prelude.{◌≡◌, ◌+◌, ◌*◌, ◌/◌, ◌%◌, ◌^◌, ◌&&◌};
 ghost use Rattle.cap_model.specs.values.CapValue.{
@@ -184,7 +185,6 @@ impl Cap {
     }
 
     /// The address (CGetAddr), which is also what the register is as an integer.
-    #[tactic(auto, unfolding(crate::proofs::Unfold::address))]
     pub fn addr(self) -> u64
         ensures value { result ≡ (parts_of self).addr }
         ensures integer { result ≡ address_of self }

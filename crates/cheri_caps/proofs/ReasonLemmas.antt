@@ -37,8 +37,6 @@ open_both false unsealed passes unlike = absurd (cc)
 pub open_value : (v : CapValue) → not (tag_of v) ≡ false → is_sealed v ≡ false → is_open v ≡ true
 open_value v tagged unsealed = open_both (tag_of v) ((parts_of v).otype == unsealed_type) tagged unsealed
 
-pub ruleset table_lines = (line_later, line_holds, no_line, open_value)
-
 -- the only line, by what it says doesn't hold
 pub none_alone : (b : Bool) (reason : Reason) → b ≡ true → None ≡ first_reason ((not b, reason) ∷ [])
 unfolding first_reason
@@ -65,7 +63,7 @@ pub lost_address : (v : CapValue) (a : ℕ) → is_open v ≡ true → tag_of (s
     Some reasons_of.NotRepresentable ≡ first_reason (not_representable v a ∷ [])
 lost_address v a open_now untagged = some_alone (keeps_bounds v a) reasons_of.NotRepresentable (sym (moved_tag v a open_now) ∙ untagged)
 
-pub ruleset address_lines = (kept_address, lost_address)
+pub ruleset table_lines = (line_later, line_holds, no_line, open_value, kept_address, lost_address)
 
 -- the number of a reason is never 0
 number_some : (reason : Reason) → (reason_number reason == 0) ≡ false

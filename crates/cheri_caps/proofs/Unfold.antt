@@ -3,20 +3,15 @@ use Rattle.std.specs.Prelude.{ℕ, List, Option}
 use Rattle.cap_model.specs.results.CapInstructions.{CapInstruction}
 use Rattle.cap_model.specs.results.Reasons.{reasons}
 use Rattle.cap_model.specs.values.CapValue.{CapValue}
-use Rattle.cheri_model.specs.declared.access.Access.{Access}
 use Rattle.cheri_model.specs.steps.Checks.{CheckLine, access_table, fetch_table, jump_table}
 use Rattle.cheri_model.specs.steps.Checks.{invoke_table, target_table}
 use Rattle.cheri_caps.specs.Checks.{access_checks, fetch_checks}
 use Rattle.cheri_caps.specs.Reasons.{why}
 use Rattle.cheri_caps.specs.declared.structs.CheriRange.{CheriRange}
 
-unfoldable pub accesses : CapValue → ℕ → ℕ → Access → Option CapValue → CheriRange → List CheckLine
-unfolding access_checks access_table
-accesses auth reg addr kind stored memory = access_checks auth reg addr kind stored memory
-
-unfoldable pub fetches : CapValue → CheriRange → List CheckLine
-unfolding fetch_checks fetch_table
-fetches pcc code = fetch_checks pcc code
+unfoldable pub tables : CapValue → CheriRange → List CheckLine
+unfolding access_checks access_table fetch_checks fetch_table
+tables pcc code = fetch_checks pcc code
 
 unfoldable pub jumping : CapValue → ℕ → List CheckLine
 unfolding target_table jump_table invoke_table

@@ -6,7 +6,8 @@ use Rattle.cap_model.specs.words.RawBounds.{raw_base, raw_top}
 use Rattle.cap_model.specs.values.Capability.{b_field, t_field}
 use Rattle.cap_model.specs.values.CapValue.{CapValue, raw, bits_of, tag_of}
 use Rattle.cap_model.specs.results.EditedWords.{word_of_halves}
-use Rattle.cap_model.specs.results.Readings.{base_of, top_of, offset_of, type_number_of, permissions_of, flags_of, is_sealed}
+use Rattle.cap_model.specs.results.Readings.{base_of, top_of, offset_of, type_number_of}
+use Rattle.cap_model.specs.results.Readings.{permissions_of, flags_of, is_sealed}
 use Rattle.cap_model.specs.results.Addresses.{is_exact, length_of}
 use Rattle.cap_ops.specs.Making.{make_fault_number, made}
 use Rattle.cap_ops.specs.Tagged.{is_lawful_type, value_from}

@@ -1,6 +1,6 @@
 //! Why a result has no tag: each instruction's table of reasons, of which the first line that holds
 //! is the reason.
-#![tactic(auto, using(crate::proofs::ReasonLemmas::table_lines))]
+#![tactic(auto, using(crate::proofs::ReasonLemmas::table_lines), unfolding(cap_model::specs::results::Reasons::reasons))]
 
 ghost use Rattle.std.specs.Prelude.{◌≡◌, ◌+◌, ◌%◌, ◌^◌, ◌==◌, ◌∷◌, [], not, nat_lt, bit_and};
 ghost use Rattle.std.specs.Prelude.{take, true, None};
@@ -63,7 +63,6 @@ pub(crate) fn open_reason(v: Cap) -> Option<Reason>
 
 /// Why an open value can't have another address, if it can't.
 #[inline(always)]
-#[tactic(auto, using(crate::proofs::ReasonLemmas::address_lines))]
 fn address_line(v: Cap, addr: u64) -> Option<Reason>
     requires { is_open v ≡ true }
     ensures { result ≡ first_reason (not_representable v addr ∷ []) }
@@ -248,9 +247,9 @@ fn has_more_permissions(w: Cap, v: Cap) -> bool
     has & may != has
 }
 
-/// Why a word `w` with these bounds can't be rebuilt under `v` whatever bounds a capability can have, if it can't.
+/// Why a word `w` with these bounds can't be rebuilt under `v` whatever bounds a capability can
+/// have, if it can't.
 #[inline(always)]
-#[tactic(auto, using(crate::proofs::ReasonLemmas::table_lines), unfolding(cap_model::specs::results::Reasons::reasons))]
 fn contents_reason(v: Cap, w: Cap, base: u64, top: u128) -> Option<Reason>
     requires base { base ≡ base_of w }
     requires top { top ≡ top_of w }

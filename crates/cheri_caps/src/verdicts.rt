@@ -1,5 +1,5 @@
 //! Tables of checks, line by line: the first line that fails is the verdict.
-#![tactic(auto, using(crate::proofs::VerdictLemmas::table_steps))]
+#![tactic(auto, using(crate::proofs::VerdictLemmas::table_steps), unfolding(crate::proofs::Unfold::tables))]
 
 ghost use Rattle.std.specs.Prelude.{◌≡◌, ◌+◌, ◌<◌, ◌%◌, ◌==◌, ◌&&◌, ◌∷◌, [], not};
 ghost use Rattle.cap_model.specs.results.Addresses.{has_permission, in_bounds};
@@ -26,7 +26,6 @@ use cheri_model::{Access, GRANULE_BYTES, INSTRUCTION_BYTES, Trap};
 
 /// A line of a table alone.
 #[inline(always)]
-#[tactic(auto, unfolding(cheri_model::specs::steps::Checks::first_failing))]
 pub(crate) fn check(fails: bool, cause: u8, reg: u8) -> Result<(), Trap>
     ensures { result ≡ first_failing (check_line fails cause reg ∷ []) }
 {
@@ -132,7 +131,6 @@ fn place_verdict(kind: Access, addr: u64, memory: CheriRange, reg: u8) -> Result
 /// The checks of an access at `addr` through the register with the number `reg`, which holds
 /// `auth`, where memory is a range. `stored` counts only where the access stores a capability.
 #[inline(always)]
-#[tactic(auto, using(crate::proofs::VerdictLemmas::table_steps), unfolding(crate::proofs::Unfold::accesses))]
 pub(crate) fn access_verdict(
     auth: Cap,
     reg: u8,
@@ -158,7 +156,6 @@ pub(crate) fn access_verdict(
 
 /// The checks of a fetch at this PCC, where code is a range.
 #[inline(always)]
-#[tactic(auto, using(crate::proofs::VerdictLemmas::table_steps), unfolding(crate::proofs::Unfold::fetches))]
 pub(crate) fn fetch_verdict(pcc: Cap, code: CheriRange) -> Result<(), Trap>
     ensures { result ≡ first_failing (fetch_checks pcc code) }
 {

@@ -1,7 +1,19 @@
 //! Handles are opened by a listing, and closed.
 #![tactic(auto, using(crate::proofs::OpeningLemmas::openings))]
 
-ghost use Rattle.std.specs.Prelude.{◌≡◌, ◌≤◌, IfOk, IfSome, OnOk, length, None, MatchResult, Ok, Err, ◌⊎◌};
+ghost use Rattle.std.specs.Prelude.{
+  ◌≡◌,
+  ◌≤◌,
+  IfOk,
+  IfSome,
+  OnOk,
+  length,
+  None,
+  MatchResult,
+  Ok,
+  Err,
+  ◌⊎◌,
+};
 ghost use Rattle.listings.specs.Faults.{Gives};
 ghost use Rattle.listings.specs.Meaning.{listing_limit, listing_meaning};
 ghost use Rattle.cheri_machine.specs.Machines.{core_of, listing_of};

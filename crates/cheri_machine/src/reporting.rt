@@ -110,10 +110,10 @@ fn explain_machine(
     }
 }
 
-/// Writes the explanation of the events that are numbered from `first` to `last`, counted from 0, as
-/// `cheri_explain` prints it, into `room`: what each read, found, left and set, why it trapped, and
-/// why a tag was lost. It takes what the machine took once more. Where the text is longer than the
-/// room, `length` says how long it is, and the room is as it was. Leaves the machine as it is.
+/// Writes the explanation of the events that are numbered from `first` to `last`, counted from 0,
+/// as `cheri_explain` prints it, into `room`: what each read, found, left and set, why it trapped,
+/// and why a tag was lost. It takes what the machine took once more. Where the text is longer than
+/// the room, `length` says how long it is, and the room is as it was. Leaves the machine as it is.
 #[unsafe(no_mangle)]
 pub extern "C" fn cheri_machine_explain(
     alloc: Global,

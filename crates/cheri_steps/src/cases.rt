@@ -38,8 +38,8 @@ fn numbers_of(words: &str) -> Option<[u64; COUNT]> {
     if place == COUNT { Some(numbers) } else { None }
 }
 
-/// The case of a line: the instruction's name, cd, c1, c2 and the immediate, the places of code, the
-/// granules of RAM, PCC, the value of c1 and that of c2, and a granule's number and value.
+/// The case of a line: the instruction's name, cd, c1, c2 and the immediate, the places of code,
+/// the granules of RAM, PCC, the value of c1 and that of c2, and a granule's number and value.
 pub fn case_of(line: &str) -> Option<Case> {
     let (name, words) = line.split_once(' ')?;
     let mnemonic = mnemonic_of(name.as_bytes())?;

@@ -1,6 +1,7 @@
-//! `cheri_steps`: test vectors of whole steps. Each line of its input is a case: an instruction, the
-//! values that it finds, a granule of memory and the size of the code. It prints the case with what
-//! one step of the machine makes of it, as lines of words, or with any argument as lines of JSON.
+//! `cheri_steps`: test vectors of whole steps. Each line of its input is a case: an instruction,
+//! the values that it finds, a granule of memory and the size of the code. It prints the case with
+//! what one step of the machine makes of it, as lines of words, or with any argument as lines of
+//! JSON.
 #![tactic(auto)]
 
 mod cases;

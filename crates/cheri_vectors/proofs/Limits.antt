@@ -1,5 +1,5 @@
 -- How great the numbers of rows are.
-use Rattle.std.proofs.Common.{ℕ, ◌+◌, ◌-◌, ◌*◌, ◌/◌, ◌^◌, ◌<◌, ◌≤◌, arith, lit<}
+use Rattle.std.proofs.Common.{ℕ, ◌+◌, ◌-◌, ◌^◌, ◌<◌, ◌≤◌, arith, lit<}
 use Rattle.std.proofs.Math.Nat.{div-mul-le_self, pow-le-pow_right}
 use Rattle.cap_model.specs.bounds.Rounding.{rounded_top}
 use Rattle.cap_model.proofs.Rounding.Roundings.{rounding_bits, rounding_bits_at_most, rounded_top_is}

@@ -2,18 +2,8 @@
 use Rattle.std.specs.Prelude.{ℕ, List}
 use Rattle.cap_model.specs.words.Fields.{with_null_fields}
 use Rattle.cap_model.specs.words.RawBounds.{region_floor}
-use Rattle.cheri_vectors.specs.Ranges.{rounded_text}
 use Rattle.cheri_vectors.specs.Words.{bounds_text, upper_with, corner_addr}
-use Rattle.cheri_vectors.specs.Vectors.{field_names, head}
 
 unfoldable pub words : ℕ → ℕ → List ℕ
 unfolding upper_with with_null_fields corner_addr region_floor bounds_text
 words upper addr = bounds_text upper addr
-
-unfoldable pub range : ℕ → ℕ → List ℕ
-unfolding rounded_text
-range base len = rounded_text base len
-
-unfoldable pub printing : List ℕ
-unfolding field_names head
-printing = head

@@ -1,6 +1,7 @@
 -- The rows of addresses: for each exponent both sides of both edges of the window, the base and the
 -- top.
-use Rattle.std.specs.Prelude.{ℕ, ◌+◌, ◌-◌, ◌*◌, ◌/◌, ◌%◌, ◌^◌, ◌==◌, Bool, ◌&&◌, if◌then◌else◌, List, codes, slice_index}
+use Rattle.std.specs.Prelude.{ℕ, ◌+◌, ◌-◌, ◌*◌, ◌/◌, ◌%◌, ◌^◌, ◌==◌, Bool, ◌&&◌, if◌then◌else◌}
+use Rattle.std.specs.Prelude.{List, codes, slice_index}
 use Rattle.cap_model.specs.words.RawBounds.{raw_base, raw_top}
 use Rattle.cheri_vectors.specs.declared.addresses.TheConstants.{B_DIGITS}
 use Rattle.cheri_vectors.specs.Texts.{hex, bit_of, ◌+++◌}

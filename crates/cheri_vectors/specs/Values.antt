@@ -1,16 +1,22 @@
 -- The rows of values: each operation on each of some values and each of some second ones.
-use Rattle.std.specs.Prelude.{ℕ, ◌+◌, ◌/◌, ◌%◌, ◌^◌, Bool, false, List, codes, get_or}
+use Rattle.std.specs.Prelude.{ℕ, ◌/◌, ◌%◌, ◌^◌, false, List, codes, get_or}
 use Rattle.cap_model.specs.values.CapValue.{CapValue, raw, bits_of, tag_of}
 use Rattle.cap_model.specs.results.EditedWords.{word_of_halves}
 use Rattle.cap_model.specs.results.Fields.{and_perm, set_flags, set_high}
 use Rattle.cap_model.specs.results.Readings.{is_subset, is_equal_exact}
 use Rattle.cap_model.specs.results.Rebuilt.{build}
-use Rattle.cap_model.specs.results.Addresses.{address_of, clear_tag, set_address, inc_offset, set_bounds, set_bounds_exact}
+use Rattle.cap_model.specs.results.Addresses.{address_of, clear_tag, set_address, inc_offset}
+use Rattle.cap_model.specs.results.Addresses.{set_bounds, set_bounds_exact}
 use Rattle.cap_model.specs.results.Seals.{seal, unseal, seal_entry}
 use Rattle.cap_ops.specs.Tagged.{value_from}
 use Rattle.cheri_vectors.specs.declared.values.Given.{Given}
 use Rattle.cheri_vectors.specs.declared.values.Operation.{Operation}
-use Rattle.cheri_vectors.specs.declared.values.Operation.TheVariants.{ClearTag, SetAddress, IncOffset, SetBounds, SetBoundsExact, AndPerms, SetFlags, SetHigh, Seal, Unseal, SealEntry, Build, TestSubset, EqualExact}
+use Rattle.cheri_vectors.specs.declared.values.Operation.TheVariants.{ClearTag, SetAddress}
+use Rattle.cheri_vectors.specs.declared.values.Operation.TheVariants.{IncOffset, SetBounds}
+use Rattle.cheri_vectors.specs.declared.values.Operation.TheVariants.{SetBoundsExact, AndPerms}
+use Rattle.cheri_vectors.specs.declared.values.Operation.TheVariants.{SetFlags, SetHigh, Seal}
+use Rattle.cheri_vectors.specs.declared.values.Operation.TheVariants.{Unseal, SealEntry, Build}
+use Rattle.cheri_vectors.specs.declared.values.Operation.TheVariants.{TestSubset, EqualExact}
 use Rattle.cheri_vectors.specs.declared.values.TheConstants.{OPERATIONS, FIRST, SECOND}
 use Rattle.cheri_vectors.specs.Texts.{hex, bit_of, ◌+++◌}
 

@@ -1,7 +1,9 @@
 -- The rows of words: null and each single bit, and words of each exponent with bounds at the
 -- quarters.
-use Rattle.std.specs.Prelude.{ℕ, ◌+◌, ◌-◌, ◌*◌, ◌/◌, ◌%◌, ◌^◌, ◌==◌, nat_lt, if◌then◌else◌, List, codes, slice_index}
-use Rattle.cap_model.specs.words.Fields.{with_null_fields, word_perms, word_otype, word_flag, word_reserved, word_ie, word_exponent}
+use Rattle.std.specs.Prelude.{ℕ, ◌+◌, ◌-◌, ◌*◌, ◌/◌, ◌%◌, ◌^◌, ◌==◌, nat_lt, if◌then◌else◌, List}
+use Rattle.std.specs.Prelude.{codes, slice_index}
+use Rattle.cap_model.specs.words.Fields.{with_null_fields, word_perms, word_otype, word_flag}
+use Rattle.cap_model.specs.words.Fields.{word_reserved, word_ie, word_exponent}
 use Rattle.cap_model.specs.words.RawBounds.{region_floor, raw_base, raw_top}
 use Rattle.cap_model.specs.values.Capability.{unsealed_type}
 use Rattle.cap_model.specs.results.EditedWords.{word_of_halves}

@@ -69,7 +69,6 @@ fn window_start(n: usize) -> u64
 }
 
 /// A power of 2.
-#[tactic(auto, using(crate::proofs::Limits::power_at_most))]
 fn power_of_two(e: u32) -> u128
     requires { e ≤ 66 }
     ensures value { result ≡ 2 ^ e }

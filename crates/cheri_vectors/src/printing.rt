@@ -1,5 +1,5 @@
 //! The text of the vectors, and its printing.
-#![tactic(auto, unfolding(crate::proofs::Unfold::printing))]
+#![tactic(auto, unfolding(crate::specs::Vectors::vectors))]
 
 ghost use Rattle.std.specs.Prelude.{◌≡◌, ◌++◌, IfOk, OnOk, codes, string_bytes};
 ghost use Rattle.std.specs.Io.KnownBytes.{Appends};
@@ -115,7 +115,6 @@ fn push_value_rows(out: &mut String) -> Result<(), AllocError>
 }
 
 /// The text of the vectors. Fails only when out of memory.
-#[tactic(auto, unfolding(crate::specs::Vectors::vectors))]
 fn vectors_text(alloc: Global) -> Result<String, AllocError>
     ensures { IfOk result (λ text. string_bytes text ≡ vectors) }
 {

@@ -24,7 +24,6 @@ pub const POWER_ROWS: usize = 1152;
 pub const CORNER_RANGE_ROWS: usize = 768;
 
 /// Appends a range and the bounds of its rounding.
-#[tactic(auto, using(crate::proofs::Limits::rounded_top_lt), unfolding(crate::proofs::Unfold::range))]
 fn push_rounded(out: &mut String, base: u64, len: u64) -> Result<(), AllocError>
     ensures { OnOk result (string_bytes out.new ≡ string_bytes out.old ++ rounded_text base len) }
 {

@@ -1,5 +1,6 @@
 -- What was found among the arguments of a command line.
-use Rattle.std.specs.Prelude.{Bool, false, Option, Some, None, option_and_then, codes, if◌then◌else◌, [], ◌∷◌}
+use Rattle.std.specs.Prelude.{Bool, false, Option, Some, None, option_and_then, codes}
+use Rattle.std.specs.Prelude.{if◌then◌else◌, [], ◌∷◌}
 use Rattle.std.specs.Str.{bytes_eq}
 use Rattle.clap.specs.Words.{Kinds, Text}
 use Rattle.command_line.specs.declared.found.Format.{Format}

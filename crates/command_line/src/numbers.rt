@@ -1,4 +1,5 @@
 //! Numbers in the arguments of a command line.
+#![tactic(auto, using(crate::proofs::Rulesets::numbers))]
 
 ghost use Rattle.std.specs.Prelude.{◌≡◌, ◌≤◌, IfSome, option_map};
 ghost use Rattle.command_line.specs.Numbers.{decimal_within, number_or, within};
@@ -18,7 +19,6 @@ fn within(least: u32, greatest: u32, number: u128) -> Option<u32>
 }
 
 /// The number in these bounds that an argument writes, by decimal digits alone.
-#[tactic(auto, using(crate::proofs::NumberLemmas::decimal_is, crate::proofs::NumberLemmas::no_decimal))]
 pub fn decimal_within(least: u32, greatest: u32, arg: &str) -> Option<u32>
     ensures value { result ≡ decimal_within least greatest arg.now }
     ensures least { IfSome result (λ number. least ≤ number) }

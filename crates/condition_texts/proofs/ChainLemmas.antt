@@ -5,6 +5,7 @@ use Rattle.std.specs.List.{list_all, slice_split, onto_first}
 use Rattle.std.proofs.lemmas.List.{append-nil, drop_all}
 use Rattle.std.proofs.lemmas.Slice.Eq.{bytes_eq-Decides}
 use Rattle.std.proofs.lemmas.Bool.Decides.{nat_tests}
+use Rattle.std.proofs.lemmas.Bool.{cond-true, cond-false}
 use Rattle.cap_model.specs.declared.perms.Perms.{Perms}
 use Rattle.cheri_model.specs.instructions.Tables.{found_at}
 use Rattle.cheri_model.specs.runs.Image.{ImageParts}
@@ -45,14 +46,6 @@ use Rattle.condition_texts.specs.Chains as chains
 use Rattle.condition_texts.specs.Chains.{may_end, Plain, Compares, HasStatus, Reaches, Expected, Subject, Comparing, Number, Verb, Status, Address, Permissions, And, Step, Expects, Ends, atoms_from, step_of, expected_after, ended_by, subject, comparing, after_hart, has_parenthesis, plain_holds, chain_holds, HoldsAsChain}
 
 -- ---- plain logic
-
-pub if_so : {A : Type 0} (test : Bool) (x y : A) → test ≡ true → (if test then x else y) ≡ x
-if_so true x y is = refl
-if_so false x y is = absurd (cc)
-
-pub if_not : {A : Type 0} (test : Bool) (x y : A) → test ≡ false → (if test then x else y) ≡ y
-if_not false x y is = refl
-if_not true x y is = absurd (cc)
 
 pub choose : (b : Bool) (P : Type 0) → (b ≡ true → P) → (b ≡ false → P) → P
 choose true P one other = one refl
@@ -114,15 +107,15 @@ words_split (b ∷ rest) start bytes none =
     let both = neither (is_parenthesis b) (has_parenthesis rest) none in
     choose (is_space b) (texts (words_from start bytes true (b ∷ rest)) ≡ glue bytes (slice_split is_space (b ∷ rest)))
     (λ space.
-    ap texts (if_so (is_space b) (run_of start bytes true ++ words_from (start + length bytes + 1) [] true rest) _ space)
+    ap texts (cond-true (is_space b) (run_of start bytes true ++ words_from (start + length bytes + 1) [] true rest) _ space)
     ∙ ap (λ l. bytes ∷ l) (words_split rest (start + length bytes + 1) [] both.1 ∙ glue_none rest)
     ∙ ap (λ (l : List ℕ). l ∷ slice_split is_space rest) (sym (append-nil bytes))
-    ∙ ap (glue bytes) (sym (if_so (is_space b) ([] ∷ slice_split is_space rest) (onto_first b (slice_split is_space rest)) space)))
+    ∙ ap (glue bytes) (sym (cond-true (is_space b) ([] ∷ slice_split is_space rest) (onto_first b (slice_split is_space rest)) space)))
     (λ other.
-    ap texts (if_not (is_space b) _ _ other ∙ if_not (is_parenthesis b) _ (words_from start (bytes ++ b ∷ []) true rest) both.0)
+    ap texts (cond-false (is_space b) _ _ other ∙ cond-false (is_parenthesis b) _ (words_from start (bytes ++ b ∷ []) true rest) both.0)
     ∙ words_split rest start (bytes ++ b ∷ []) both.1
     ∙ glue_more bytes b (slice_split is_space rest)
-    ∙ ap (glue bytes) (sym (if_not (is_space b) ([] ∷ slice_split is_space rest) (onto_first b (slice_split is_space rest)) other)))
+    ∙ ap (glue bytes) (sym (cond-false (is_space b) ([] ∷ slice_split is_space rest) (onto_first b (slice_split is_space rest)) other)))
 
 chain_words : (text : List ℕ) → has_parenthesis text ≡ false → texts (condition_words text) ≡ words_of 0x20 text
 unfolding condition_words
@@ -178,8 +171,8 @@ module _ (c : Context) (i start : ℕ) (w : List ℕ) (there : slice_get c.words
       → opening_of c.image false w ≡ Some o → part c inside false i ≡ after_opening c inside false o (i + 1)
   unfolding part unit
   part_plain inside o no_not no_open opens =
-      if_not (is_at c i (codes "not")) _ _ (is_ok (codes "not") false no_not)
-      ∙ if_not (is_at c i (codes "(")) _ _ (is_ok (codes "(") false no_open)
+      cond-false (is_at c i (codes "not")) _ _ (is_ok (codes "not") false no_not)
+      ∙ cond-false (is_at c i (codes "(")) _ _ (is_ok (codes "(") false no_open)
       ∙ ap (λ (r : Result Opening ℕ). r >>= (λ (q : Opening). after_opening c inside false q (i + 1))) (says_ok (opening_of c.image false) o opens)
 
 and_none : (x y : Bool) → y ≡ false → (x && y) ≡ false
@@ -252,7 +245,7 @@ each_unnamed image rest =
     let no_data : is_data (0x68 ∷ rest) ≡ false =
     ap (λ t. (t && (slice_index (0x68 ∷ rest) 4 == 0x5B)) && (slice_index (0x68 ∷ rest) (length (0x68 ∷ rest) - 1) == 0x5D))
     (and_none (nat_le 6 (length (0x68 ∷ rest))) false refl) in
-    if_not (begins_hart (0x68 ∷ rest)) _ _ no_hart ∙ if_not (is_data (0x68 ∷ rest)) _ _ no_data
+    cond-false (begins_hart (0x68 ∷ rest)) _ _ no_hart ∙ cond-false (is_data (0x68 ∷ rest)) _ _ no_data
 
 place_each : (image : ImageParts) (w : List ℕ) (p : Place) → place_of image w ≡ Some p → begins_each w ≡ false
 place_each image [] p is = refl
@@ -268,7 +261,7 @@ amp_none rest =
     let no_hexadecimal : begins_hexadecimal (0x26 ∷ rest) ≡ false =
     ap (λ t. t && (slice_index (0x26 ∷ rest) 1 == 0x78)) (and_none (nat_le 2 (length (0x26 ∷ rest))) false refl) in
     let no_numeral : is_numeral 10 (0x26 ∷ rest) ≡ false = and_none (not (length (0x26 ∷ rest) == 0)) false refl in
-    let none : written_number (0x26 ∷ rest) ≡ None = if_not (begins_hexadecimal (0x26 ∷ rest)) _ _ no_hexadecimal ∙ if_not (is_numeral 10 (0x26 ∷ rest)) _ _ no_numeral in
+    let none : written_number (0x26 ∷ rest) ≡ None = cond-false (begins_hexadecimal (0x26 ∷ rest)) _ _ no_hexadecimal ∙ cond-false (is_numeral 10 (0x26 ∷ rest)) _ _ no_numeral in
     ap (λ (o : Option ℕ). number_read (ok_or (option_map within_128_bits o) Operand)) none
 
 number_address : (w : List ℕ) (n : ℕ) → number_in w ≡ Some n → begins_address w ≡ false
@@ -393,39 +386,39 @@ place_first image w wanted p is none =
 no_quantifier : (image : ImageParts) (w : List ℕ) (p : Place) → place_of image w ≡ Some p → found_at quantifier_table w ≡ None
 unfolding found_at
 no_quantifier image w p is =
-    if_not (bytes_eq (codes "any") w) _ _ (place_first image w (codes "any") p is (unnamed_any image))
-    ∙ if_not (bytes_eq (codes "no") w) _ _ (place_first image w (codes "no") p is (unnamed_no image))
-    ∙ if_not (bytes_eq (codes "two") w) _ _ (place_first image w (codes "two") p is (unnamed_two image))
-    ∙ if_not (bytes_eq (codes "all") w) _ _ (place_first image w (codes "all") p is (unnamed_all image))
+    cond-false (bytes_eq (codes "any") w) _ _ (place_first image w (codes "any") p is (unnamed_any image))
+    ∙ cond-false (bytes_eq (codes "no") w) _ _ (place_first image w (codes "no") p is (unnamed_no image))
+    ∙ cond-false (bytes_eq (codes "two") w) _ _ (place_first image w (codes "two") p is (unnamed_two image))
+    ∙ cond-false (bytes_eq (codes "all") w) _ _ (place_first image w (codes "all") p is (unnamed_all image))
 
 no_count : (image : ImageParts) (w : List ℕ) (p : Place) → place_of image w ≡ Some p → count_of w ≡ None
 unfolding count_of
 no_count image w p is =
-    if_not (bytes_eq w (codes "count")) _ _ (place_other image w (codes "count") p is (unnamed_count image))
+    cond-false (bytes_eq w (codes "count")) _ _ (place_other image w (codes "count") p is (unnamed_count image))
     ∙ ap quantifier_opening (no_quantifier image w p is)
 
 source_read : (image : ImageParts) (w : List ℕ) (p : Place) → place_of image w ≡ Some p → source_of image false w ≡ Some (source_for p)
 unfolding source_of
-source_read image w p is = if_not (begins_each w) _ _ (place_each image w p is) ∙ ap source_at is ∙ source_is p
+source_read image w p is = cond-false (begins_each w) _ _ (place_each image w p is) ∙ ap source_at is ∙ source_is p
 
 opening_hart : (image : ImageParts) (w : List ℕ) (h : ℕ) → is_digit w ≡ true → hart_numbered image (slice_index w 0 - 0x30) ≡ Some h
     → opening_of image false w ≡ Some (opening.Hart (who.Numbered h))
 unfolding opening_of
-opening_hart image w h digit is = if_so (is_digit w) _ _ digit ∙ ap hart_opening is
+opening_hart image w h digit is = cond-true (is_digit w) _ _ digit ∙ ap hart_opening is
 
 opening_place : (image : ImageParts) (w : List ℕ) (p : Place) → is_digit w ≡ false → place_of image w ≡ Some p
     → opening_of image false w ≡ Some (opening.Source (source_for p))
 unfolding opening_of count_or_source
 opening_place image w p digit is =
-    if_not (is_digit w) _ _ digit
-    ∙ if_not (bytes_eq w (codes "h")) _ _ (place_other image w (codes "h") p is (unnamed_h image))
+    cond-false (is_digit w) _ _ digit
+    ∙ cond-false (bytes_eq w (codes "h")) _ _ (place_other image w (codes "h") p is (unnamed_h image))
     ∙ ap (λ (o : Option Opening). count_or false o (source_opening (source_of image false w))) (no_count image w p is)
     ∙ ap source_opening (source_read image w p is)
 
 term_read : (labels : LabelParts) (image : ImageParts) (w : List ℕ) (n : ℕ) → number_in w ≡ Some n → term_of labels image false w ≡ Some (term.Number n)
 unfolding term_of
 term_read labels image w n is =
-    if_not (begins_address w) _ _ (number_address w n is) ∙ ap (λ (o : Option ℕ). number_or o (source_of image false w)) is
+    cond-false (begins_address w) _ _ (number_address w n is) ∙ ap (λ (o : Option ℕ). number_or o (source_of image false w)) is
 
 verb_is : verb_of false (codes "is") ≡ Some verbs.Is
 unfolding verb_of found_at
@@ -472,7 +465,7 @@ record Read (c : Context) (inside : Bool → Reader) (i : ℕ) (atoms : List Pla
 no_more : (image : ImageParts) (e : Expected) (n : ℕ) (atoms : List Plain) → may_end e ≡ false → atoms_from image e n [] ≡ Ok atoms → ⊥
 unfolding atoms_from
 no_more image e n atoms goes is =
-    let fails : Err n ≡ Ok atoms = sym (if_not (may_end e) _ _ goes) ∙ is in cc
+    let fails : Err n ≡ Ok atoms = sym (cond-false (may_end e) _ _ goes) ∙ is in cc
 
 -- a place, what compares, and a number
 place_at : (c : Context) (inside : Bool → Reader) (i start : ℕ) (w : List ℕ) (ws : List (List ℕ)) (atoms : List Plain) (p : Place)
@@ -591,17 +584,17 @@ verb_word c inside i start w (w1 ∷ ws) atoms h there after digit numbered is =
     choose (bytes_eq w1 (codes "is")) (Read c inside i atoms)
     (λ so.
     status_at c inside i start w w1 ws atoms h there after digit numbered (same_word w1 (codes "is") so)
-    (went_on c.image (Verb h) (Status h) (i + 1) w1 ws atoms is (if_so (bytes_eq w1 (codes "is")) _ _ so)))
+    (went_on c.image (Verb h) (Status h) (i + 1) w1 ws atoms is (cond-true (bytes_eq w1 (codes "is")) _ _ so)))
     (λ other.
     choose (bytes_eq w1 (codes "reaches")) (Read c inside i atoms)
     (λ so.
     reaches_at c inside i start w w1 ws atoms h there after digit numbered (same_word w1 (codes "reaches") so)
     (went_on c.image (Verb h) (Address h) (i + 1) w1 ws atoms is
-    (if_not (bytes_eq w1 (codes "is")) _ _ other ∙ if_so (bytes_eq w1 (codes "reaches")) _ _ so)))
+    (cond-false (bytes_eq w1 (codes "is")) _ _ other ∙ cond-true (bytes_eq w1 (codes "reaches")) _ _ so)))
     (λ none.
     let s = taken c.image (Verb h) (i + 1) w1 ws atoms is in
     absurd (no_some s.0
-    (sym (if_not (bytes_eq w1 (codes "is")) _ _ other ∙ if_not (bytes_eq w1 (codes "reaches")) _ _ none) ∙ s.2))))
+    (sym (cond-false (bytes_eq w1 (codes "is")) _ _ other ∙ cond-false (bytes_eq w1 (codes "reaches")) _ _ none) ∙ s.2))))
 
 atom_at : (c : Context) (inside : Bool → Reader) (i : ℕ) (words : List (List ℕ)) (atoms : List Plain) → left c.words i ≡ words
     → atoms_from c.image Subject i words ≡ Ok atoms → Read c inside i atoms
@@ -612,13 +605,13 @@ atom_at c inside i (w ∷ ws) atoms here is =
     let s = taken c.image Subject i w ws atoms is in
     choose (is_digit w) (Read c inside i atoms)
     (λ digit.
-    let h = verb_some (hart_numbered c.image (slice_index w 0 - 0x30)) s.0 (sym (if_so (is_digit w) _ _ digit) ∙ s.2) in
+    let h = verb_some (hart_numbered c.image (slice_index w 0 - 0x30)) s.0 (sym (cond-true (is_digit w) _ _ digit) ∙ s.2) in
     verb_word c inside i at.0 w ws atoms h.0 at.1 at.2 digit h.1
-    (went_on c.image Subject (Verb h.0) i w ws atoms is (if_so (is_digit w) _ _ digit ∙ ap chains.verb h.1)))
+    (went_on c.image Subject (Verb h.0) i w ws atoms is (cond-true (is_digit w) _ _ digit ∙ ap chains.verb h.1)))
     (λ other.
-    let p = comparing_some (place_of c.image w) s.0 (sym (if_not (is_digit w) _ _ other) ∙ s.2) in
+    let p = comparing_some (place_of c.image w) s.0 (sym (cond-false (is_digit w) _ _ other) ∙ s.2) in
     place_at c inside i at.0 w ws atoms p.0 at.1 at.2 other p.1
-    (went_on c.image Subject (Comparing p.0) i w ws atoms is (if_not (is_digit w) _ _ other ∙ ap comparing p.1)))
+    (went_on c.image Subject (Comparing p.0) i w ws atoms is (cond-false (is_digit w) _ _ other ∙ ap comparing p.1)))
 
 -- ---- all atoms
 
@@ -645,19 +638,19 @@ unfolding joined_to step_of
 more_atoms c inside zero f j words rest fuel room here is = ended_all c f j words rest room (omega (arith, fuel)) here is
 more_atoms c inside (suc more) f j [] rest fuel room here is =
     let none = at_none c.words j here in
-    if_not (is_at c j (codes "and")) _ _ (nothing_at c j (codes "and") none.0) ∙ ended_all c f j [] rest room none.1 here is
+    cond-false (is_at c j (codes "and")) _ _ (nothing_at c j (codes "and") none.0) ∙ ended_all c f j [] rest room none.1 here is
 more_atoms c inside (suc more) f j (w ∷ ws) rest fuel room here is =
     let at = at_word c.words j w ws here in
     let s = taken c.image And j w ws rest is in
     choose (bytes_eq w (codes "and")) (joined_to c joint.And (part c inside false) (suc more) f j ≡ Ok (all_joined f rest, length c.words))
     (λ so.
-    let read = atom_at c inside (j + 1) ws rest at.2 (went_on c.image And Subject j w ws rest is (if_so (bytes_eq w (codes "and")) _ _ so)) in
-    if_so (is_at c j (codes "and")) _ _ (is_ok c j at.0 w at.1 (codes "and") true so)
+    let read = atom_at c inside (j + 1) ws rest at.2 (went_on c.image And Subject j w ws rest is (cond-true (bytes_eq w (codes "and")) _ _ so)) in
+    cond-true (is_at c j (codes "and")) _ _ (is_ok c j at.0 w at.1 (codes "and") true so)
     ∙ ap (λ (r : Result (Formula × ℕ) ℕ). r >>= (λ (q : Formula × ℕ). joined_to c joint.And (part c inside false) more (join joint.And f q.0) q.1)) read.part_is
     ∙ more_atoms c inside more (join joint.And f (says (atom_for read.first))) read.next read.words read.rest
     (let past = read.later in omega (arith, fuel, past)) read.room read.left_is read.rest_is
     ∙ ap (λ (l : List Plain). Ok (all_joined f l, length c.words)) read.all)
-    (λ other. absurd (no_some s.0 (sym (if_not (bytes_eq w (codes "and")) _ _ other) ∙ s.2)))
+    (λ other. absurd (no_some s.0 (sym (cond-false (bytes_eq w (codes "and")) _ _ other) ∙ s.2)))
 
 chain_read : (c : Context) (inside : Bool → Reader) (atoms : List Plain) → atoms_from c.image Subject 0 (left c.words 0) ≡ Ok atoms
     → (first : Plain) × (rest : List Plain) × (first ∷ rest ≡ atoms)
@@ -677,7 +670,7 @@ unfolding joined_to
 no_or c item zero f = refl
 no_or c item (suc more) f =
     let none = at_none c.words (length c.words) (past_end c.words (length c.words) (omega arith)) in
-    if_not (is_at c (length c.words) (codes "or")) _ _ (nothing_at c (length c.words) (codes "or") none.0)
+    cond-false (is_at c (length c.words) (codes "or")) _ _ (nothing_at c (length c.words) (codes "or") none.0)
 
 whole_read : (c : Context) (atoms : List Plain) → atoms_from c.image Subject 0 (left c.words 0) ≡ Ok atoms
     → (first : Plain) × (rest : List Plain) × (first ∷ rest ≡ atoms) × (whole c ≡ Ok (all_joined (says (atom_for first)) rest))
@@ -693,7 +686,7 @@ whole_read c atoms is =
       read.1,
       read.2,
       ap (λ (r : Result (Formula × ℕ) ℕ). r >>= (λ (q : Formula × ℕ). if q.1 == length c.words then Ok q.0 else Err q.1)) all
-          ∙ if_so (length c.words == length c.words) _ _ same,
+          ∙ cond-true (length c.words == length c.words) _ _ same,
     )
 
 first_holds : (state : MachineState) (a : Plain) (rest : List Plain) → is_so state 0 (all_joined (says (atom_for a)) rest) ≡ chain_holds state (a ∷ rest)
@@ -709,6 +702,6 @@ as_chain labels image text atoms short plain is =
     let read = whole_read c atoms (ap (λ l. atoms_from image Subject 0 l) words ∙ is) in
     let f = all_joined (says (atom_for read.0)) read.1 in
     let room : nat_lt MAX_BYTES (length text) ≡ false = grind (arith, nat_tests) in
-    let all : condition_of labels image text ≡ Ok (nodes_of f) = if_not (nat_lt MAX_BYTES (length text)) _ _ room ∙ ap (nodes_or_byte text (condition_words text)) read.3 in
+    let all : condition_of labels image text ≡ Ok (nodes_of f) = cond-false (nat_lt MAX_BYTES (length text)) _ _ room ∙ ap (nodes_or_byte text (condition_words text)) read.3 in
     subst (λ (r : Result (List Node) ℕ). HoldsAsChain r atoms) (sym all)
     (λ state. ap (is_so state 0) (given_back f (nodes_of f) refl) ∙ first_holds state read.0 read.1 ∙ ap (chain_holds state) read.2)

@@ -3,6 +3,7 @@ use Rattle.std.proofs.Common.{◌≡◌, ℕ, zero, suc, ◌+◌, ◌-◌, ◌<�
 use Rattle.std.specs.Prelude.{codes}
 use Rattle.std.proofs.lemmas.Bool.Decides.{nat_tests}
 use Rattle.std.proofs.lemmas.List.{length-append}
+use Rattle.std.proofs.lemmas.Bool.{cond-true, cond-false}
 use Rattle.grammar.specs.Faults.{◌>>=◌}
 use Rattle.condition_texts.specs.declared.condition.TheConstants.{MAX_PARENTHESES}
 use Rattle.condition_texts.specs.declared.openings.Opening.{Opening}
@@ -24,14 +25,6 @@ use Rattle.condition_texts.specs.Reading.{Context, is_at, only, says_at, opening
 use Rattle.conditions.specs.declared.parts.Subject.TheVariants.{Each}
 use Rattle.condition_texts.specs.WordPairs.{word_pairs}
 use Rattle.condition_texts.specs.Conditions.{Reader, Adds, GivesNodes, said, of_harts, of_each, quantified_at, counted_at, after_opening, unit, part, joint_word, joined_to, chain, item_of, chain_with, in_parentheses, chain_of, whole}
-
-if_so : {A : Type 0} (test : Bool) (x y : A) → test ≡ true → (if test then x else y) ≡ x
-if_so true x y is = refl
-if_so false x y is = absurd (cc)
-
-if_not : {A : Type 0} (test : Bool) (x y : A) → test ≡ false → (if test then x else y) ≡ y
-if_not false x y is = refl
-if_not true x y is = absurd (cc)
 
 -- a reader stops where the first part does
 pub stops : {X Y : Type 0} (number : ℕ) (m : Result X ℕ) (next : X → Result Y ℕ) → m ≡ Err number → (m >>= next) ≡ Err number
@@ -320,12 +313,12 @@ whole_read c f end is = rw is refl
 
 pub whole_left : (c : Context) (end : ℕ) (old new : List Node) → Adds (Ok end) old new (chain_of c Or MAX_PARENTHESES false 0) → (end == length c.words) ≡ false
     → whole c ≡ Err end
-whole_left c end old new adds left = whole_read c adds.0 end adds.1 ∙ if_not (end == length c.words) _ _ left
+whole_left c end old new adds left = whole_read c adds.0 end adds.1 ∙ cond-false (end == length c.words) _ _ left
 
 pub whole_given : (c : Context) (end : ℕ) (old new : List Node) → old ≡ [] → Adds (Ok end) old new (chain_of c Or MAX_PARENTHESES false 0)
     → (end == length c.words) ≡ true → (f : Formula) × (whole c ≡ Ok f) × (new ≡ nodes_of f)
 whole_given c end old new none adds all =
-    (adds.0, whole_read c adds.0 end adds.1 ∙ if_so (end == length c.words) _ _ all, adds.2 ∙ ap (λ l. l ++ nodes_of adds.0) none)
+    (adds.0, whole_read c adds.0 end adds.1 ∙ cond-true (end == length c.words) _ _ all, adds.2 ∙ ap (λ l. l ++ nodes_of adds.0) none)
 
 pub words_count : (words : List Word) → length (word_pairs words) ≡ length words
 words_count [] = refl

@@ -10,6 +10,7 @@ use Rattle.std.proofs.lemmas.List.{take_all, take_more, take-append-drop}
 use Rattle.std.proofs.lemmas.List.Quantifiers.{position-Some}
 use Rattle.std.proofs.lemmas.Slice.Eq.{bytes_eq-Decides}
 use Rattle.std.proofs.lemmas.Bool.Decides.{nat_tests}
+use Rattle.std.proofs.lemmas.Bool.{cond-true, cond-false}
 use Rattle.bitflags.specs.Sets.{Row, find_row}
 use Rattle.cap_model.specs.declared.perms.Perms.{Perms}
 use Rattle.cap_model.specs.words.PermissionNames.{permission_table}
@@ -37,7 +38,7 @@ use Rattle.condition_texts.specs.Reading.{is_digit}
 use Rattle.condition_texts.specs.Conditions.{condition_of}
 use Rattle.condition_texts.specs.Chains as chains
 use Rattle.condition_texts.specs.Chains.{Plain, Expected, Subject, Comparing, Number, Verb, Status, Address, Permissions, And, Step, expected_after, atoms_from, step_of, subject, comparing, number_after, compared, after_hart, in_status, permissions_after, reaching, has_parenthesis, HoldsAsChain}
-use Rattle.condition_texts.proofs.ChainLemmas.{as_chain, if_so, if_not, choose, clash, no_some, bound, given, first_true, second_true}
+use Rattle.condition_texts.proofs.ChainLemmas.{as_chain, choose, clash, no_some, bound, given, first_true, second_true}
 
 -- ---- plain logic
 
@@ -132,7 +133,7 @@ row_plain (row ∷ rows) w x all is =
     choose (bytes_eq row.0 w) (IsPlain w)
     (λ so. ap has_parenthesis (sym ((bytes_eq-Decides row.0 w).0 so))
     ∙ not_true (has_parenthesis row.0) (first_true (is_plain_row row) (list_all is_plain_row rows) all))
-    (λ other. row_plain rows w x (second_true (is_plain_row row) (list_all is_plain_row rows) all) (sym (if_not (bytes_eq row.0 w) _ _ other) ∙ is))
+    (λ other. row_plain rows w x (second_true (is_plain_row row) (list_all is_plain_row rows) all) (sym (cond-false (bytes_eq row.0 w) _ _ other) ∙ is))
 
 comparison_plain : (w : List ℕ) (x : Comparison) → comparison_of w ≡ Some x → IsPlain w
 unfolding comparison_of has_parenthesis
@@ -173,8 +174,8 @@ written_plain : (w : List ℕ) (n : ℕ) → written_number w ≡ Some n → IsP
 unfolding written_number
 written_plain w n is =
     choose (begins_hexadecimal w) (IsPlain w)
-    (λ so. prefix_plain w so (hexadecimal_plain (drop 2 w) n (sym (if_so (begins_hexadecimal w) _ _ so) ∙ is)))
-    (λ other. decimal_plain w n (sym (if_not (begins_hexadecimal w) _ _ other) ∙ is))
+    (λ so. prefix_plain w so (hexadecimal_plain (drop 2 w) n (sym (cond-true (begins_hexadecimal w) _ _ so) ∙ is)))
+    (λ other. decimal_plain w n (sym (cond-false (begins_hexadecimal w) _ _ other) ∙ is))
 
 read_from : (o : Option ℕ) (n : ℕ) → number_read (ok_or (option_map within_128_bits o) Operand) ≡ Some n → (m : ℕ) × (o ≡ Some m)
 read_from (Some m) n is = (m, refl)
@@ -211,7 +212,7 @@ flag_plain (row ∷ rows) w n all is =
     choose (pointwise nat_eq row.0 w) (IsPlain w)
     (λ so. like_plain row.0 w so (not_true (has_parenthesis row.0) (first_true (is_plain_row row) (list_all is_plain_row rows) all)))
     (λ other. flag_plain rows w n (second_true (is_plain_row row) (list_all is_plain_row rows) all)
-    (sym (if_not (pointwise nat_eq row.0 w) _ _ other) ∙ is))
+    (sym (cond-false (pointwise nat_eq row.0 w) _ _ other) ∙ is))
 
 found_name : (test : Bool) (o : Option ℕ) (n : ℕ) → (if test then None else o) ≡ Some n → o ≡ Some n
 found_name true o n is = absurd (no_some n is)
@@ -273,11 +274,11 @@ split_plain separator (b ∷ w) one all =
     choose (b == separator) (IsPlain (b ∷ w))
     (λ so.
     let same : b ≡ separator = grind (arith, nat_tests) in
-    let parts = ap are_plain (sym (if_so (b == separator) ([] ∷ slice_split (λ x. x == separator) w) (onto_first b (slice_split (λ x. x == separator) w)) so)) ∙ all in
+    let parts = ap are_plain (sym (cond-true (b == separator) ([] ∷ slice_split (λ x. x == separator) w) (onto_first b (slice_split (λ x. x == separator) w)) so)) ∙ all in
     more_plain b w (ap is_parenthesis same ∙ one)
     (split_plain separator w one (second_true (not (has_parenthesis [])) (are_plain (slice_split (λ x. x == separator) w)) parts)))
     (λ other.
-    let parts = ap are_plain (sym (if_not (b == separator) ([] ∷ slice_split (λ x. x == separator) w) (onto_first b (slice_split (λ x. x == separator) w)) other)) ∙ all in
+    let parts = ap are_plain (sym (cond-false (b == separator) ([] ∷ slice_split (λ x. x == separator) w) (onto_first b (slice_split (λ x. x == separator) w)) other)) ∙ all in
     let put = put_plain b (slice_split (λ x. x == separator) w) parts in
     more_plain b w put.0 (split_plain separator w one put.1))
 
@@ -288,7 +289,7 @@ permissions_plain w p is =
     (λ not_all. choose (bytes_eq w (codes "none")) (IsPlain w) (λ so. same_plain w (codes "none") so refl)
     (λ not_none.
     let rest : result_ok (ok_or (fold with_named (Some (set_of 0)) (joined_names w)) Operand) ≡ Some p =
-    ap result_ok (sym (if_not (bytes_eq w (codes "all")) _ _ not_all ∙ if_not (bytes_eq w (codes "none")) _ _ not_none)) ∙ is in
+    ap result_ok (sym (cond-false (bytes_eq w (codes "all")) _ _ not_all ∙ cond-false (bytes_eq w (codes "none")) _ _ not_none)) ∙ is in
     split_plain 0x2B w refl (names_plain (set_of 0) p (joined_names w) (perms_from (fold with_named (Some (set_of 0)) (joined_names w)) p rest))))
 
 -- ---- places
@@ -335,7 +336,7 @@ unfolding register_of
 register_plain w n is =
     choose (is_short_register w) (IsPlain w) (short_plain w)
     (λ not_short. choose (is_long_register w) (IsPlain w) (long_plain w)
-    (λ not_long. absurd (no_ok n (sym (if_not (is_short_register w) _ _ not_short ∙ if_not (is_long_register w) _ _ not_long) ∙ is))))
+    (λ not_long. absurd (no_ok n (sym (cond-false (is_short_register w) _ _ not_short ∙ cond-false (is_long_register w) _ _ not_long) ∙ is))))
 
 register_some : (hart : ℕ) (r : Result ℕ ListingFaultKind) (held : Holder) → register_read hart r ≡ Some held → (n : ℕ) × (r ≡ Ok n)
 register_some hart (Ok n) held is = (n, refl)
@@ -346,7 +347,7 @@ unfolding holder_named has_parenthesis
 holder_plain hart w held is =
     choose (bytes_eq w (codes "pcc")) (IsPlain w) (λ so. same_plain w (codes "pcc") so refl)
     (λ other.
-    let read = register_some hart (register_of w) held (sym (if_not (bytes_eq w (codes "pcc")) _ _ other) ∙ is) in
+    let read = register_some hart (register_of w) held (sym (cond-false (bytes_eq w (codes "pcc")) _ _ other) ∙ is) in
     register_plain w read.0 read.1)
 
 hart_place_plain : (image : ImageParts) (number : ℕ) (w : List ℕ) (p : Place) → hart_place image number w ≡ Some p → IsPlain w
@@ -385,8 +386,8 @@ width_plain b x is =
     (λ no_one. choose (b == 0x32) (is_parenthesis b ≡ false) (λ so. no_parenthesis (λ z. z == 0x32) b so refl refl)
     (λ no_two. choose (b == 0x34) (is_parenthesis b ≡ false) (λ so. no_parenthesis (λ z. z == 0x34) b so refl refl)
     (λ no_four. choose (b == 0x38) (is_parenthesis b ≡ false) (λ so. no_parenthesis (λ z. z == 0x38) b so refl refl)
-    (λ no_eight. absurd (no_some x (sym (if_not (b == 0x31) _ _ no_one ∙ if_not (b == 0x32) _ _ no_two
-    ∙ if_not (b == 0x34) _ _ no_four ∙ if_not (b == 0x38) _ _ no_eight) ∙ is))))))
+    (λ no_eight. absurd (no_some x (sym (cond-false (b == 0x31) _ _ no_one ∙ cond-false (b == 0x32) _ _ no_two
+    ∙ cond-false (b == 0x34) _ _ no_four ∙ cond-false (b == 0x38) _ _ no_eight) ∙ is))))))
 
 -- a word that begins with another one
 begins_plain : (wanted w : List ℕ) → pointwise nat_eq wanted (take (length wanted) w) ≡ true → IsPlain wanted → IsPlain (drop (length wanted) w) → IsPlain w
@@ -449,15 +450,15 @@ place_plain : (image : ImageParts) (w : List ℕ) (p : Place) → place_of image
 unfolding place_of has_parenthesis
 place_plain image w p is =
     choose (begins_hart w) (IsPlain w)
-    (λ so. hart_begins w so (hart_place_plain image (slice_index w 0 - 0x30) (drop 2 w) p (sym (if_so (begins_hart w) _ _ so) ∙ is)))
+    (λ so. hart_begins w so (hart_place_plain image (slice_index w 0 - 0x30) (drop 2 w) p (sym (cond-true (begins_hart w) _ _ so) ∙ is)))
     (λ no_hart. choose (begins_granule w) (IsPlain w)
     (λ so. begins_plain (codes "mem[") w so refl
-    (granule_place_plain image (drop 4 w) p (sym (if_not (begins_hart w) _ _ no_hart ∙ if_so (begins_granule w) _ _ so) ∙ is)))
+    (granule_place_plain image (drop 4 w) p (sym (cond-false (begins_hart w) _ _ no_hart ∙ cond-true (begins_granule w) _ _ so) ∙ is)))
     (λ no_granule. choose (is_data w) (IsPlain w)
     (λ so. data_plain image w p so
-    (sym (if_not (begins_hart w) _ _ no_hart ∙ if_not (begins_granule w) _ _ no_granule ∙ if_so (is_data w) _ _ so) ∙ is))
+    (sym (cond-false (begins_hart w) _ _ no_hart ∙ cond-false (begins_granule w) _ _ no_granule ∙ cond-true (is_data w) _ _ so) ∙ is))
     (λ no_data. absurd (no_some p
-    (sym (if_not (begins_hart w) _ _ no_hart ∙ if_not (begins_granule w) _ _ no_granule ∙ if_not (is_data w) _ _ no_data) ∙ is)))))
+    (sym (cond-false (begins_hart w) _ _ no_hart ∙ cond-false (begins_granule w) _ _ no_granule ∙ cond-false (is_data w) _ _ no_data) ∙ is)))))
 
 -- ---- the words of a chain
 
@@ -473,7 +474,7 @@ unfolding step_of subject after_hart has_parenthesis
 step_plain image Subject w s is =
     choose (is_digit w) (IsPlain w) (digit_plain w)
     (λ other.
-    let at = came_of comparing (place_of image w) s refl (sym (if_not (is_digit w) _ _ other) ∙ is) in
+    let at = came_of comparing (place_of image w) s refl (sym (cond-false (is_digit w) _ _ other) ∙ is) in
     place_plain image w at.0 at.1)
 step_plain image (Comparing at) w s is =
     let read = came_of (number_after at) (comparison_of w) s refl is in comparison_plain w read.0 read.1
@@ -483,7 +484,7 @@ step_plain image (Verb hart) w s is =
     choose (bytes_eq w (codes "is")) (IsPlain w) (λ so. same_plain w (codes "is") so refl)
     (λ no_is. choose (bytes_eq w (codes "reaches")) (IsPlain w) (λ so. same_plain w (codes "reaches") so refl)
     (λ no_reaches. absurd (no_some s
-    (sym (if_not (bytes_eq w (codes "is")) _ _ no_is ∙ if_not (bytes_eq w (codes "reaches")) _ _ no_reaches) ∙ is))))
+    (sym (cond-false (bytes_eq w (codes "is")) _ _ no_is ∙ cond-false (bytes_eq w (codes "reaches")) _ _ no_reaches) ∙ is))))
 step_plain image (Status hart) w s is =
     let read = came_of (in_status hart) (status_of w) s refl is in status_plain w read.0 read.1
 step_plain image (Address hart) w s is =

@@ -1,8 +1,9 @@
 -- The words of a condition, byte by byte: those so far, and then those of the bytes that are left.
-use Rattle.std.proofs.Common.{◌≡◌, ◌≢◌, ℕ, ◌+◌, ◌-◌, ◌<◌, ◌≤◌, ◌==◌, Bool, true, false, if◌then◌else◌, List, [], ◌∷◌, ◌++◌, length, get_or, take, drop, refl, sym, ap, ◌∙◌, append_assoc, arith}
+use Rattle.std.proofs.Common.{◌≡◌, ◌≢◌, ℕ, ◌+◌, ◌-◌, ◌<◌, ◌≤◌, ◌==◌, Bool, true, false, List, [], ◌∷◌, ◌++◌, length, get_or, take, drop, refl, sym, ap, ◌∙◌, append_assoc, arith}
 use Rattle.std.specs.Prelude.{slice_range}
 use Rattle.std.proofs.lemmas.List.{drop_all, drop_more, take_more, length-take, length-drop, get_or-drop}
 use Rattle.std.proofs.lemmas.Bool.Decides.{nat_tests}
+use Rattle.std.proofs.lemmas.Bool.{cond-true, cond-false}
 use Rattle.condition_texts.specs.Words.{is_parenthesis, run_of, words_from, condition_words}
 
 -- a run of bytes
@@ -23,14 +24,6 @@ run_more text start place order room =
 
 one_byte : (text : List ℕ) (place : ℕ) → place < length text → slice_range text place (place + 1) ≡ get_or text place 0 ∷ []
 one_byte text place room = run_more text place place (omega arith) room ∙ ap (λ l. l ++ get_or text place 0 ∷ []) (run_none text place)
-
-if_so : {A : Type 0} (test : Bool) (x y : A) → test ≡ true → (if test then x else y) ≡ x
-if_so true x y is = refl
-if_so false x y is = absurd (cc)
-
-if_not : {A : Type 0} (test : Bool) (x y : A) → test ≡ false → (if test then x else y) ≡ y
-if_not false x y is = refl
-if_not true x y is = absurd (cc)
 
 run_single : (start b : ℕ) → run_of start (b ∷ []) false ≡ (start, b ∷ []) ∷ []
 run_single start b = refl
@@ -55,7 +48,7 @@ module _ (text : List ℕ) (start place : ℕ) (alone : Bool) (before pairs all 
   words_space room space now is =
       let step : words_from start run alone (get_or text place 0 ∷ drop (place + 1) text)
       ≡ run_of start run alone ++ words_from (place + 1) [] true (drop (place + 1) text) =
-      if_so (get_or text place 0 == 0x20) _ _ space
+      cond-true (get_or text place 0 == 0x20) _ _ space
       ∙ ap (λ n. run_of start run alone ++ words_from n [] true (drop (place + 1) text)) (past (omega arith)) in
       ap (λ r. pairs ++ words_from (place + 1) r true (drop (place + 1) text)) (run_none text (place + 1))
       ∙ ap (λ l. l ++ words_from (place + 1) [] true (drop (place + 1) text)) is
@@ -71,7 +64,7 @@ module _ (text : List ℕ) (start place : ℕ) (alone : Bool) (before pairs all 
       let b = get_or text place 0 in
       let rest = words_from (place + 1) [] false (drop (place + 1) text) in
       let step : words_from start run alone (b ∷ drop (place + 1) text) ≡ run_of start run false ++ (place, b ∷ []) ∷ rest =
-      if_not (b == 0x20) _ _ space ∙ if_so (is_parenthesis b) _ _ parenthesis
+      cond-false (b == 0x20) _ _ space ∙ cond-true (is_parenthesis b) _ _ parenthesis
       ∙ rw (past (omega arith), here (omega arith)) refl in
       let last : pairs ≡ (before ++ run_of start run false) ++ (place, b ∷ []) ∷ [] =
       is ∙ ap (λ l. l ++ run_of place (slice_range text place (place + 1)) false) mid_is
@@ -89,7 +82,7 @@ module _ (text : List ℕ) (start place : ℕ) (alone : Bool) (before pairs all 
   words_other room space parenthesis now =
       let step : words_from start run alone (get_or text place 0 ∷ drop (place + 1) text)
       ≡ words_from start (run ++ get_or text place 0 ∷ []) alone (drop (place + 1) text) =
-      if_not (get_or text place 0 == 0x20) _ _ space ∙ if_not (is_parenthesis (get_or text place 0)) _ _ parenthesis in
+      cond-false (get_or text place 0 == 0x20) _ _ space ∙ cond-false (is_parenthesis (get_or text place 0)) _ _ parenthesis in
       ap (λ r. before ++ words_from start r alone (drop (place + 1) text)) (run_more text start place order room)
       ∙ ap (λ l. before ++ l) (sym step) ∙ ap (λ r. before ++ words_from start run alone r) (sym (split room)) ∙ now
 

@@ -29,8 +29,8 @@ use Rattle.condition_texts.specs.WordPairs.{word_pairs}
 use Rattle.condition_texts.specs.Terms.{target_in, range_in, term_of}
 use Rattle.listing_maps.specs.Names.{names_of}
 
--- what a condition is read from: the names that it may have, as labels of its listing, the image, and
--- its words, each with the byte where it begins
+-- what a condition is read from: the names that it may have, as labels of its listing, the image,
+-- and its words, each with the byte where it begins
 pub record Context : Type 0 where
   pub labels : LabelParts
   pub image : ImageParts

@@ -31,8 +31,8 @@ fn start_of(text: &[u8], words: &[Word<'_>], number: usize) -> usize
 }
 
 /// The condition that a text writes, for an image and what beside its listing may be named: its
-/// harts, places and names are theirs. A fault is at the first word that cannot stand where it is; running out
-/// of memory says nothing of the text.
+/// harts, places and names are theirs. A fault is at the first word that cannot stand where it is;
+/// running out of memory says nothing of the text.
 pub fn read_condition<'a>(
     alloc: Global,
     names: &'a Names<'a>,

@@ -1,5 +1,5 @@
 //! Places: the numbers that a condition compares and an item shows.
-#![tactic(auto, unfolding(crate::proofs::Unfold::places))]
+#![tactic(auto, using(crate::proofs::Rulesets::point), unfolding(crate::proofs::Unfold::places))]
 
 ghost use Rattle.std.specs.Prelude.{
   ◌≡◌,
@@ -136,7 +136,6 @@ fn closing_bracket(text: &[u8]) -> Option<usize>
 }
 
 /// A text up to its first point, or all of it.
-#[tactic(auto, using(crate::proofs::Rulesets::point))]
 fn before_point(text: &[u8]) -> &[u8]
     ensures { result.now ≡ before_first (λ b. b == 0x2E) text.now }
 {

@@ -2,7 +2,7 @@
 -- as it is wanted.
 use Rattle.std.proofs.Common.{◌≡◌, ◌≢◌, ℕ, zero, suc, ◌<◌, List, [], ◌∷◌, length, get_or, slice_get, slice_set, arith, ap, sym, ◌∙◌, refl, inl, inr, ◌⊎◌}
 use Rattle.std.specs.Prelude.{Bool, true, false, not, ◌&&◌, ◌||◌, if◌then◌else◌, Option, Some, None}
-use Rattle.std.proofs.lemmas.Bool.{cases_eq}
+use Rattle.std.proofs.lemmas.Bool.{cases_eq, and_parts}
 use Rattle.std.proofs.lemmas.List.{get_or-set_same, get_or-set_other, length-set}
 use Rattle.std.proofs.lemmas.Option.{none-some, same_Some}
 use Rattle.cheri_model.specs.steps.Hart.{HartState}
@@ -25,10 +25,6 @@ use Rattle.conditions.proofs.HidingLemmas.{copy_of, both_of, of_is, is_of_same, 
 use Rattle.conditions.proofs.MovingLemmas.{moves_not, compares_still, count_still, many_at_most, many_fewer}
 
 -- ---- truth values
-
-both_true : (a b : Bool) → (a && b) ≡ true → (a ≡ true) × (b ≡ true)
-both_true true b e = (refl, e)
-both_true false b e = absurd (cc)
 
 implying : (a b : Bool) → (not a || b) ≡ true → a ≡ true → b ≡ true
 implying true b is so = is
@@ -305,11 +301,11 @@ module _ (s t : MachineState) (n : ℕ) (before after : HartState) (old : hart_a
       → atom_holds t b a ≡ wanted
   unfolding alone_atom atom_keeps atom_holds term_number
   atom_still wanted b (atom.Compares from compared (term.Number number)) none keeps so =
-      let both = both_true (source_moves (left_way wanted compared) from before after) true keeps in
+      let both = and_parts (source_moves (left_way wanted compared) from before after) true keeps in
       compares_still wanted compared (source_number s b from) number (source_number t b from) number
       (source_stays (left_way wanted compared) b from both.0) (moves_not (opposite (left_way wanted compared)) number) so
   atom_still wanted b (atom.Compares from compared (term.Source other)) none keeps so =
-      let both = both_true (source_moves (left_way wanted compared) from before after) (source_moves (opposite (left_way wanted compared)) other before after) keeps in
+      let both = and_parts (source_moves (left_way wanted compared) from before after) (source_moves (opposite (left_way wanted compared)) other before after) keeps in
       compares_still wanted compared (source_number s b from) (source_number s b other) (source_number t b from) (source_number t b other)
       (source_stays (left_way wanted compared) b from both.0) (source_stays (opposite (left_way wanted compared)) b other both.1) so
   atom_still wanted b (atom.HasStatus who test) none keeps so = absurd (none-some who (sym none))
@@ -332,7 +328,7 @@ module _ (s t : MachineState) (n : ℕ) (before after : HartState) (old : hart_a
       → (is_so t b (join k f g) ≡ wanted → G) → IsAll wanted k whole b (join k f g) → is_so s b (join k f g) ≡ wanted → G
   unfolding is_so
   all_two wanted k whole b f g G one other keeps plain all so =
-      let both = both_true _ _ keeps in
+      let both = and_parts _ _ keeps in
       let were = neutral_parts k (is_so s b f) (is_so s b g) (so ∙ all.0) in
       let parts : (who : Subject) → parts_so k who after whole ≡ wanted → (parts_so k who after f ≡ neutral k) × (parts_so k who after g ≡ neutral k) = λ who now. neutral_parts k (parts_so k who after f) (parts_so k who after g)
       (sym (parts_joined k k who after f g (joint_itself k)) ∙ all.2 who now ∙ all.0) in
@@ -347,7 +343,7 @@ module _ (s t : MachineState) (n : ℕ) (before after : HartState) (old : hart_a
       → (is_so t b (join k f g) ≡ wanted → G) → IsSome wanted k whole b (join k f g) G → is_so s b (join k f g) ≡ wanted → G
   unfolding is_so
   some_two wanted k whole b f g G one other keeps plain some so =
-      let both = both_true _ _ keeps in
+      let both = and_parts _ _ keeps in
       elim (other_parts k (is_so s b f) (is_so s b g) (so ∙ some.0)) [
         | inl is ↦ one wanted (chain k whole) b G both.0 (
           (λ now. plain (other_first k (is_so t b f) (is_so t b g) (now ∙ some.0) ∙ sym some.0)),
@@ -399,7 +395,7 @@ module _ (s t : MachineState) (n : ℕ) (before after : HartState) (old : hart_a
       → is_so s b (counted f c m) ≡ wanted → is_so t b (counted f c m) ≡ wanted
   unfolding is_so
   count_kept wanted b f c m kept keeps so =
-      let both = both_true _ _ keeps in
+      let both = and_parts _ _ keeps in
       let p : ℕ → Bool = λ k. is_so s k f in
       let q : ℕ → Bool = λ k. is_so t k f in
       let same : how_many q (length t.harts) ≡ how_many q (length s.harts) = ap (how_many q) count in

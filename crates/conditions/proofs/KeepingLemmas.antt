@@ -1,7 +1,8 @@
 -- What is worked out of a condition's nodes, part by part, is what the definitions say of it.
 use Rattle.std.proofs.Common.{◌≡◌, ℕ, List, refl, sym, ap, ◌∙◌}
 use Rattle.std.specs.Borrow.{Bor}
-use Rattle.std.specs.Prelude.{Bool, true, false, not, ◌&&◌, ◌||◌, if◌then◌else◌, Option, Some, None}
+use Rattle.std.specs.Prelude.{Bool, true, false, not, ◌&&◌, ◌||◌, Option, Some, None}
+use Rattle.std.proofs.lemmas.Bool.{cond-true, cond-false}
 use Rattle.cheri_model.specs.steps.Hart.{HartState}
 use Rattle.conditions.specs.declared.formulas.Parts.TheVariants as parts
 use Rattle.conditions.specs.declared.parts.Atom.{Atom}
@@ -17,14 +18,6 @@ use Rattle.conditions.specs.Units.{unit_keeps}
 use Rattle.conditions.specs.Hiding.{alone, is_joint, part_so, parts_so, Chain, single, chain, chain_of, unit_so, stays_so, atom_keeps, count_needs, unit_or, keeps}
 use Rattle.conditions.proofs.PartLemmas.{is_said, is_denied, is_enclosed, is_joined, is_counted}
 use Rattle.conditions.proofs.HoldingLemmas.{first_decides, other_decides}
-
-if_so : {A : Type 0} (test : Bool) (x y : A) → test ≡ true → (if test then x else y) ≡ x
-if_so true x y is = refl
-if_so false x y is = absurd (cc)
-
-if_not : {A : Type 0} (test : Bool) (x y : A) → test ≡ false → (if test then x else y) ≡ y
-if_not false x y is = refl
-if_not true x y is = absurd (cc)
 
 and_false : (x : Bool) → (x && false) ≡ false
 and_false true = refl
@@ -62,7 +55,7 @@ module _ (joint : Joint) (who : Subject) (hart : HartState) (formula : Formula) 
   unfolding parts_so
   parts_other k p q answer is other so =
       let of = two_of formula k p q is in
-      so ∙ ap (part_so joint who hart) of.2 ∙ sym (if_not (is_joint joint k) _ _ other) ∙ ap (parts_so joint who hart) (sym of.2)
+      so ∙ ap (part_so joint who hart) of.2 ∙ sym (cond-false (is_joint joint k) _ _ other) ∙ ap (parts_so joint who hart) (sym of.2)
 
   pub parts_decided : (k : Joint) (p q : Bor (List Entry)) (answer : Bool) → IsJoined formula (Some (k, p, q)) → is_joint joint k ≡ true
       → ((f : Formula) → q.now ≡ entries_of f → answer ≡ parts_so joint who hart f) → decides joint answer ≡ true → answer ≡ parts_so joint who hart formula
@@ -71,7 +64,7 @@ module _ (joint : Joint) (who : Subject) (hart : HartState) (formula : Formula) 
       let of = two_of formula k p q is in
       first_decides joint (parts_so joint who hart of.0) answer decided
       ∙ ap (λ b. joined joint (parts_so joint who hart of.0) b) (so of.1 of.4)
-      ∙ sym (if_so (is_joint joint k) _ _ same) ∙ ap (parts_so joint who hart) (sym of.2)
+      ∙ sym (cond-true (is_joint joint k) _ _ same) ∙ ap (parts_so joint who hart) (sym of.2)
 
   pub parts_both : (k : Joint) (p q : Bor (List Entry)) (first answer : Bool) → IsJoined formula (Some (k, p, q)) → is_joint joint k ≡ true
       → ((f : Formula) → q.now ≡ entries_of f → answer ≡ parts_so joint who hart f) → decides joint answer ≡ false
@@ -82,7 +75,7 @@ module _ (joint : Joint) (who : Subject) (hart : HartState) (formula : Formula) 
       first_so of.0 of.3
       ∙ other_decides joint (parts_so joint who hart of.0) answer undecided
       ∙ ap (λ b. joined joint (parts_so joint who hart of.0) b) (so of.1 of.4)
-      ∙ sym (if_so (is_joint joint k) _ _ same) ∙ ap (parts_so joint who hart) (sym of.2)
+      ∙ sym (cond-true (is_joint joint k) _ _ same) ∙ ap (parts_so joint who hart) (sym of.2)
 
 -- ---- units
 
@@ -189,7 +182,7 @@ module _ (wanted : Bool) (joint : Joint) (whole formula : Formula) (before after
   other_chain (deny f) none other = unit_not wanted single (deny f) before after _ none ∙ sym (unit_not wanted (chain joint whole) (deny f) before after _ none)
   other_chain (enclosed f) none other = unit_not wanted single (enclosed f) before after _ none ∙ sym (unit_not wanted (chain joint whole) (enclosed f) before after _ none)
   other_chain (join k g h) none other =
-      let own : chain k (join k g h) ≡ chain_of (chain joint whole) k (join k g h) = sym (if_not (is_joint joint k) _ _ (other k g h refl)) in
+      let own : chain k (join k g h) ≡ chain_of (chain joint whole) k (join k g h) = sym (cond-false (is_joint joint k) _ _ (other k g h refl)) in
       unit_not wanted single (join k g h) before after _ none
       ∙ ap (λ (c : Chain). keeps wanted c g before after && keeps wanted c h before after) own
       ∙ sym (unit_not wanted (chain joint whole) (join k g h) before after _ none)
@@ -222,7 +215,7 @@ module _ (wanted : Bool) (joint : Joint) (whole formula : Formula) (before after
       → (keeps wanted (chain joint whole) one before after && keeps wanted (chain joint whole) other before after) ≡ keeps wanted (chain joint whole) formula before after
   unfolding keeps
   chain_two k one other of same none =
-      let same_chain : chain joint whole ≡ chain_of (chain joint whole) k (join k one other) = sym (if_so (is_joint joint k) _ _ same) in
+      let same_chain : chain joint whole ≡ chain_of (chain joint whole) k (join k one other) = sym (cond-true (is_joint joint k) _ _ same) in
       ap (λ (c : Chain). keeps wanted c one before after && keeps wanted c other before after) same_chain
       ∙ sym (unit_not wanted (chain joint whole) (join k one other) before after _ (alone_chain (join k one other) of none))
       ∙ ap (λ (f : Formula). keeps wanted (chain joint whole) f before after) (sym of)

@@ -6,7 +6,6 @@ use Rattle.cheri_model.specs.steps.Hart.{HartState, register}
 use Rattle.cheri_model.specs.steps.Memory.{granule_at, bytes_at, load_data, load_capability}
 use Rattle.conditions.specs.declared.entries.Entry.{Entry}
 use Rattle.conditions.specs.declared.formulas.Parts.{Parts}
-use Rattle.conditions.specs.declared.parts.Atom.{Atom}
 use Rattle.conditions.specs.declared.parts.Comparison.{Comparison}
 use Rattle.conditions.specs.declared.parts.Field.{Field}
 use Rattle.conditions.specs.declared.parts.Node.{Node}
@@ -36,12 +35,8 @@ unfolding field_value value_in number_at granule_at bytes_at load_data load_capa
 values field value = field_value field value
 
 unfoldable pub holding : Comparison → ℕ → ℕ → Bool
-unfolding compares has_status grants reaches atom_holds decides
+unfolding compares has_status grants reaches atom_holds decides number_of
 holding comparison first second = compares comparison first second
-
-unfoldable pub counting : MachineState → ℕ → Atom → Bool
-unfolding atom_holds number_of
-counting state each a = atom_holds state each a
 
 unfoldable pub ways : Bool → Comparison → ℕ → ℕ → Bool
 unfolding left_way moves

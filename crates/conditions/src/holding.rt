@@ -165,7 +165,6 @@ fn how_many_hold<V: StateView>(view: &V, atom: &Atom) -> usize
 }
 
 /// Of how many harts one thing is so, each being `h` in turn.
-#[tactic(auto, unfolding(crate::proofs::Unfold::counting))]
 fn how_many_say<V: StateView>(view: &V, atom: &Atom) -> usize
     ensures { result ≡ how_many (λ hart. atom_holds (V.state view.now) hart atom.now)
         (length (V.state view.now).harts) }

@@ -1,3 +1,4 @@
 pub mod CoreLemmas
 pub mod RunLemmas
 pub mod SweepLemmas
+pub mod Unfold

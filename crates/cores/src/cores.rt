@@ -1,5 +1,6 @@
 //! The core of the machine: an image, the trace of what ran, and the state, which is always the
 //! replay of that trace.
+#![tactic(auto, unfolding(crate::proofs::Unfold::cores))]
 
 ghost use Rattle.std.specs.Prelude.{◌≡◌, ◌↔◌, ◌<◌, ◌≤◌, [], ◌∷◌, ◌++◌};
 ghost use Rattle.std.specs.Prelude.{length, vec_len, vec_capacity, false};
@@ -233,7 +234,6 @@ impl Core {
 }
 
 /// Why a step of a hart would be refused, where the trace has this many events.
-#[tactic(auto, unfolding(crate::specs::Cores::refused, cheri_model::specs::runs::Machine::hart_at))]
 fn refusal_of_step(harts: &[Hart], events: usize, limit: u32, hart: u8) -> Option<StepFault>
     ensures { (core : CoreParts) → core.state.harts ≡ harts.now → length core.trace ≡ events
         → core.limit ≡ limit → result ≡ refused core (Op.Step hart) }

@@ -1,4 +1,5 @@
 //! The machine before its first step: harts and memory of an image.
+#![tactic(auto, unfolding(cheri_model::specs::runs::Image::opening_memory))]
 
 ghost use Rattle.std.specs.Prelude.{◌≡◌, All, IfOk, map, length};
 ghost use Rattle.cheri_model.specs.runs.Authority.{EachOfHart};
@@ -26,7 +27,6 @@ pub fn opening_harts(alloc: Global, images: &[HartImage]) -> Result<Vec<Hart>, N
 }
 
 /// The memory of an image: an untagged 0 everywhere but at the image's granules.
-#[tactic(auto, unfolding(cheri_model::specs::runs::Image::opening_memory))]
 pub fn opening_ram(alloc: Global, image: &Image) -> Result<Ram, NoMemory>
     ensures same { IfOk result (λ ram. ram ≡ opening_memory image.now.ram image.now.granules) }
     ensures memory { IfOk result (λ ram. IsMemory ram) }

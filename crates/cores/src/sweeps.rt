@@ -1,4 +1,5 @@
 //! Sweeps of a core's harts, and why a sweep is refused.
+#![tactic(auto, unfolding(crate::specs::Cores::refused))]
 
 ghost use Rattle.std.specs.Prelude.{◌≡◌, ◌≤◌, ◌*◌, length, map, sum_by};
 ghost use Rattle.cheri_model.specs.declared.operation.Op.TheVariants.{Sweep};
@@ -10,7 +11,6 @@ use cheri_model::ADDRESS_SPACE;
 use hart_step::Hart;
 
 /// Why a sweep would be refused, where the trace has this many events.
-#[tactic(auto, unfolding(crate::specs::Cores::refused))]
 pub fn refusal_of_sweep(events: usize, limit: u32, lo: u64, hi: u128) -> Option<StepFault>
     ensures { (core : CoreParts) → length core.trace ≡ events → core.limit ≡ limit
         → result ≡ refused core (Sweep lo hi) }

@@ -1,5 +1,6 @@
 -- What the arguments of a command line of `cheri_explain` ask for.
-use Rattle.std.specs.Prelude.{ℕ, nat_le, Bool, ◌||◌, List, Option, Some, None, is_some, option_map, codes, if◌then◌else◌}
+use Rattle.std.specs.Prelude.{ℕ, nat_le, Bool, ◌||◌, List, Option, Some, None, is_some, option_map}
+use Rattle.std.specs.Prelude.{codes, if◌then◌else◌}
 use Rattle.std.specs.Borrow.{Bor}
 use Rattle.std.specs.Str.{bytes_eq}
 use Rattle.clap.specs.Words.{App, Row, Text, fault_of, first_of, matches_of, new_app, with_rule}

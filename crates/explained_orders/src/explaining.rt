@@ -116,8 +116,8 @@ fn put_order(
 
 /// An answer, and after it each of the orders that it tells of, with its explanation: what
 /// `cheri_explain` prints of it and the listing, which is the one of this image, by what a map says
-/// that its instructions come from, if there is one. It is made whole in memory, and fails only when
-/// out of it.
+/// that its instructions come from, if there is one. It is made whole in memory, and fails only
+/// when out of it.
 pub fn explain_orders(
     alloc: Global,
     listing: &[u8],

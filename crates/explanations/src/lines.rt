@@ -2,7 +2,12 @@
 #![tactic(auto, using(crate::proofs::LineLemmas::sources), unfolding(crate::specs::InstructionLines::source_of))]
 
 ghost use Rattle.std.specs.Prelude.{◌≡◌, is_some, option_map};
-ghost use Rattle.explanations.specs.InstructionLines.{line_of, shown_source, shown_sources, source_of};
+ghost use Rattle.explanations.specs.InstructionLines.{
+  line_of,
+  shown_source,
+  shown_sources,
+  source_of,
+};
 
 use asm_map_reader::Source;
 use std::marker::Model;

@@ -3,7 +3,13 @@
 
 ghost use Rattle.std.specs.Prelude.{◌≡◌, ◌++◌, OnOk, codes, decimal, string_bytes};
 ghost use Rattle.report_lines.specs.Texts.{◌+++◌};
-ghost use Rattle.explanations.specs.Reasons.{permission_set, lacks, sealed, outside, outside_region};
+ghost use Rattle.explanations.specs.Reasons.{
+  permission_set,
+  lacks,
+  sealed,
+  outside,
+  outside_region,
+};
 ghost use Rattle.explanations.specs.Reasons.{type_outside, why_text, trap_why_text};
 
 use crate::phrases::{

@@ -86,8 +86,8 @@ pub fn explain<S: Sink>(
     run_and_write(alloc, listing, order, GREATEST_TRACE_LIMIT, &text, out)
 }
 
-/// Runs the machine of a listing in an order and explains it as [`explain`] does, by what a map says
-/// that the listing's instructions come from, if there is one.
+/// Runs the machine of a listing in an order and explains it as [`explain`] does, by what a map
+/// says that the listing's instructions come from, if there is one.
 pub fn explain_mapped<S: Sink>(
     alloc: Global,
     listing: &[u8],

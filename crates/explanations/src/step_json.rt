@@ -1,7 +1,18 @@
 //! A step that was done as JSON text, piece by piece.
 #![tactic(auto, using(crate::proofs::FactLemmas::floatless))]
 
-ghost use Rattle.std.specs.Prelude.{◌≡◌, ◌++◌, OnOk, None, Some, codes, decimal, false, is_some, string_bytes};
+ghost use Rattle.std.specs.Prelude.{
+  ◌≡◌,
+  ◌++◌,
+  OnOk,
+  None,
+  Some,
+  codes,
+  decimal,
+  false,
+  is_some,
+  string_bytes,
+};
 ghost use Rattle.std.specs.Option.{option_map};
 ghost use Rattle.serde_json.specs.Written.{compact_text};
 ghost use Rattle.cheri_model.specs.declared.trace.Outcome.TheVariants as outcome;

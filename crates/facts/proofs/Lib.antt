@@ -16,3 +16,4 @@ pub mod Told
 pub mod SweptPlaces
 pub mod SweptTags
 pub mod Links
+pub mod Rulesets

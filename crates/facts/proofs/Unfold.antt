@@ -36,12 +36,8 @@ names form act = reads_of form
 
 -- derivations, by the instructions of each form
 unfoldable pub derivations : ThreeOp → ℕ → ℕ → ℕ → HartState → Option Derivation
-unfolding derivation_of three_instr two_instr immediate_instr upper_instr
+unfolding derivation_of three_instr two_instr immediate_instr upper_instr instr_of shift_instr word_shift_instr load_instr store_instr branch_instr
 derivations op cd c1 c2 hart = derivation_of (three_instr op cd c1 c2) hart
-
-unfoldable pub forms : Form → HartState → Option Derivation
-unfolding derivation_of instr_of shift_instr word_shift_instr load_instr store_instr branch_instr
-forms form hart = derivation_of (instr_of form) hart
 
 unfoldable pub losses : CapInstruction → Operands → Option Why
 unfolding why_lost first_why why_of reasons set_address

@@ -178,7 +178,6 @@ pub fn flows_of_step(seen: &Option<Seen>, outcome: Outcome, ram: &Ram) -> StepFl
 }
 
 /// The facts of an instruction, by its outcome.
-#[tactic(auto)]
 fn instruction_facts(seen: &Seen, outcome: Outcome, after: Moment<'_>, facts: &mut StepFacts)
     requires { HasTable after }
     ensures { (hart : HartState) (memory : List CapValue) (from later : Origins) →
@@ -198,7 +197,6 @@ fn instruction_facts(seen: &Seen, outcome: Outcome, after: Moment<'_>, facts: &m
 }
 
 /// Fills in the facts of a step, by what was seen before it and what is there after it.
-#[tactic(auto)]
 pub fn after_step(seen: &Option<Seen>, outcome: Outcome, after: Moment<'_>, facts: &mut StepFacts)
     requires { HasTable after }
     ensures { (program : List Instr) (hart : HartState) (memory : List CapValue)

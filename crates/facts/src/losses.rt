@@ -1,6 +1,6 @@
 //! Why a result has no tag: for each capability instruction the first line of its table of reasons
 //! that holds, with the numbers that it speaks of (CHERI ISA v9, the instructions' own pages).
-#![tactic(auto, using(crate::proofs::Numbers::numbers), unfolding(crate::proofs::Unfold::losses))]
+#![tactic(auto, using(crate::proofs::Rulesets::losses), unfolding(crate::proofs::Unfold::losses))]
 
 ghost use Rattle.std.specs.Prelude.{◌≡◌, ◌+◌, ◌%◌, ◌^◌, ◌<◌, ◌≤◌, None};
 ghost use Rattle.cap_model.specs.results.Addresses.{address_of};
@@ -332,7 +332,6 @@ fn not_buildable(o: &Operands) -> Option<Why>
 /// Why no capability has the bounds and the address of a word that could be rebuilt otherwise, if
 /// none has. The bounds of such a word are always multiples of their length's alignment, so that
 /// line is left out.
-#[tactic(auto)]
 fn not_encodable(o: &Operands) -> Option<Why>
     requires { not_buildable o.now ≡ None }
     ensures { result ≡ why_lost cap.CBuildCap o.now }
@@ -347,7 +346,6 @@ fn not_encodable(o: &Operands) -> Option<Why>
 }
 
 /// Of CBuildCap.
-#[tactic(auto, using(crate::proofs::Built::first_line))]
 pub fn build_why(o: &Operands) -> Option<Why>
     ensures { result ≡ why_lost cap.CBuildCap o.now }
 {

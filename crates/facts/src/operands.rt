@@ -163,7 +163,6 @@ fn set_bounds_derived(cd: Reg, c1: Reg, len: u16, hart: &Hart) -> Option<Derived
 }
 
 /// What an instruction of this form makes a capability by, if it does.
-#[tactic(auto, unfolding(crate::proofs::Unfold::forms))]
 pub fn form_derived(form: Form, hart: &Hart) -> Option<Derived>
     ensures { option_map model_of result ≡ derivation_of (instr_of form) hart.now }
 {

@@ -161,7 +161,6 @@ fn seen_before(fetched: &Fetched, now: Moment<'_>, facts: &mut StepFacts) -> See
 
 /// What is seen before a step of a hart: nothing where its fetch traps. The registers that its
 /// instruction reads are registers, which the laws of traps ask.
-#[tactic(auto)]
 pub fn before_step(program: &[Instr], now: Moment<'_>, facts: &mut StepFacts) -> Option<Seen>
     requires { HasTable now }
     ensures seen { (from : Origins) → Tells now.entry.origins.now from →

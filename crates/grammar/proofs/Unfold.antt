@@ -1,5 +1,5 @@
 -- Names for `unfolding(..)` that open what their own line names.
-use Rattle.std.specs.Prelude.{ℕ, Bool, List, Option, Result}
+use Rattle.std.specs.Prelude.{ℕ, Bool, List, Result}
 use Rattle.bitflags.specs.Sets.{known_from}
 use Rattle.cheri_model.specs.declared.form.Form.{Form}
 use Rattle.cap_model.specs.declared.perms.Perms.{Perms}
@@ -19,14 +19,13 @@ use Rattle.grammar.specs.Forms.{three_form, two_form, immediate_form, shift_form
 use Rattle.grammar.specs.Forms.{word_shift_form, set_bounds_form, upper_form, load_form}
 use Rattle.grammar.specs.Forms.{store_form, swap_form, branch_form, jump_form, invoke_form}
 use Rattle.grammar.specs.Forms.{alone_form}
+use Rattle.grammar.specs.Forms.{counted, form_from}
+use Rattle.grammar.specs.Permissions.{with_named}
+use Rattle.grammar.specs.Tokens.{is_blank, ends_token, token_at}
 
-unfoldable pub named : List ℕ → Option ℕ
-unfolding permission_named
-named name = permission_named name
-
-unfoldable pub permissions : List ℕ → Result Perms ListingFaultKind
-unfolding permissions_of known_from
-permissions token = permissions_of token
+unfoldable pub named : List ℕ → Result Perms ListingFaultKind
+unfolding permissions_of known_from permission_named with_named
+named token = permissions_of token
 
 unfoldable pub memory : List ℕ → Result MemoryOperand ListingFaultKind
 unfolding memory_operand_of
@@ -45,5 +44,9 @@ unfolding is_label_name is_label_token label_parts target_operand_of target_of l
 labels token = is_label_token token
 
 unfoldable pub forms : List (List ℕ) → Result Form ListingFaultKind
-unfolding three_form two_form immediate_form shift_form word_shift_form set_bounds_form upper_form load_form store_form swap_form branch_form jump_form invoke_form alone_form
+unfolding three_form two_form immediate_form shift_form word_shift_form set_bounds_form upper_form load_form store_form swap_form branch_form jump_form invoke_form alone_form counted form_from
 forms tokens = alone_form tokens
+
+unfoldable pub tokens : ℕ
+unfolding is_blank ends_token token_at
+tokens = 0

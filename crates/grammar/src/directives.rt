@@ -1,4 +1,5 @@
 //! The directives of a listing.
+#![tactic(auto, unfolding(crate::specs::Directives::has_point))]
 
 ghost use Rattle.std.specs.Prelude.{◌≡◌};
 ghost use Rattle.grammar.specs.Directives.{has_point, directive_of};
@@ -29,7 +30,6 @@ const DIRECTIVES: &[(&str, Directive)] = &[
 ];
 
 /// Whether a token begins as directives do.
-#[tactic(auto, unfolding(crate::specs::Directives::has_point))]
 fn has_point(token: &[u8]) -> bool
     ensures { result ≡ has_point token.now }
 {

@@ -1,5 +1,5 @@
 //! The operands of instructions, by their form.
-#![tactic(auto, unfolding(crate::proofs::Unfold::forms))]
+#![tactic(auto, using(crate::proofs::Rulesets::count), unfolding(crate::proofs::Unfold::forms))]
 
 ghost use Rattle.std.specs.Prelude.{◌≡◌};
 ghost use Rattle.grammar.specs.Tokens.{texts};
@@ -36,7 +36,6 @@ use cheri_model::names::Mnemonic;
 use cheri_model::{MAX_IMMEDIATE_LENGTH, MAX_SHIFT, MAX_UPPER_IMMEDIATE, MAX_WORD_SHIFT};
 
 /// Refuses a line of more or fewer tokens with `Operand`.
-#[tactic(auto, using(crate::proofs::Rulesets::count), unfolding(crate::specs::Forms::counted))]
 pub fn counted(count: usize, tokens: &[&[u8]]) -> Result<(), ListingFaultKind>
     ensures { result ≡ counted count (texts tokens.now) }
 {
@@ -206,7 +205,6 @@ fn alone_form(tokens: &[&[u8]]) -> Result<Form, ListingFaultKind>
 }
 
 /// The operands of an instruction's line: their count and shapes, then their ranges, then labels.
-#[tactic(auto, unfolding(crate::specs::Forms::form_from))]
 pub fn form_from(
     labels: &Labels<'_>,
     mnemonic: Mnemonic,

@@ -1,4 +1,5 @@
 //! The numbers of a listing.
+#![tactic(auto, unfolding(crate::specs::Numerals::number_of))]
 
 ghost use Rattle.std.specs.Prelude.{◌≡◌, ◌≤◌};
 ghost use Rattle.grammar.specs.Numerals.{number_of_digits, number_of, at_most};
@@ -17,7 +18,6 @@ pub fn number_of_digits(base: u8, token: &[u8]) -> Result<Option<u128>, ListingF
 
 /// The number that a token writes, in decimal or after `0x` in hexadecimal; `None` at or above
 /// 2^128. Fails with `Operand` where the token is no number.
-#[tactic(auto, unfolding(crate::specs::Numerals::number_of))]
 pub fn number_of(token: &[u8]) -> Result<Option<u128>, ListingFaultKind>
     ensures { result ≡ number_of token.now }
 {

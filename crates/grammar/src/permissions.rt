@@ -1,4 +1,5 @@
 //! The permission sets of a listing.
+#![tactic(auto, using(crate::proofs::Rulesets::no_name), unfolding(crate::proofs::Unfold::named))]
 
 ghost use Rattle.std.specs.Prelude.{◌≡◌, Some, option_map, fold};
 ghost use Rattle.grammar.specs.Permissions.{
@@ -15,7 +16,6 @@ use cheri_model::Perms;
 use std::str;
 
 /// The permission of this name.
-#[tactic(auto, using(crate::proofs::Rulesets::no_name), unfolding(crate::proofs::Unfold::named))]
 fn permission_named(name: &[u8]) -> Option<Perms>
     ensures { option_map (λ perms. perms.0) result ≡ permission_named name.now }
 {
@@ -26,7 +26,6 @@ fn permission_named(name: &[u8]) -> Option<Perms>
 }
 
 /// A set and one more permission, by its name.
-#[tactic(auto, unfolding(crate::specs::Permissions::with_named))]
 fn with_named(perms: Option<Perms>, name: &[u8]) -> Option<Perms>
     ensures { result ≡ with_named perms name.now }
 {
@@ -46,7 +45,6 @@ fn joined_permissions(token: &[u8]) -> Option<Perms>
 
 /// The permission set that a token writes: `all`, `none`, or names joined by `+`. Fails with
 /// `Operand`.
-#[tactic(auto, unfolding(crate::proofs::Unfold::permissions))]
 pub fn permissions_of(token: &[u8]) -> Result<Perms, ListingFaultKind>
     ensures { result ≡ permissions_of token.now }
 {

@@ -1,5 +1,5 @@
 //! The tokens of a listing's line.
-#![tactic(auto, using(crate::proofs::Rulesets::token))]
+#![tactic(auto, using(crate::proofs::Rulesets::token), unfolding(crate::proofs::Unfold::tokens))]
 
 ghost use Rattle.std.specs.Prelude.{◌≡◌, OnOk, not, position};
 ghost use Rattle.grammar.specs.Tokens.{
@@ -15,7 +15,6 @@ ghost use Rattle.grammar.specs.Tokens.{
 use std::alloc::AllocError;
 
 /// Whether a byte separates tokens.
-#[tactic(auto, unfolding(crate::specs::Tokens::is_blank))]
 fn is_blank(byte: u8) -> bool
     ensures { result ≡ is_blank byte }
 {
@@ -23,7 +22,6 @@ fn is_blank(byte: u8) -> bool
 }
 
 /// Whether a byte ends a token: a blank, or the beginning of the comment.
-#[tactic(auto, unfolding(crate::specs::Tokens::ends_token))]
 fn ends_token(byte: u8) -> bool
     ensures { result ≡ ends_token byte }
 {
@@ -89,7 +87,6 @@ pub fn read_tokens<'a>(line: &'a [u8], tokens: &mut Vec<&'a [u8]>) -> Result<(),
 }
 
 /// The token at a place, and an empty one where there is none.
-#[tactic(auto, using(crate::proofs::Rulesets::token), unfolding(crate::specs::Tokens::token_at))]
 pub fn token_at<'a>(tokens: &[&'a [u8]], place: usize) -> &'a [u8]
     ensures { result.now ≡ token_at (texts tokens.now) place }
 {

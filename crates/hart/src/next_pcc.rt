@@ -1,5 +1,6 @@
 //! Where PCC goes: to the next instruction, or to the target of a jump. Each keeps its tag, since
 //! the checks before it say that it is in bounds.
+#![tactic(auto, unfolding(cheri_model::specs::steps::Hart::link))]
 
 ghost use Rattle.std.specs.Prelude.{◌≡◌, true};
 ghost use Rattle.cap_model.specs.values.CapValue.{IsLawfulValue, tag_of};
@@ -25,7 +26,6 @@ pub fn next_pcc(pcc: Cap) -> Cap
 }
 
 /// What a jump leaves to come back by: the next instruction's address, sealed as a sentry.
-#[tactic(auto, unfolding(cheri_model::specs::steps::Hart::link))]
 pub fn link(pcc: Cap) -> Cap
     requires open { is_open pcc ≡ true }
     requires within { in_bounds pcc (address_of pcc) 4 ≡ true }

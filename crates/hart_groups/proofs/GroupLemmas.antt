@@ -6,9 +6,16 @@ use Rattle.std.proofs.lemmas.Bool.{cases_eq, cases_lt, both_ways}
 use Rattle.std.proofs.lemmas.Bool.Decides.{nat_tests}
 use Rattle.std.proofs.lemmas.Option.{slice_get_cases, slice_get_within}
 use Rattle.cheri_model.specs.declared.image.HartImage.{HartImage}
+use Rattle.cheri_model.specs.runs.Image.{ImageParts}
+use Rattle.cheri_model.specs.runs.ImageRules.{is_image}
+use Rattle.explore_turns.proofs.ImageSizes.{harts_few}
 use Rattle.hart_order.specs.Arrangements.{group_of, are_grouped}
 use Rattle.named_harts.specs.NamedHarts.{has}
 use Rattle.hart_groups.specs.HartGroups.{AreSame, IsGroup, AreGroups}
+
+-- an image's harts are at most eight
+pub few_harts : (image : ImageParts) (harts : List HartImage) → is_image image ≡ true → harts ≡ image.harts → length harts ≤ 8
+few_harts image harts formed are = rw are (harts_few image formed)
 
 -- the groups of so many harts
 pub record AreSoFar (harts : List HartImage) (named : List Bool) (groups : List ℕ) (number : ℕ) : Type 0 where

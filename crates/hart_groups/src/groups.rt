@@ -65,7 +65,6 @@ fn group_of(harts: &[HartImage], named: &HartSet, hart: usize) -> u8
 /// The groups of harts that are the same to a question: harts with equal images that it doesn't
 /// name. A hart that no other is like is of no group. A group has the number of its first hart and
 /// 1 more.
-#[tactic(auto, using(explore_turns::proofs::ImageSizes::harts_few))]
 pub fn groups_of(image: &Image, named: &HartSet) -> HartGroups
     ensures { AreGroups image.now.harts named.now result }
 {

@@ -10,12 +10,8 @@ use Rattle.cheri_model.specs.steps.HartStep.{instruction_at}
 use Rattle.cap_model.specs.values.CapValue.{CapValue}
 
 unfoldable pub done : Action → HartState → List CapValue → Stepped
-unfolding execute trapped permitted
+unfolding execute trapped permitted hart_step
 done action hart memory = execute action hart memory
-
-unfoldable pub step : List Instr → HartState → List CapValue → Stepped
-unfolding hart_step trapped
-step program hart memory = hart_step program hart memory
 
 unfoldable pub fetches : CapValue → ℕ → List CheckLine
 unfolding fetch_table instruction_at

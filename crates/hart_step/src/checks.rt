@@ -1,4 +1,5 @@
 //! The checks that an instruction must pass before it acts.
+#![tactic(auto, unfolding(cheri_model::specs::steps::Checks::first_failing))]
 
 ghost use Rattle.std.specs.Prelude.{◌≡◌, ◌%◌, ◌<◌, ◌==◌, ◌&&◌, not, find};
 ghost use Rattle.cap_model.specs.values.Capability.{unsealed_type};
@@ -53,7 +54,6 @@ fn first_line(table: &[Line]) -> Option<Line>
 }
 
 /// The trap of the first line that fails, if one does.
-#[tactic(auto, unfolding(cheri_model::specs::steps::Checks::first_failing))]
 pub(crate) fn first_failing(table: &[Line]) -> Result<(), Trap>
     ensures { result ≡ first_failing table.now }
 {

@@ -51,25 +51,25 @@ fn permitted(auth: Cap, value: Cap) -> Cap
     }
 }
 
-/// Loads a number.
-fn load(
-    hart: &mut Hart,
-    ram: &Ram,
-    cd: Reg,
-    c1: Reg,
-    addr: u64,
+/// A number in memory: its width, and whether it has a sign.
+#[derive(Clone, Copy)]
+struct Number {
     width: Width,
     signed: bool,
-) -> Outcome
+}
+
+/// Loads a number.
+fn load(hart: &mut Hart, ram: &Ram, cd: Reg, c1: Reg, addr: u64, number: Number) -> Outcome
     requires open { is_open hart.old.pcc ≡ true }
     requires within { in_bounds hart.old.pcc (address_of hart.old.pcc) 4 ≡ true }
-    ensures { execute (Load cd c1 addr width signed) hart.old ram.now
+    ensures { execute (Load cd c1 addr number.width number.signed) hart.old ram.now
         ≡ record { hart = hart.new; memory = ram.now; outcome = result } }
 {
     let auth = hart.register(c1);
+    let width = number.width;
     match access_check(auth, c1.number(), addr, Access::Load(width), None, ram) {
         Ok(()) => {
-            let number = loaded(signed, width, ram.load(addr, width));
+            let number = loaded(number.signed, width, ram.load(addr, width));
             hart.put(cd, Cap::of_int(number));
             hart.advance();
             Outcome::Done
@@ -252,7 +252,7 @@ fn execute(action: Action, hart: &mut Hart, ram: &mut Ram) -> Outcome
             addr,
             width,
             signed,
-        } => load(hart, ram, cd, c1, addr, width, signed),
+        } => load(hart, ram, cd, c1, addr, Number { width, signed }),
         Action::Store {
             c1,
             addr,
@@ -286,7 +286,6 @@ fn execute(action: Action, hart: &mut Hart, ram: &mut Ram) -> Outcome
 /// One step of a hart that runs: the first failing check of the fetch traps and changes nothing but
 /// the status, else the instruction at PCC acts. No step makes authority (CHERI ISA v9, "capability
 /// monotonicity"). Takes no memory.
-#[tactic(auto, unfolding(crate::proofs::Unfold::step))]
 pub fn step(program: &[Instr], hart: &mut Hart, ram: &mut Ram) -> Outcome
     ensures value { hart_step program.now hart.old ram.old
         ≡ record { hart = hart.new; memory = ram.new; outcome = result } }

@@ -6,7 +6,8 @@ use Rattle.cheri_model.specs.runs.Replay.{step_count}
 use Rattle.cheri_model.specs.declared.trace.Outcome.{Outcome}
 use Rattle.cheri_model.specs.declared.trace.Outcome.TheVariants.{Done, Halt, Trap}
 use Rattle.cores.specs.declared.faults.StepFault.{StepFault}
-use Rattle.cores.specs.declared.faults.StepFault.TheVariants.{NoSuchHart, TraceFull, HartStopped, NoMemory, BadRange}
+use Rattle.cores.specs.declared.faults.StepFault.TheVariants.{NoSuchHart, TraceFull, HartStopped}
+use Rattle.cores.specs.declared.faults.StepFault.TheVariants.{NoMemory, BadRange}
 use Rattle.harts.specs.declared.workers.Why.{Why}
 use Rattle.harts.specs.declared.workers.Why.TheVariants.{Turns, Gate, Stopped, Refused}
 use Rattle.harts.specs.declared.workers.HartReport.{HartReport}

@@ -1,16 +1,9 @@
 -- Files that were refused, as faults of a program.
-use Rattle.std.proofs.Common.{◌≡◌, refl, subst, sym, ap, ℕ, Bool, List, Option, Result, Ok, Err, inl, inr}
+use Rattle.std.proofs.Common.{◌≡◌, refl, subst, sym, ℕ, Bool, List, Option, Result, Err, inl, inr}
 use Rattle.cheri_model.specs.runs.Image.{ImageParts}
-use Rattle.grammar.specs.declared.fault.ListingFaultKind.{ListingFaultKind}
-use Rattle.grammar.specs.declared.fault.ListingFaultKind.TheVariants as kinds
-use Rattle.listings.specs.declared.fault.ListingFault.{ListingFault}
-use Rattle.listings.specs.Faults.{Gives}
-use Rattle.listings.specs.Meaning.{listing_meaning}
 use Rattle.printing.specs.Endings.{Answer, Failure, FailsBy, OutOfMemory}
 use Rattle.printing.proofs.EndingLemmas.{IsEarly, early}
-use Rattle.inputs.specs.Faults.{listing_fault, listing_fault_of_kind}
-use Rattle.inputs.specs.Files.{AreBytesOf}
-use Rattle.inputs.specs.Reading.{AreTextsUnread, IsImageRefused, IsListingUnread, IsOrderUnread, MeansImage, OfImage, OfMeant, OfTexts, image_meant, image_of_meaning}
+use Rattle.inputs.specs.Reading.{AreTextsUnread, IsImageRefused, MeansImage, OfImage, OfMeant, OfTexts}
 use Rattle.inputs.specs.declared.fault.InputFault.{InputFault}
 use Rattle.inputs.specs.declared.fault.InputFault.TheVariants as faults
 
@@ -69,54 +62,3 @@ pub of_image : {A : Type 0} (file : Option (List ℕ)) (refused : InputFault →
     MeansImage file image → IsSo image → OfImage file refused IsSo answer
 of_image file refused IsSo answer image means so =
     inr (means.0, means.1, subst (λ (r : Result ImageParts InputFault). OfMeant r refused IsSo answer) (sym means.2) so)
-
--- a listing that was read and judged
-pub means_image : (file : Option (List ℕ)) (bytes : List ℕ) (image : ImageParts) → AreBytesOf file bytes → listing_meaning bytes ≡ Ok image →
-    MeansImage file image
-means_image file bytes image are meaning = (bytes, are, ap image_of_meaning meaning)
-
--- a listing that was not read, or refused
-pub unread_image : (file : Option (List ℕ)) (fault : InputFault) → IsListingUnread file fault → IsImageRefused file fault
-unread_image file faults.NoMemory is = tt
-unread_image file faults.CannotReadListing is = is
-unread_image file faults.CannotReadOrder is = absurd is
-unread_image file (faults.Listing fault) is = absurd is
-unread_image file (faults.Order fault) is = absurd is
-
-refused_so : (file : Option (List ℕ)) (bytes : List ℕ) (kind : ListingFaultKind) (fault : ListingFault) → AreBytesOf file bytes →
-    image_meant bytes ≡ Err (listing_fault_of_kind kind fault) → IsImageRefused file (listing_fault_of_kind kind fault)
-refused_so file bytes kinds.NoMemory fault are is = tt
-refused_so file bytes kinds.NotAscii fault are is = (bytes, are, is)
-refused_so file bytes kinds.Word fault are is = (bytes, are, is)
-refused_so file bytes kinds.Operand fault are is = (bytes, are, is)
-refused_so file bytes kinds.Range fault are is = (bytes, are, is)
-refused_so file bytes kinds.Label fault are is = (bytes, are, is)
-refused_so file bytes kinds.Twice fault are is = (bytes, are, is)
-refused_so file bytes kinds.Capability fault are is = (bytes, are, is)
-refused_so file bytes kinds.NoHart fault are is = (bytes, are, is)
-refused_so file bytes kinds.Size fault are is = (bytes, are, is)
-
-pub refused_image : (file : Option (List ℕ)) (bytes : List ℕ) (fault : ListingFault) → AreBytesOf file bytes →
-    Gives {X = ImageParts} (Err fault) (listing_meaning bytes) → IsImageRefused file (listing_fault fault)
-refused_image file bytes fault are (inl none) = subst (λ (f : ListingFault). IsImageRefused file (listing_fault f)) (sym none) tt
-refused_image file bytes fault are (inr meaning) = refused_so file bytes fault.kind fault are (ap image_of_meaning meaning)
-
--- texts of which one was not read
-pub unread_listing : (listing order : Option (List ℕ)) (fault : InputFault) → IsListingUnread listing fault → AreTextsUnread listing order fault
-unread_listing listing order faults.NoMemory is = tt
-unread_listing listing order faults.CannotReadListing is = is
-unread_listing listing order faults.CannotReadOrder is = absurd is
-unread_listing listing order (faults.Listing fault) is = absurd is
-unread_listing listing order (faults.Order fault) is = absurd is
-
-pub unread_order : (listing order : Option (List ℕ)) (bytes : List ℕ) (fault : InputFault) → AreBytesOf listing bytes → IsOrderUnread order fault →
-    AreTextsUnread listing order fault
-unread_order listing order bytes faults.NoMemory are is = tt
-unread_order listing order bytes faults.CannotReadOrder are is = ((bytes, are), is)
-unread_order listing order bytes faults.CannotReadListing are is = absurd is
-unread_order listing order bytes (faults.Listing fault) are is = absurd is
-unread_order listing order bytes (faults.Order fault) are is = absurd is
-
-pub ruleset reads_texts = (unread_listing, unread_order)
-
-pub ruleset reads_image = (means_image, unread_image, refused_image)

@@ -51,7 +51,6 @@ fn read_order_text<F: Files>(files: &mut F, name: &str) -> Result<Vec<u8>, Input
 }
 
 /// The bytes of a listing and then of an order, neither of which is judged.
-#[tactic(auto, using(crate::proofs::InputLemmas::reads_texts))]
 pub fn read_texts<F: Files>(files: &mut F, listing: &str, order: &str) -> Result<Texts, InputFault>
     ensures listing { IfOk result (λ texts.
         AreBytesOf (F.bytes_of files.old listing.now) texts.listing.items) }
@@ -67,7 +66,6 @@ pub fn read_texts<F: Files>(files: &mut F, listing: &str, order: &str) -> Result
 }
 
 /// The image that a listing's file means.
-#[tactic(auto, using(crate::proofs::InputLemmas::reads_image))]
 pub fn read_image<F: Files>(alloc: Global, files: &mut F, name: &str) -> Result<Image, InputFault>
     ensures meaning { IfOk result (MeansImage (F.bytes_of files.old name.now)) }
     ensures refused { IfErr result (IsImageRefused (F.bytes_of files.old name.now)) }

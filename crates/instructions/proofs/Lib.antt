@@ -1,1 +1,2 @@
 pub mod Unfold
+pub mod Rulesets

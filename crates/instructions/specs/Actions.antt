@@ -2,7 +2,8 @@
 use Rattle.cheri_model.specs.steps.Actions.{Action}
 use Rattle.cheri_model.specs.steps.Actions as model
 use Rattle.instructions.specs.declared.actions.Action.{Action as CodeAction}
-use Rattle.instructions.specs.declared.actions.Action.TheVariants.{Put, Load, Store, LoadCap, StoreCap}
+use Rattle.instructions.specs.declared.actions.Action.TheVariants.{Put, Load, Store, LoadCap}
+use Rattle.instructions.specs.declared.actions.Action.TheVariants.{StoreCap}
 use Rattle.instructions.specs.declared.actions.Action.TheVariants.{Swap, Branch, Jump, JumpThrough}
 use Rattle.instructions.specs.declared.actions.Action.TheVariants.{Invoke, Halt}
 

@@ -1,6 +1,7 @@
 //! What an instruction asks for, its sources read before anything is written. All of it is inlined
 //! into the step, so that no action is written to memory, and into callers that only ask for an
 //! action's kind, so that nothing else of it is computed.
+#![tactic(auto, using(crate::proofs::Rulesets::back), unfolding(crate::proofs::Unfold::forms))]
 
 ghost use Rattle.std.specs.Prelude.{◌≡◌};
 ghost use Rattle.cheri_model.specs.steps.Actions.{action};
@@ -93,7 +94,6 @@ pub enum Action {
 
 /// What an instruction asks for, by its form.
 #[inline(always)]
-#[tactic(auto, unfolding(crate::proofs::Unfold::forms))]
 fn form_action(form: Form, hart: &Hart) -> Action
     ensures { action_of result ≡ action (instr_of form) hart.now }
 {
@@ -120,7 +120,6 @@ fn form_action(form: Form, hart: &Hart) -> Action
 
 /// What an instruction asks for, its sources read from a hart.
 #[inline(always)]
-#[tactic(auto, using(cheri_model::proofs::Runs::Instructions::forms_back))]
 pub fn instr_action(instr: Instr, hart: &Hart) -> Action
     ensures { action_of result ≡ action instr hart.now }
 {

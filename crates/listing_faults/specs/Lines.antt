@@ -10,8 +10,8 @@ use Rattle.grammar.specs.Tokens.{tokens_of, token_at}
 unfoldable pub text_of : List (List ℕ) → List ℕ
 text_of lines = drop 1 (flat_map (λ line. 0x0A ∷ line) lines)
 
--- What stands for a faulty line is what other lines count of it: an instruction where it begins with
--- the name of one, or the label that it defines.
+-- What stands for a faulty line is what other lines count of it: an instruction where it begins
+-- with the name of one, or the label that it defines.
 abbrev pub stand_in_of : List ℕ → List ℕ
 stand_in_of token =
     if is_instruction token then codes "ecall"

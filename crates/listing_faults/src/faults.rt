@@ -61,8 +61,8 @@ fn tell(faults: &mut Vec<ListingFault>, last: usize, fault: ListingFault) -> Res
 
 /// The faulty lines of a listing, in order, each with the fault that the listing has where other
 /// lines stand for those before it: these make nothing, but their labels are there and their
-/// instructions are counted. At most [`MOST_READINGS`] readings look for them. Fails only when out of
-/// memory.
+/// instructions are counted. At most [`MOST_READINGS`] readings look for them. Fails only when out
+/// of memory.
 pub fn listing_faults(alloc: Global, text: &[u8]) -> Result<Vec<ListingFault>, NoMemory>
     ensures { IfOk result (λ faults. faults.items ≡ faults_of text.now) }
 {

@@ -52,7 +52,8 @@ pub(crate) fn joined(alloc: Global, lines: &[&[u8]]) -> Result<Vec<u8>, AllocErr
     Ok(text)
 }
 
-/// What stands for a faulty line: an instruction for one, a label for its own line, and else nothing.
+/// What stands for a faulty line: an instruction for one, a label for its own line, and else
+/// nothing.
 fn stand_in(line: &[u8]) -> &[u8]
     ensures { result.now ≡ stand_in line.now }
 {

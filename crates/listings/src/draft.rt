@@ -1,5 +1,5 @@
 //! What the lines of a listing make, one after another.
-#![tactic(auto, unfolding(crate::proofs::Unfold::draft))]
+#![tactic(auto, using(crate::proofs::Rulesets::image), unfolding(crate::proofs::Unfold::draft))]
 
 ghost use Rattle.std.specs.Prelude.{◌≡◌, IfOk};
 ghost use Rattle.listings.specs.Faults.{Gives, FillsLine};
@@ -234,7 +234,6 @@ impl Draft {
     }
 
     /// The image of all lines.
-    #[tactic(auto, using(crate::proofs::Rulesets::image), unfolding(crate::specs::Meaning::finished))]
     pub fn finish(self, alloc: Global) -> Result<Image, ListingFault>
         ensures { Gives result (finished self) }
     {

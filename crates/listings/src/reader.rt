@@ -1,4 +1,5 @@
 //! Reading a listing.
+#![tactic(auto, unfolding(crate::proofs::Unfold::reader))]
 
 ghost use Rattle.std.specs.Prelude.{◌≡◌, ◌≤◌, ◌<◌, ◌^◌, length, true};
 ghost use Rattle.std.specs.List.{list_all};
@@ -21,27 +22,32 @@ use std::alloc::Global;
 /// The most bytes of a listing.
 pub const LISTING_LIMIT: usize = 1_048_576;
 
-/// What a line of this number makes of what the lines before it made. `plain` says that the line is
-/// known to be plain, and `tokens` is a buffer, whose content does not count.
-#[tactic(auto, unfolding(crate::specs::Meaning::line_meaning))]
+/// A line of a listing: its number, its bytes, and whether these are known to be plain.
+#[derive(Clone, Copy)]
+struct Line<'a> {
+    number: usize,
+    bytes: &'a [u8],
+    plain: bool,
+}
+
+/// What a line makes of what the lines before it made. `tokens` is a buffer, whose content does
+/// not count.
 fn read_line<'a>(
     alloc: Global,
     labels: &Labels<'_>,
-    number: usize,
+    line: Line<'a>,
     draft: &mut Draft,
-    line: &'a [u8],
-    plain: bool,
     tokens: &mut Vec<&'a [u8]>,
 ) -> Result<(), LineFault>
-    requires { plain ≡ true → list_all is_plain line.now ≡ true }
+    requires { line.plain ≡ true → list_all is_plain line.bytes.now ≡ true }
     ensures { FillsLine result draft.new
-        (line_meaning (label_parts labels.now) number draft.old line.now) }
+        (line_meaning (label_parts labels.now) line.entry.number draft.old line.entry.bytes.now) }
 {
-    if !plain && !is_plain(line) {
+    if !line.plain && !is_plain(line.bytes) {
         return Err(LineFault::Kind(ListingFaultKind::NotAscii));
     }
-    read_tokens(line, tokens)?;
-    with_line(alloc, labels, number, draft, tokens.as_slice())
+    read_tokens(line.bytes, tokens)?;
+    with_line(alloc, labels, line.number, draft, tokens.as_slice())
 }
 
 /// What lines make one after another, up to the first fault.
@@ -55,7 +61,12 @@ fn read_lines(alloc: Global, labels: &Labels<'_>, text: &[u8]) -> Result<Draft, 
     let plain = are_plain(text);
     let mut number = 1;
     for line in text.split(|byte| *byte == b'\n') {
-        match read_line(alloc, labels, number, &mut draft, line, plain, &mut tokens) {
+        let numbered = Line {
+            number,
+            bytes: line,
+            plain,
+        };
+        match read_line(alloc, labels, numbered, &mut draft, &mut tokens) {
             Ok(()) => number += 1,
             Err(fault) => return Err(fault.at(number)),
         }
@@ -67,7 +78,6 @@ fn read_lines(alloc: Global, labels: &Labels<'_>, text: &[u8]) -> Result<Draft, 
 /// line's fault, of which the least kind is reported. A listing of more than [`LISTING_LIMIT`]
 /// bytes is refused before any line is read; one without a hart, and then one without an
 /// instruction, is refused after its last line. Running out of memory says nothing of the listing.
-#[tactic(auto, unfolding(crate::specs::Meaning::listing_meaning))]
 pub fn read_listing(alloc: Global, text: &[u8]) -> Result<Image, ListingFault>
     ensures { Gives result (listing_meaning text.now) }
 {

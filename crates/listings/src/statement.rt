@@ -1,5 +1,5 @@
 //! What one line of a listing makes of what the lines before it made.
-#![tactic(auto, unfolding(crate::proofs::Unfold::lines))]
+#![tactic(auto, using(crate::proofs::Rulesets::count), unfolding(crate::proofs::Unfold::lines))]
 
 ghost use Rattle.std.specs.Prelude.{◌≡◌};
 ghost use Rattle.grammar.specs.Tokens.{texts, token_at};
@@ -148,7 +148,6 @@ fn cap_line(draft: &mut Draft, tokens: &[&[u8]]) -> Result<(), LineFault>
     draft.with_capability(addr, parts)
 }
 
-#[tactic(auto, unfolding(crate::specs::Statement::directive_line))]
 fn directive_line(
     alloc: Global,
     draft: &mut Draft,
@@ -196,7 +195,6 @@ fn label_line(
 }
 
 /// A line that begins with no directive: an instruction's, or a label's.
-#[tactic(auto, unfolding(crate::specs::Statement::other_line))]
 fn other_line(
     labels: &Labels<'_>,
     number: usize,
@@ -215,7 +213,6 @@ fn other_line(
 }
 
 /// What a line's tokens make of what the lines before it made. The line has this number.
-#[tactic(auto, using(crate::proofs::Rulesets::count), unfolding(crate::proofs::Unfold::line))]
 pub fn with_line(
     alloc: Global,
     labels: &Labels<'_>,

@@ -1,4 +1,5 @@
 //! The registers that matter, for each instruction of a program.
+#![tactic(auto, unfolding(crate::proofs::Unfold::live))]
 
 ghost use Rattle.std.specs.Prelude.{◌≡◌, ◌^◌, ◌≤◌, slice_index_or};
 ghost use Rattle.cheri_model.specs.steps.Actions.{address_of_target};
@@ -38,7 +39,6 @@ impl LiveRegisters {
     }
 
     /// Those that matter before the instruction at an address.
-    #[tactic(auto, unfolding(crate::specs::LiveSets::set_at))]
     pub(crate) fn set_at(&self, addr: u64) -> RegisterSet
         ensures { result ≡ set_at self.now addr }
     {
@@ -58,7 +58,6 @@ impl LiveRegisters {
 
     /// Whether some register doesn't matter before some instruction. Where none does, nothing is
     /// ever forgotten.
-    #[tactic(auto, unfolding(crate::specs::LiveSets::forgets_any))]
     pub fn forgets_any(&self) -> bool
         ensures { result ≡ forgets_any self.now }
     {
@@ -66,7 +65,6 @@ impl LiveRegisters {
     }
 
     /// Those that matter to a hart.
-    #[tactic(auto, unfolding(crate::specs::LiveSets::set_of))]
     pub fn set_of(&self, hart: &Hart) -> RegisterSet
         ensures { result ≡ set_of self.now hart.now }
     {
@@ -82,7 +80,6 @@ impl LiveRegisters {
     }
 
     /// Sets each register of a hart that doesn't matter to null.
-    #[tactic(auto, unfolding(crate::specs::LiveSets::forgotten_hart))]
     pub fn forget(&self, hart: &mut Hart)
         ensures { hart.new ≡ forgotten_hart self.now hart.old }
     {

@@ -1,4 +1,5 @@
 //! Sets of registers.
+#![tactic(auto, unfolding(crate::specs::RegisterSets::lacks_any))]
 
 ghost use Rattle.std.specs.Prelude.{◌≡◌, ℕ, ◌||◌, replicate, slice_set, true, false};
 ghost use Rattle.live_registers.specs.RegisterSets.{IsWithinBut, forgotten, has, lacks_any};
@@ -57,7 +58,6 @@ impl RegisterSet {
     }
 
     /// Whether some register is not in the set, other than c0.
-    #[tactic(auto, unfolding(crate::specs::RegisterSets::lacks_any))]
     pub(crate) fn lacks_any(&self) -> bool
         ensures { result ≡ lacks_any self.now }
     {

@@ -1,5 +1,6 @@
 -- The names of permissions, one after another.
-use Rattle.std.specs.Prelude.{ℕ, ◌==◌, Bool, true, if◌then◌else◌, List, [], ◌∷◌, ◌++◌, codes, bit_and}
+use Rattle.std.specs.Prelude.{ℕ, ◌==◌, Bool, true, if◌then◌else◌, List, [], ◌∷◌, ◌++◌, codes}
+use Rattle.std.specs.Prelude.{bit_and}
 use Rattle.notation.specs.Instructions.{◌+++◌}
 
 -- the names of a table whose bits are all in a set, with `+` before each but the first

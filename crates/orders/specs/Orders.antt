@@ -1,6 +1,8 @@
 -- Orders: texts of digits, each of which asks for one step of that hart, and in version 2 of sweeps
 -- (this project's own format).
-use Rattle.std.specs.Prelude.{◌≡◌, ℕ, ◌+◌, ◌-◌, ◌≤◌, ◌<◌, ◌==◌, nat_eq, nat_lt, nat_le, Bool, ◌&&◌, ◌||◌, if◌then◌else◌, List, [], ◌∷◌, ◌++◌, length, drop, Option, Some, None, Result, Ok, Err, IsOk, Vec, codes}
+use Rattle.std.specs.Prelude.{◌≡◌, ℕ, ◌+◌, ◌-◌, ◌≤◌, ◌<◌, ◌==◌, nat_eq, nat_lt, nat_le, Bool, ◌&&◌}
+use Rattle.std.specs.Prelude.{◌||◌, if◌then◌else◌, List, [], ◌∷◌, ◌++◌, length, drop, Option, Some}
+use Rattle.std.specs.Prelude.{None, Result, Ok, Err, IsOk, Vec, codes}
 use Rattle.std.specs.List.{starts_with, cons_option}
 use Rattle.std.specs.Global.{Global}
 use Rattle.cap_model.specs.declared.encoding.TheConstants.{ADDRESS_SPACE}
@@ -11,7 +13,8 @@ use Rattle.orders.specs.declared.fault.OrderFault.{OrderFault}
 use Rattle.orders.specs.declared.fault.OrderFaultKind.{OrderFaultKind}
 use Rattle.orders.specs.declared.fault.OrderFaultKind.TheVariants.{NoMemory}
 use Rattle.orders.specs.Sweeps.{sweep_at}
-pub use Rattle.orders.specs.Faults.{order_fault_number, order_fault_name, order_fault_text, byte_fault, range_fault, size_fault, no_memory, ◌>>=◌}
+pub use Rattle.orders.specs.Faults.{order_fault_number, order_fault_name, order_fault_text}
+pub use Rattle.orders.specs.Faults.{byte_fault, range_fault, size_fault, no_memory, ◌>>=◌}
 
 -- the most operations that an order may ask for
 abbrev pub order_limit : ℕ

@@ -4,3 +4,4 @@ pub mod Writes
 pub mod StepOrigins
 pub mod RunOrigins
 pub mod Slots
+pub mod Unfold

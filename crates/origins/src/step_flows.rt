@@ -1,4 +1,5 @@
 //! The flows of an instruction.
+#![tactic(auto, unfolding(crate::specs::Flows::flows_at))]
 
 ghost use Rattle.std.specs.Prelude.{◌≡◌, ℕ, ◌+◌, ◌^◌, ◌<◌, ◌∷◌};
 ghost use Rattle.cheri_model.specs.steps.Memory.{ram_base, granule_number};
@@ -91,7 +92,6 @@ fn and_into(first: Flow, cd: Reg, source: Spot) -> StepFlows
 /// What an instruction that is done sets, and where from (CHERI ISA v9, "provenance"). Its access
 /// of memory, if it has one, is at `address`. All are places of a machine whose memory has the
 /// granule there.
-#[tactic(auto, unfolding(crate::specs::Flows::flows_at))]
 pub fn flows(instr: &Instr, address: u64) -> StepFlows
     requires { address < ram_base + 2 ^ 20 }
     ensures value { list_of result ≡ flows_at instr.now address }

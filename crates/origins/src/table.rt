@@ -1,4 +1,5 @@
 //! The table of origins that a run keeps.
+#![tactic(auto, unfolding(crate::proofs::Unfold::table))]
 
 ghost use Rattle.std.specs.Prelude.{◌≡◌, ◌+◌, ◌*◌, ◌^◌, ◌<◌, IfOk};
 ghost use Rattle.origins.specs.Table.{
@@ -40,7 +41,6 @@ impl Model for OriginTable {
 }
 
 /// Where the origin of a place is.
-#[tactic(auto, unfolding(crate::specs::Table::slot_of))]
 fn slot(harts: u8, place: Place) -> usize
     ensures { result ≡ slot_of harts place }
 {
@@ -54,7 +54,6 @@ fn slot(harts: u8, place: Place) -> usize
 }
 
 /// The place whose origin is in a slot.
-#[tactic(auto, unfolding(crate::specs::Table::place_at))]
 fn place_at(harts: u8, slot: usize) -> Place
     requires { slot < 33 * harts + 2 ^ 32 }
     ensures { result ≡ place_at harts slot }

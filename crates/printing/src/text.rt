@@ -1,4 +1,5 @@
 //! A text that is written whole.
+#![tactic(auto, using(crate::proofs::EndingLemmas::begins_whole))]
 
 ghost use Rattle.std.specs.Prelude.{◌≡◌, OnOk};
 ghost use Rattle.std.specs.Io.KnownBytes.{Appends, Keeps};
@@ -39,7 +40,6 @@ pub fn write_text<O: Write>(out: &mut O, text: &str) -> Result<(), SinkFailed>
 }
 
 /// Writes all of a text, and flushes. After a fault a prefix of it was written.
-#[tactic(auto, using(crate::proofs::EndingLemmas::begins_whole))]
 pub fn print<O: Write>(out: &mut O, text: &str) -> Result<(), SinkFailed>
     ensures printed { OnOk result (Appends (O.contents out.old) (O.contents out.new) text.now) }
     ensures prefix { TakesPrefix (O.contents out.old) (O.contents out.new) text.now }

@@ -2,6 +2,7 @@
 
 use crate::common::{Folder, Full, Unflushed, assert_bytes, owned};
 use explore_program::{Counted, TerminalProgress, perform};
+use graph_nodes::Alone;
 use graph_search::Progress;
 use std::alloc::Global;
 use std::cell::Cell;
@@ -160,8 +161,8 @@ impl Clock for Stopwatch {
     }
 }
 
-/// Asks `cheri_explore` about a listing, beside which the file `order` has another text: its status,
-/// and both writers.
+/// Asks `cheri_explore` about a listing, beside which the file `order` has another text: its
+/// status, and both writers.
 fn ask<O: Write + Drop, R: AllocGlobal + Threads + Sync>(
     rt: &R,
     words: &[&str],
@@ -333,15 +334,15 @@ fn full_questions(rt: HostRuntime) -> Result<(), Fail> {
     Ok(())
 }
 
-/// What a clock that begins at a time makes of reports that come at these, each of so many states or
-/// runs.
+/// What a clock that begins at a time makes of reports that come at these, each of so many states
+/// or runs.
 fn reported(alloc: Global, counted: Counted, begin: u64, reports: &[(u64, u32)]) -> Vec<u8> {
     let clock = Stopwatch {
         time: Cell::new(begin),
     };
     let mut err = Vec::new(alloc);
     {
-        let mut progress = TerminalProgress::new(&clock, &mut err, counted);
+        let mut progress = TerminalProgress::new(&clock, &mut err, counted, Alone);
         for (time, found) in reports {
             clock.time.set(*time);
             progress.report(*found);

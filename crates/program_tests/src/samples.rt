@@ -59,7 +59,8 @@ fn joined(alloc: Global, one: &str, other: &str) -> Result<String, Fail> {
     Ok(text)
 }
 
-/// Runs are drawn, told by items and by properties, and counted by as many threads as are asked for.
+/// Runs are drawn, told by items and by properties, and counted by as many threads as are asked
+/// for.
 #[test]
 fn samples_are_drawn(rt: HostRuntime) -> Result<(), Fail> {
     let checked = [

@@ -1,4 +1,5 @@
 //! The JSON report: what the report shows, for scripts.
+#![tactic(auto, unfolding(crate::proofs::Unfold::json))]
 
 ghost use Rattle.std.specs.Prelude.{◌≡◌, IfOk, OnOk, string_bytes};
 ghost use Rattle.hart.specs.View.{state_of};
@@ -63,7 +64,6 @@ pub fn put_status(
 }
 
 /// A hart.
-#[tactic(auto, unfolding(crate::specs::Json::hart_data))]
 fn hart_json(alloc: Global, hart: &Hart) -> Result<Value, NoMemory>
     ensures { IfOk result (λ v. data_of v ≡ hart_data hart.now) }
 {
@@ -98,7 +98,6 @@ pub fn granules_json(alloc: Global, ram: &Ram) -> Result<Value, NoMemory>
 }
 
 /// The whole report as one value.
-#[tactic(auto, unfolding(crate::specs::Json::json_report))]
 fn report_value(alloc: Global, view: View<'_>) -> Result<Value, NoMemory>
     ensures { IfOk result (λ v. data_of v
         ≡ json_report view.entry.image.now view.entry.entries.now (state_of view.entry)) }

@@ -1,4 +1,5 @@
 //! The report: the text that shows what a machine started from, its trace, and its state.
+#![tactic(auto, unfolding(crate::specs::Report::title_line))]
 
 ghost use Rattle.std.specs.Prelude.{◌≡◌, ◌+◌, ◌++◌, OnOk, string_bytes};
 ghost use Rattle.std.specs.Io.KnownBytes.{Appends};
@@ -30,7 +31,6 @@ pub(crate) fn version_of(events: &[Event]) -> u8
 }
 
 /// Appends the line of the version.
-#[tactic(auto, unfolding(crate::specs::Report::title_line))]
 fn write_title(out: &mut String, version: u8) -> Result<(), NoMemory>
     ensures { OnOk result (string_bytes out.new ≡ string_bytes out.old ++ title_line version) }
 {

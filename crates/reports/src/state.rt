@@ -1,4 +1,5 @@
 //! The lines of a state: those of its harts and of its memory. They need no trace.
+#![tactic(auto, unfolding(crate::specs::Report::hart_lines))]
 
 ghost use Rattle.std.specs.Prelude.{◌≡◌, ◌+◌, ◌++◌, OnOk, string_bytes};
 ghost use Rattle.report_lines.specs.Lines.{granule_line};
@@ -25,7 +26,6 @@ fn write_registers(out: &mut String, hart: &Hart) -> Result<(), NoMemory>
 }
 
 /// Appends the lines of a hart.
-#[tactic(auto, unfolding(crate::specs::Report::hart_lines))]
 fn write_hart(out: &mut String, number: usize, hart: &Hart) -> Result<(), NoMemory>
     ensures { OnOk result (string_bytes out.new
         ≡ string_bytes out.old ++ hart_lines number hart.now) }

@@ -1,4 +1,5 @@
 //! The orders that decide properties.
+#![tactic(auto, unfolding(crate::specs::Told::told_of))]
 
 ghost use Rattle.std.specs.Prelude.{◌≡◌, ◌≤◌, Some, None, map, length, All};
 ghost use Rattle.std.specs.Prelude.{IfOk, IfSome, IfNone};
@@ -71,7 +72,6 @@ fn told_with(
 }
 
 /// What is told of a property.
-#[tactic(auto, unfolding(crate::specs::Told::told_of))]
 fn told(
     alloc: Global,
     runner: &mut Runner,

@@ -1,4 +1,5 @@
 //! A machine that replays orders, each from its opening state.
+#![tactic(auto, unfolding(crate::proofs::Unfold::operation))]
 
 ghost use Rattle.std.specs.Prelude.{◌≡◌, ◌<◌, true, length, map, IfOk, OnOk};
 ghost use Rattle.cheri_model.specs.runs.Machine.{opening_state, state_after_one, may_take};
@@ -111,7 +112,6 @@ impl Machine {
     }
 
     /// Takes an operation.
-    #[tactic(auto, unfolding(crate::proofs::Unfold::operation))]
     fn take(&mut self, op: Op)
         requires { may_take (state_of self.old) op ≡ true }
         ensures image { self.new.image ≡ self.old.image }
@@ -125,7 +125,6 @@ impl Machine {
     }
 
     /// Whether its state decides a claim.
-    #[tactic(auto, unfolding(crate::specs::Deciding::decides))]
     fn decides(&self, claim: &Claim) -> bool
         ensures { result ≡ decides claim.now (state_of self.now) }
     {

@@ -1,5 +1,5 @@
 //! Whether a state decides what a property claims.
-#![tactic(auto, unfolding(cheri_model::specs::runs::Machine::hart_at))]
+#![tactic(auto, unfolding(crate::proofs::Unfold::running))]
 
 ghost use Rattle.std.specs.Prelude.{◌≡◌, ◌<◌, ◌≤◌, length};
 ghost use Rattle.sample_draws.specs.Orders.{is_over};
@@ -49,7 +49,6 @@ impl StateView for Shown<'_> {
 }
 
 /// Whether no hart runs.
-#[tactic(auto, unfolding(crate::proofs::Unfold::running))]
 fn is_over(shown: Shown<'_>) -> bool
     requires { length shown.harts.now ≤ MAX_HARTS }
     ensures { result ≡ is_over (record {
@@ -61,7 +60,6 @@ fn is_over(shown: Shown<'_>) -> bool
 }
 
 /// Whether a state decides when a condition holds.
-#[tactic(auto, unfolding(crate::specs::Deciding::decides_when))]
 pub(crate) fn decides_when(shown: Shown<'_>, when: When, condition: &Condition) -> bool
     requires { length shown.harts.now ≤ MAX_HARTS }
     ensures { result ≡ decides_when when condition.now (record {

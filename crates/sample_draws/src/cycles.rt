@@ -1,4 +1,5 @@
 //! Whether the steps of one hart have brought it back to a state that it had.
+#![tactic(auto, unfolding(crate::proofs::Unfold::cycles))]
 
 ghost use Rattle.std.specs.Prelude.{◌≡◌, ◌<◌, ◌^◌};
 ghost use Rattle.cheri_model.specs.runs.Machine.{is_running};
@@ -19,7 +20,6 @@ pub struct Cycle {
 }
 
 /// Whether two values have the same tag and the same bits.
-#[tactic(auto, unfolding(crate::specs::Cycles::same_value))]
 pub fn same_value(a: Cap, b: Cap) -> bool
     ensures { result ≡ same_value a b }
 {
@@ -55,7 +55,6 @@ fn same_registers(a: &Hart, b: &Hart) -> bool
 }
 
 /// Whether two harts run and have the same PCC and the same registers.
-#[tactic(auto, unfolding(crate::specs::Cycles::same_hart))]
 fn same_hart(a: &Hart, b: &Hart) -> bool
     ensures { result ≡ same_hart a.now b.now }
 {

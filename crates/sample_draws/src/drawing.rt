@@ -1,4 +1,5 @@
 //! How orders are drawn.
+#![tactic(auto, unfolding(crate::proofs::Unfold::drawing))]
 
 ghost use Rattle.std.specs.Prelude.{◌≡◌, ◌≤◌, ◌↔◌, false, true, None, IfSome};
 ghost use Rattle.sample_draws.specs.Drawings.{is_drawing, are_ranges, is_depth};
@@ -65,7 +66,6 @@ fn is_depth(depth: Option<u8>) -> bool
 }
 
 /// Whether each of these ranges can be swept.
-#[tactic(auto, unfolding(crate::specs::Drawings::are_ranges))]
 fn are_ranges(ranges: &[SweepRange]) -> bool
     ensures { result ≡ are_ranges ranges.now }
 {
@@ -80,7 +80,6 @@ fn are_ranges(ranges: &[SweepRange]) -> bool
 impl Drawing {
     /// The drawing of these parts. `None` exactly where one of them is outside its limits. Takes no
     /// memory.
-    #[tactic(auto, unfolding(crate::specs::Drawings::is_drawing))]
     pub fn new(
         seed: u32,
         length: u32,

@@ -1,4 +1,5 @@
 //! The ranks of harts: the least goes first.
+#![tactic(auto, unfolding(crate::proofs::Unfold::ranks))]
 
 ghost use Rattle.std.specs.Prelude.{◌≡◌, ◌-◌, ◌<◌, ◌≤◌, All, IfSome, length};
 ghost use Rattle.sample_draws.specs.Ranks.{first_ranks, shuffled, drawn_places, better_of};
@@ -59,7 +60,6 @@ fn better_of(ranks: &Ranks, best: Option<u8>, hart: u8) -> Option<u8>
 }
 
 /// The hart of the least rank among those that don't wait.
-#[tactic(auto, unfolding(crate::specs::Ranks::least))]
 fn least(ranks: &Ranks, waiting: &[bool; 8], harts: &[u8]) -> Option<u8>
     requires { All (λ hart. hart < MAX_HARTS) harts.now }
     ensures value { result ≡ least ranks.now waiting.now harts.now }
@@ -75,7 +75,6 @@ fn least(ranks: &Ranks, waiting: &[bool; 8], harts: &[u8]) -> Option<u8>
 }
 
 /// The hart that steps: of those that run and don't wait; where all wait, of those that run.
-#[tactic(auto, unfolding(crate::specs::Ranks::first))]
 pub fn first(ranks: &Ranks, waiting: &[bool; 8], running: &[u8]) -> u8
     requires { All (λ hart. hart < MAX_HARTS) running.now }
     ensures value { result ≡ first ranks.now waiting.now running.now }

@@ -1,4 +1,5 @@
 //! The generator of a run, and what its words draw.
+#![tactic(auto, unfolding(crate::proofs::Unfold::words))]
 
 ghost use Rattle.std.specs.Prelude.{◌≡◌, ◌<◌, ◌≤◌, ◌^◌};
 ghost use Rattle.sample_draws.specs.Words.{generator_of, next_word, share, drawn};
@@ -27,7 +28,6 @@ impl Model for Words {
 }
 
 /// The number below `count` that a word draws.
-#[tactic(auto, unfolding(crate::specs::Words::share))]
 pub fn share(word: u64, count: u32) -> u32
     ensures value { result ≡ share word count }
     ensures below { 0 < count → result < count }
@@ -38,7 +38,6 @@ pub fn share(word: u64, count: u32) -> u32
 impl Words {
     /// Those of the run with this number, of this seed. Generators of different runs are made of
     /// different numbers.
-    #[tactic(auto, unfolding(crate::specs::Words::generator_of))]
     pub fn of_run(seed: u32, run: u64) -> Words
         requires seed { seed ≤ MAX_SEED }
         requires run { run ≤ MAX_RUN }
@@ -51,7 +50,6 @@ impl Words {
     }
 
     /// The next word.
-    #[tactic(auto, unfolding(crate::specs::Words::next_word))]
     pub fn next(&mut self) -> u64
         ensures { (result, self.new) ≡ next_word self.old }
     {
@@ -59,7 +57,6 @@ impl Words {
     }
 
     /// A number below `count`.
-    #[tactic(auto, unfolding(crate::specs::Words::drawn))]
     pub fn draw(&mut self, count: u32) -> u32
         ensures value { (result, self.new) ≡ drawn count self.old }
         ensures below { 0 < count → result < count }

@@ -2,11 +2,9 @@
 use Rattle.std.proofs.Common.{◌≡◌, ℕ, ◌+◌, ◌-◌, ◌*◌, ◌<◌, eqb, zero, suc, Bool, true, false, cond, not, ◌&&◌, ◌||◌, List, [], ◌∷◌, All, length, get_or, refl, sym, ap, ◌∙◌, subst, arith, inl, inr}
 use Rattle.std.specs.Prelude.{slice_set, nat_lt}
 use Rattle.std.proofs.lemmas.Bool.{and_parts, false≢true, cases_lt, cases_eq}
-use Rattle.std.proofs.lemmas.Bool.Decides.{nat_tests}
 use Rattle.std.proofs.lemmas.List.{length-set, get_or-set_same, get_or-set_other}
 use Rattle.std.proofs.lemmas.List.Elements.{All-head, All-tail}
-use Rattle.cap_model.specs.values.CapValue.{CapValue, IsLawfulValue, bits_of, tag_of, value_at}
-use Rattle.cap_model.proofs.Results.Values.{value_back}
+use Rattle.cap_model.specs.values.CapValue.{CapValue, IsLawfulValue}
 use Rattle.cheri_model.specs.declared.instr.Instr.{Instr}
 use Rattle.cheri_model.specs.declared.trace.Status.{Status}
 use Rattle.cheri_model.specs.declared.trace.Status.TheVariants.{Running, Halted, Trapped}
@@ -19,32 +17,15 @@ use Rattle.cheri_model.specs.runs.Authority.{EachOfHart, EachOfState}
 use Rattle.cheri_model.proofs.Runs.Granted.{IsGood}
 use Rattle.cheri_model.proofs.Runs.Confined.{step_good}
 use Rattle.sample_draws.specs.declared.cycles.Cycle.{Cycle}
-use Rattle.sample_draws.specs.Cycles.{same_test, same_value, same_values, same_hart, cycle_from, is_back, gone_on}
+use Rattle.sample_draws.specs.Cycles.{same_value, same_values, same_hart, cycle_from, is_back, gone_on}
 use Rattle.sample_draws.specs.Orders.{is_changed}
 use Rattle.sample_steps.specs.declared.hanging.TheConstants.{ALONE}
 use Rattle.sample_steps.specs.Hangs.{goes_round, stays, all_stay}
+use Rattle.sample_steps.proofs.StoreLemmas.{same_value_is}
 use Rattle.sample_runs.specs.Runs.{StaysHung}
 use Rattle.sample_runs.proofs.RunLemmas.{less_of}
 
 -- ---- values that are the same
-
-same_test_is : (a b : Bool) → same_test a b ≡ true → a ≡ b
-same_test_is true true is = refl
-same_test_is true false is = sym is
-same_test_is false true is = is
-same_test_is false false is = refl
-
-same_number_is : (a b : ℕ) → eqb a b ≡ true → a ≡ b
-same_number_is a b is = grind (arith, nat_tests)
-
-same_value_is : (v w : CapValue) → IsLawfulValue v → IsLawfulValue w → same_value v w ≡ true → v ≡ w
-unfolding same_value
-same_value_is v w lawful also is =
-    let parts = and_parts (same_test (tag_of v) (tag_of w)) (eqb (bits_of v) (bits_of w)) is in
-    let tags : tag_of v ≡ tag_of w = same_test_is (tag_of v) (tag_of w) parts.0 in
-    let bits : bits_of v ≡ bits_of w = same_number_is (bits_of v) (bits_of w) parts.1 in
-    sym (value_back v lawful) ∙ ap (λ t. value_at t (bits_of v)) tags ∙ ap (λ b. value_at (tag_of w) b) bits
-    ∙ value_back w also
 
 pub same_values_are : (vs ws : List CapValue) → All IsLawfulValue vs → All IsLawfulValue ws → same_values vs ws ≡ true → vs ≡ ws
 unfolding same_values

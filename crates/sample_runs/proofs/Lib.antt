@@ -1,9 +1,9 @@
 pub mod Unfold
 mod MemoryLemmas
 mod DrawLemmas
-mod RunLemmas
+pub mod RunLemmas
 mod HungLemmas
 mod EndLemmas
-mod OpenLemmas
+pub mod OpenLemmas
 mod NextLemmas
 mod WholeLemmas

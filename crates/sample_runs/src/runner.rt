@@ -1,4 +1,5 @@
 //! A machine that runs in orders drawn by chance, one run after another.
+#![tactic(auto, unfolding(crate::proofs::Unfold::runner))]
 
 ghost use Rattle.std.specs.Prelude.{◌≡◌, ◌<◌, ◌≤◌, length, map, false, true, None, IfSome, IfOk};
 ghost use Rattle.std.specs.Prelude.{OnOk};
@@ -173,7 +174,6 @@ impl Runner {
 
     /// Takes an operation, and tells it to what draws those after it.
     #[inline(always)]
-    #[tactic(auto, unfolding(crate::proofs::Unfold::operation))]
     fn take(&mut self, op: Op, draws: &mut Draws)
         requires may { may_take (state_of self.old) op ≡ true }
         requires steps { steps_of draws.old.priorities < MAX_LENGTH }
@@ -188,7 +188,8 @@ impl Runner {
         }
     }
 
-    /// Takes the operation that is chosen next, unless no hart runs. Inlined into the loops of runs.
+    /// Takes the operation that is chosen next, unless no hart runs. Inlined into the loops of
+    /// runs.
     #[inline(always)]
     fn advance(&mut self, drawing: &Drawing, draws: &mut Draws) -> Option<Op>
         requires { steps_of draws.old.priorities < MAX_LENGTH }
@@ -239,7 +240,6 @@ impl Runner {
     }
 
     /// How the run ended that has come to this state.
-    #[tactic(auto, unfolding(crate::proofs::Unfold::end))]
     fn end(&mut self) -> RunEnd
         ensures value { result ≡ end_in self.old.image (state_of self.old) }
         ensures same { self.new ≡ self.old }

@@ -1,4 +1,4 @@
 mod Unfold
-mod StoreLemmas
+pub mod StoreLemmas
 mod HangLemmas
 mod ListLemmas

@@ -127,7 +127,7 @@ same_test_is false false is = refl
 same_number_is : (a b : ℕ) → eqb a b ≡ true → a ≡ b
 same_number_is a b is = grind (arith, nat_tests)
 
-same_value_is : (v w : CapValue) → IsLawfulValue v → IsLawfulValue w → same_value v w ≡ true → v ≡ w
+pub same_value_is : (v w : CapValue) → IsLawfulValue v → IsLawfulValue w → same_value v w ≡ true → v ≡ w
 unfolding same_value
 same_value_is v w lawful also is =
     let parts = and_parts (same_test (tag_of v) (tag_of w)) (eqb (bits_of v) (bits_of w)) is in

@@ -1,4 +1,5 @@
 //! Whether the harts that run go round for ever.
+#![tactic(auto, unfolding(crate::specs::Hangs::all_stay))]
 
 ghost use Rattle.std.specs.Prelude.{◌≡◌};
 ghost use Rattle.cheri_model.specs.runs.Machine.{is_running};
@@ -65,7 +66,6 @@ fn stays(program: &[Instr], hart: &Hart, ram: &mut Ram) -> bool
 }
 
 /// Whether each of these harts that runs goes round.
-#[tactic(auto, unfolding(crate::specs::Hangs::all_stay))]
 pub fn all_stay(program: &[Instr], harts: &[Hart], ram: &mut Ram) -> bool
     ensures value { result ≡ all_stay program.now ram.old harts.now }
     ensures same { ram.new ≡ ram.old }

@@ -1,4 +1,5 @@
 //! A step of a hart, and the granule that it changes.
+#![tactic(auto, unfolding(crate::proofs::Unfold::stores))]
 
 ghost use Rattle.std.specs.Prelude.{◌≡◌, ◌<◌, List, length, slice_set, None, IfSome, is_some};
 ghost use Rattle.cap_model.specs.values.CapValue.{CapValue};
@@ -16,7 +17,6 @@ use sample_draws::same_value;
 use tagged_mem::Ram;
 
 /// The address at an offset from a register.
-#[tactic(auto, unfolding(crate::proofs::Unfold::stores))]
 fn at(hart: &Hart, c1: Reg, imm: i16) -> u64
     ensures { result ≡ at hart.now c1 imm }
 {
@@ -25,7 +25,6 @@ fn at(hart: &Hart, c1: Reg, imm: i16) -> u64
 
 /// The address that an instruction stores at, if it stores. Most don't, which their kind says: no
 /// register is read for them.
-#[tactic(auto, unfolding(crate::proofs::Unfold::stores))]
 fn stored_at(instr: Instr, hart: &Hart) -> Option<u64>
     ensures { result ≡ stored_at (action instr hart.now) }
 {
@@ -42,7 +41,6 @@ fn stored_at(instr: Instr, hart: &Hart) -> Option<u64>
 
 /// The address that the next step of a hart stores at, if its instruction stores, whether or not
 /// the fetch and the access can pass their checks: a step that traps changes no memory.
-#[tactic(auto, unfolding(crate::proofs::Unfold::stores))]
 fn store_address(program: &[Instr], hart: &Hart) -> Option<u64>
     ensures { result ≡ store_address program.now hart.now }
 {

@@ -1,7 +1,7 @@
 -- Values, harts and changes that are found to be the same.
 use Rattle.std.proofs.Common.{◌≡◌, ℕ, ◌+◌, ◌<◌, ◌≤◌, Bool, true, false, List, length, get_or, refl, ap, sym, ◌∙◌, arith, eqb-true, inl, inr}
 use Rattle.std.specs.Prelude.{◌==◌}
-use Rattle.std.proofs.lemmas.Bool.{cases_eq}
+use Rattle.std.proofs.lemmas.Bool.{cases_eq, and_parts}
 use Rattle.std.proofs.lemmas.List.{same_lists, get_or_default}
 use Rattle.cap_model.specs.values.CapValue.{CapValue, IsLawfulValue, bits_of, tag_of, value_at}
 use Rattle.cap_model.proofs.Results.Values.{value_back}
@@ -10,7 +10,7 @@ use Rattle.cheri_model.specs.steps.Hart.{HartState, null, register}
 use Rattle.sample_draws.specs.Cycles.{same_test, same_value}
 use Rattle.sample_steps.specs.declared.writes.Change.{Change}
 use Rattle.sample_tallies.specs.SameStates.{same_status}
-use Rattle.sample_tallies.proofs.SameLemmas.{both_parts, one_status}
+use Rattle.sample_tallies.proofs.SameLemmas.{one_status}
 
 same_test_is : (a b : Bool) → same_test a b ≡ true → a ≡ b
 same_test_is true true is = refl
@@ -23,7 +23,7 @@ pub value_is : (v w : CapValue) (found : Bool) → IsLawfulValue v → IsLawfulV
     → found ≡ true → v ≡ w
 unfolding same_value
 value_is v w found lawful also is holds =
-    let parts = both_parts (same_test (tag_of v) (tag_of w)) (bits_of v == bits_of w) (sym is ∙ holds) in
+    let parts = and_parts (same_test (tag_of v) (tag_of w)) (bits_of v == bits_of w) (sym is ∙ holds) in
     let tags : tag_of v ≡ tag_of w = same_test_is (tag_of v) (tag_of w) parts.0 in
     let bits : bits_of v ≡ bits_of w = eqb-true (bits_of v) (bits_of w) parts.1 in
     sym (value_back v lawful) ∙ ap (λ (t : Bool). value_at t (bits_of v)) tags

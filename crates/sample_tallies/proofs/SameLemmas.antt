@@ -1,8 +1,9 @@
 -- What is found to be the same is the same.
-use Rattle.std.proofs.Common.{◌≡◌, ℕ, Bool, true, false, ◌&&◌, List, [], ◌∷◌, refl, ap, ◌∙◌, eqb-true}
+use Rattle.std.proofs.Common.{◌≡◌, ℕ, Bool, true, ◌&&◌, List, [], ◌∷◌, refl, ap, ◌∙◌, eqb-true}
 use Rattle.std.specs.Prelude.{◌==◌}
 use Rattle.std.proofs.lemmas.Bool.Decides.{nat_tests}
 use Rattle.std.proofs.Common.{arith}
+use Rattle.std.proofs.lemmas.Bool.{and_parts}
 use Rattle.cap_model.specs.values.Capability.{Capability}
 use Rattle.cap_model.specs.values.CapValue.{CapValue, valid, raw}
 use Rattle.cheri_model.specs.declared.trace.Status.{Status}
@@ -20,11 +21,6 @@ pub record IsSame {A : Type 0} (same : A → A → Bool) : Type 0 where
 
 numbers : (m n : ℕ) → (m == n) ≡ true → m ≡ n
 numbers m n h = eqb-true m n h
-
-pub both_parts : (a b : Bool) → (a && b) ≡ true → (a ≡ true) × (b ≡ true)
-both_parts true true h = (refl, refl)
-both_parts true false h = absurd (cc)
-both_parts false b h = absurd (cc)
 
 both_hold : (a b : Bool) → a ≡ true → b ≡ true → (a && b) ≡ true
 both_hold a b p q = ap (λ (x : Bool). x && b) p ∙ q
@@ -67,7 +63,7 @@ trap_with cause reg = record { cause = cause; reg = reg }
 
 one_trap : (trap other : Trap) → ((trap.cause == other.cause) && (trap.reg == other.reg)) ≡ true → trap ≡ other
 one_trap trap other h =
-    let p = both_parts (trap.cause == other.cause) (trap.reg == other.reg) h in
+    let p = and_parts (trap.cause == other.cause) (trap.reg == other.reg) h in
     let cause = numbers trap.cause other.cause p.0 in
     let reg = numbers trap.reg other.reg p.1 in
     let made : trap_with trap.cause trap.reg ≡ trap_with other.cause other.reg = cc in
@@ -98,7 +94,7 @@ one_list {A} same one [] [] h = refl
 one_list {A} same one [] (y ∷ ys) h = absurd (cc)
 one_list {A} same one (x ∷ xs) [] h = absurd (cc)
 one_list {A} same one (x ∷ xs) (y ∷ ys) h =
-    let p = both_parts (same x y) (same_lists same xs ys) h in
+    let p = and_parts (same x y) (same_lists same xs ys) h in
     ap (λ (z : A). z ∷ xs) (one x y p.0) ∙ ap (λ (zs : List A). y ∷ zs) (one_list same one xs ys p.1)
 
 list_itself : {A : Type 0} (same : A → A → Bool) → ((x : A) → same x x ≡ true) → (xs : List A)
@@ -113,8 +109,8 @@ hart_with regs pcc status = record { regs = regs; pcc = pcc; status = status }
 one_hart : (a b : HartState) → same_hart a b ≡ true → a ≡ b
 unfolding same_hart
 one_hart a b h =
-    let p = both_parts (same_status a.status b.status && same_value a.pcc b.pcc) (same_lists same_value a.regs b.regs) h in
-    let q = both_parts (same_status a.status b.status) (same_value a.pcc b.pcc) p.0 in
+    let p = and_parts (same_status a.status b.status && same_value a.pcc b.pcc) (same_lists same_value a.regs b.regs) h in
+    let q = and_parts (same_status a.status b.status) (same_value a.pcc b.pcc) p.0 in
     let status = one_status a.status b.status q.0 in
     let pcc = one_value a.pcc b.pcc q.1 in
     let regs = one_list same_value one_value a.regs b.regs p.1 in
@@ -134,7 +130,7 @@ state_with harts memory = record { harts = harts; memory = memory }
 one_state : (s t : MachineState) → same_state s t ≡ true → s ≡ t
 unfolding same_state
 one_state s t h =
-    let p = both_parts (same_lists same_hart s.harts t.harts) (same_lists same_value s.memory t.memory) h in
+    let p = and_parts (same_lists same_hart s.harts t.harts) (same_lists same_value s.memory t.memory) h in
     let harts = one_list same_hart one_hart s.harts t.harts p.0 in
     let memory = one_list same_value one_value s.memory t.memory p.1 in
     let made : state_with s.harts s.memory ≡ state_with t.harts t.memory = cc in
@@ -154,7 +150,7 @@ place_with hart cause = record { hart = hart; cause = cause }
 
 one_place : (a b : TrapPlace) → same_place a b ≡ true → a ≡ b
 one_place a b h =
-    let p = both_parts (a.hart == b.hart) (a.cause == b.cause) h in
+    let p = and_parts (a.hart == b.hart) (a.cause == b.cause) h in
     let hart = numbers a.hart b.hart p.0 in
     let cause = numbers a.cause b.cause p.1 in
     let made : place_with a.hart a.cause ≡ place_with b.hart b.cause = cc in

@@ -1,4 +1,5 @@
 //! Whether harts, or lists of changes, are the same.
+#![tactic(auto, unfolding(crate::specs::SameStates::same_status))]
 
 ghost use Rattle.std.specs.Prelude.{◌≡◌, true};
 ghost use Rattle.sample_tallies.specs.SameStates.{same_status};
@@ -19,7 +20,6 @@ pub fn is_same_value(a: Cap, b: Cap) -> bool
 }
 
 /// Whether two statuses are the same.
-#[tactic(auto, unfolding(crate::specs::SameStates::same_status))]
 fn is_same_status(a: Status, b: Status) -> bool
     ensures { result ≡ same_status a b }
 {

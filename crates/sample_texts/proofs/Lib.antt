@@ -7,3 +7,4 @@ pub mod JsonLemmas
 pub mod PropertyLemmas
 pub mod SeeLemmas
 pub mod EndLemmas
+pub mod Rulesets

@@ -1,6 +1,7 @@
 -- Rows of values that are found to be the same are.
-use Rattle.std.proofs.Common.{◌≡◌, ℕ, ◌==◌, ◌&&◌, Bool, true, false, List, [], ◌∷◌, refl, ap, ◌∙◌, arith, eqb-true}
+use Rattle.std.proofs.Common.{◌≡◌, ℕ, ◌==◌, ◌&&◌, Bool, true, List, [], ◌∷◌, refl, ap, ◌∙◌, arith, eqb-true}
 use Rattle.std.proofs.lemmas.Bool.Decides.{nat_tests}
+use Rattle.std.proofs.lemmas.Bool.{and_parts}
 use Rattle.outcomes.specs.declared.items.ItemValue.{ItemValue}
 use Rattle.outcomes.specs.declared.items.ItemValue.TheVariants.{Number, Running, Halted, Trapped}
 use Rattle.sample_tallies.specs.SameStates.{same_lists}
@@ -8,11 +9,6 @@ use Rattle.sample_texts.specs.ShownRows.{same_item, same_row}
 
 numbers : (m n : ℕ) → (m == n) ≡ true → m ≡ n
 numbers m n h = eqb-true m n h
-
-both_parts : (a b : Bool) → (a && b) ≡ true → (a ≡ true) × (b ≡ true)
-both_parts true true h = (refl, refl)
-both_parts true false h = absurd (cc)
-both_parts false b h = absurd (cc)
 
 one_item : (v w : ItemValue) → same_item v w ≡ true → v ≡ w
 unfolding same_item
@@ -46,7 +42,7 @@ one_row [] [] h = refl
 one_row [] (w ∷ ws) h = absurd (cc)
 one_row (v ∷ vs) [] h = absurd (cc)
 one_row (v ∷ vs) (w ∷ ws) h =
-    let p = both_parts (same_item v w) (same_row vs ws) h in
+    let p = and_parts (same_item v w) (same_row vs ws) h in
     ap (λ (u : ItemValue). u ∷ vs) (one_item v w p.0) ∙ ap (λ (us : List ItemValue). w ∷ us) (one_row vs ws p.1)
 
 pub row_itself : (vs : List ItemValue) → same_row vs vs ≡ true

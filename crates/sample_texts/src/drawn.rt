@@ -1,4 +1,5 @@
 //! How orders are drawn.
+#![tactic(auto, unfolding(crate::proofs::Unfold::drawn))]
 
 ghost use Rattle.std.specs.Prelude.{◌≡◌, ◌++◌, OnOk, string_bytes};
 ghost use Rattle.report_lines.specs.Texts.{numbered};
@@ -14,7 +15,6 @@ use shown_states::{Format, write_json_string};
 use std::alloc::Global;
 
 /// Appends a sweep of a list, by its place there.
-#[tactic(auto, unfolding(report_lines::specs::JsonText::item_text))]
 fn write_sweep(
     alloc: Global,
     format: Format,
@@ -65,7 +65,6 @@ fn write_depth(out: &mut String, depth: Option<u8>) -> Result<(), NoMemory>
 }
 
 /// Appends the line of how orders are drawn.
-#[tactic(auto, unfolding(crate::specs::SampleTexts::drawn_line))]
 pub(crate) fn write_drawn_line(
     alloc: Global,
     out: &mut String,
@@ -97,7 +96,6 @@ fn write_depth_member(out: &mut String, depth: Option<u8>) -> Result<(), NoMemor
 }
 
 /// Appends the object of how orders are drawn.
-#[tactic(auto, unfolding(crate::specs::SampleJson::drawn_json))]
 pub(crate) fn write_drawn_json(
     alloc: Global,
     out: &mut String,

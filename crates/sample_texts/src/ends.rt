@@ -1,4 +1,5 @@
 //! The states in which runs ended.
+#![tactic(auto, unfolding(crate::proofs::Unfold::ends))]
 
 ghost use Rattle.std.specs.Prelude.{◌≡◌, ◌++◌, ◌<◌, All, IfOk, OnOk, Some, length, map};
 ghost use Rattle.std.specs.Prelude.{slice_get, string_bytes};
@@ -31,7 +32,6 @@ pub(crate) fn load_end(state: &mut Loaded, tally: &Tally, number: u32)
 }
 
 /// Appends the line of an outcome, by its place.
-#[tactic(auto, unfolding(crate::specs::SampleTexts::outcome_line))]
 fn write_line(
     out: &mut String,
     orders: &mut Orders<'_>,
@@ -49,7 +49,6 @@ fn write_line(
 }
 
 /// Appends the lines of an outcome in its state, by its place.
-#[tactic(auto, unfolding(crate::specs::SampleTexts::outcome_lines))]
 fn write_lines(
     out: &mut String,
     orders: &mut Orders<'_>,
@@ -67,7 +66,6 @@ fn write_lines(
 }
 
 /// Appends the object of an outcome in its state, by its place.
-#[tactic(auto, unfolding(crate::specs::SampleJson::outcome_json))]
 fn write_object(
     out: &mut String,
     orders: &mut Orders<'_>,

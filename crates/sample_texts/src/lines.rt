@@ -1,4 +1,5 @@
 //! The answer as text.
+#![tactic(auto, unfolding(crate::specs::SampleTexts::runs_line))]
 
 ghost use Rattle.std.specs.Prelude.{◌≡◌, ◌++◌, None, OnOk, Some, string_bytes};
 ghost use Rattle.conditions.specs.Items.{list_of};
@@ -43,7 +44,6 @@ fn write_perhaps(
 }
 
 /// Appends the line of how many runs there are.
-#[tactic(auto, unfolding(crate::specs::SampleTexts::runs_line))]
 fn write_runs_line(out: &mut String, tally: &Tally, numbers: &[Span]) -> Result<(), NoMemory>
     ensures { OnOk result (string_bytes out.new ≡ string_bytes out.old
         ++ runs_line tally.now.sum.runs numbers.now tally.now.sum.longest) }

@@ -1,4 +1,5 @@
 //! The answer in JSON.
+#![tactic(auto, using(crate::proofs::Rulesets::members), unfolding(crate::proofs::Unfold::members))]
 
 ghost use Rattle.std.specs.Prelude.{◌≡◌, ◌++◌, IfOk, None, OnOk, Some, map, string_bytes};
 ghost use Rattle.conditions.specs.Items.{list_of};
@@ -52,7 +53,6 @@ fn runs_json(orders: &mut Orders<'_>, seen: Option<Seen>) -> Result<Value, NoMem
 }
 
 /// Appends the object of runs of which there may be none.
-#[tactic(auto, using(crate::proofs::Floats::floatless))]
 fn write_runs(out: &mut String, orders: &mut Orders<'_>, seen: Option<Seen>) -> Result<(), NoMemory>
     requires { (s : Seen) → seen ≡ Some s → is_drawable s }
     ensures written { OnOk result (string_bytes out.new
@@ -64,7 +64,6 @@ fn write_runs(out: &mut String, orders: &mut Orders<'_>, seen: Option<Seen>) -> 
 }
 
 /// Appends the object of the image.
-#[tactic(auto, using(report_lines::proofs::JsonLemmas::image_no_float))]
 fn write_image(alloc: Global, out: &mut String, image: &Image) -> Result<(), NoMemory>
     ensures { OnOk result (string_bytes out.new
         ≡ string_bytes out.old ++ compact_text (image_data image.now)) }
@@ -91,7 +90,6 @@ fn write_head(out: &mut String, orders: &mut Orders<'_>, tally: &Tally) -> Resul
 }
 
 /// Appends a name of a list, by its place.
-#[tactic(auto, unfolding(report_lines::specs::JsonText::item_text))]
 fn write_name(alloc: Global, out: &mut String, place: usize, name: &str) -> Result<(), NoMemory>
     ensures { OnOk result (string_bytes out.new
         ≡ string_bytes out.old ++ item_text string place name.now) }
@@ -125,7 +123,6 @@ fn write_items(alloc: Global, out: &mut String, items: Option<&Items<'_>>) -> Re
 }
 
 /// Appends the members of the longest run and of the numbers.
-#[tactic(auto, unfolding(crate::specs::SampleJson::numbers_json))]
 fn write_numbers(out: &mut String, longest: u32, numbers: &[Span]) -> Result<(), NoMemory>
     ensures { OnOk result (string_bytes out.new
         ≡ string_bytes out.old ++ numbers_json longest numbers.now) }
@@ -188,7 +185,6 @@ fn write_property_list(
 }
 
 /// Appends the member of the properties, where there are any.
-#[tactic(auto, using(crate::proofs::PropertyLemmas::property_members))]
 fn write_properties_member(
     alloc: Global,
     out: &mut String,

@@ -1,4 +1,5 @@
 //! What is told of properties.
+#![tactic(auto, using(crate::proofs::Rulesets::json), unfolding(crate::proofs::Unfold::properties))]
 
 ghost use Rattle.std.specs.Prelude.{◌≡◌, ◌++◌, IfOk, OnOk, Some, string_bytes};
 ghost use Rattle.serde_json.specs.View.{view as data_of};
@@ -91,7 +92,6 @@ fn write_answer(out: &mut String, told: &PropertySeen<'_, '_>) -> Result<(), NoM
 }
 
 /// Appends the line of a property.
-#[tactic(auto, unfolding(crate::specs::PropertyTexts::property_line))]
 fn write_line(out: &mut String, told: &PropertySeen<'_, '_>) -> Result<(), NoMemory>
     ensures { OnOk result (string_bytes out.new
         ≡ string_bytes out.old ++ property_line told.now) }
@@ -148,7 +148,6 @@ fn violated_json(
 }
 
 /// What was seen of a property.
-#[tactic(auto, unfolding(crate::specs::PropertyTexts::property_data))]
 fn property_json(alloc: Global, told: &PropertySeen<'_, '_>) -> Result<Value, NoMemory>
     ensures { IfOk result (λ v. data_of v ≡ property_data told.now) }
 {
@@ -166,7 +165,6 @@ fn property_json(alloc: Global, told: &PropertySeen<'_, '_>) -> Result<Value, No
 }
 
 /// Appends a property, by its place.
-#[tactic(auto, using(crate::proofs::Floats::floatless), unfolding(crate::proofs::Unfold::items))]
 fn write_property(
     alloc: Global,
     format: Format,
@@ -213,7 +211,6 @@ fn is_violated(told: &PropertySeen<'_, '_>) -> bool
 }
 
 /// How an answer ends that tells this of properties: by the first that is violated.
-#[tactic(auto, using(crate::proofs::PropertyLemmas::endings))]
 pub fn sample_ending(properties: &[PropertySeen<'_, '_>]) -> Ending
     ensures { result ≡ sample_ending properties.now }
 {

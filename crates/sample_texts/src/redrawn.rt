@@ -1,4 +1,5 @@
 //! Orders, which are drawn again where they are told.
+#![tactic(auto, unfolding(crate::specs::SampleTexts::seen_words))]
 
 ghost use Rattle.std.specs.Prelude.{◌≡◌, ◌≤◌, ◌++◌, length, IfOk, OnOk, string_bytes};
 ghost use Rattle.cheri_model.specs.runs.Image.{opening_memory};
@@ -97,7 +98,6 @@ impl<'d> Orders<'d> {
     }
 
     /// Appends how many runs were seen, the first of them, and its order.
-    #[tactic(auto, unfolding(crate::specs::SampleTexts::seen_words))]
     pub fn write_seen(&mut self, out: &mut String, seen: Seen) -> Result<(), NoMemory>
         requires { seen.first ≤ MAX_RUN }
         ensures written { OnOk result (string_bytes out.new

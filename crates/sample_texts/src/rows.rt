@@ -1,4 +1,5 @@
 //! Rows of values.
+#![tactic(auto, using(crate::proofs::Floats::floatless), unfolding(crate::proofs::Unfold::rows))]
 
 ghost use Rattle.std.specs.Prelude.{◌≡◌, ◌++◌, All, IfOk, OnOk, map, string_bytes};
 ghost use Rattle.serde_json.specs.View.{view as data_of};
@@ -19,7 +20,6 @@ use serde_json::{Value, json};
 use shown_states::Format;
 
 /// Appends the line of a row, by its place.
-#[tactic(auto, unfolding(crate::specs::SampleTexts::row_line))]
 fn write_line(
     out: &mut String,
     orders: &mut Orders<'_>,
@@ -58,7 +58,6 @@ fn row_json(orders: &mut Orders<'_>, names: &[&str], row: &ShownRow) -> Result<V
 }
 
 /// Appends the object of a row, by its place.
-#[tactic(auto, using(crate::proofs::Floats::floatless), unfolding(crate::proofs::Unfold::items))]
 fn write_object(
     out: &mut String,
     orders: &mut Orders<'_>,

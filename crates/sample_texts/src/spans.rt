@@ -1,4 +1,5 @@
 //! The numbers of runs.
+#![tactic(auto, unfolding(report_lines::specs::JsonText::item_text))]
 
 ghost use Rattle.std.specs.Prelude.{◌≡◌, ◌++◌, IfOk, OnOk, string_bytes};
 ghost use Rattle.serde_json.specs.View.{view as data_of};
@@ -18,7 +19,6 @@ pub struct Span {
 }
 
 /// Appends a span of a list, by its place there.
-#[tactic(auto, unfolding(report_lines::specs::JsonText::item_text))]
 fn write_span(format: Format, out: &mut String, place: usize, span: Span) -> Result<(), NoMemory>
     ensures { OnOk result (string_bytes out.new
         ≡ string_bytes out.old ++ span_part format place span) }

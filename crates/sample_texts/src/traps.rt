@@ -1,4 +1,5 @@
 //! The traps that runs left.
+#![tactic(auto, using(crate::proofs::Floats::floatless), unfolding(crate::proofs::Unfold::traps))]
 
 ghost use Rattle.std.specs.Prelude.{◌≡◌, ◌++◌, All, IfOk, OnOk, map, string_bytes};
 ghost use Rattle.serde_json.specs.View.{view as data_of};
@@ -19,7 +20,6 @@ use serde_json::{Value, json};
 use shown_states::Format;
 
 /// Appends the line of a trap.
-#[tactic(auto, unfolding(crate::specs::SampleTexts::trap_line))]
 fn write_line(
     out: &mut String,
     orders: &mut Orders<'_>,
@@ -38,7 +38,6 @@ fn write_line(
 }
 
 /// A trap with the order of its first run.
-#[tactic(auto, unfolding(crate::specs::SampleData::trap_data))]
 fn trap_json(orders: &mut Orders<'_>, trap: TrapSeen) -> Result<Value, NoMemory>
     requires { is_drawable trap.seen }
     ensures value { IfOk result (λ v. data_of v ≡ trap_data orders.old (entry_of trap)) }
@@ -53,7 +52,6 @@ fn trap_json(orders: &mut Orders<'_>, trap: TrapSeen) -> Result<Value, NoMemory>
 }
 
 /// Appends the object of a trap, by its place in a list.
-#[tactic(auto, using(crate::proofs::Floats::floatless), unfolding(crate::proofs::Unfold::items))]
 fn write_object(
     out: &mut String,
     orders: &mut Orders<'_>,

@@ -1,6 +1,6 @@
 //! What the tests of several crates use: values of rows, what is read off a value, harts and images
 //! with one thing in them, and the first worked run with its report.
-#![tactic(auto)]
+#![tactic(auto, unfolding(crate::specs::Values::given_value))]
 
 mod first_run;
 mod machines;

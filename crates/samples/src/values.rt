@@ -51,7 +51,6 @@ pub fn made(base: u64, len: u128, addr: u64, bits: u32) -> Result<Cap, MakeFault
 
 impl Given {
     /// The value, or why no capability has these parts.
-    #[tactic(auto, unfolding(crate::specs::Values::given_value))]
     pub fn cap(self) -> Result<Cap, MakeFault>
         ensures { result ≡ given_value self }
     {

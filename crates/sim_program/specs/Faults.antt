@@ -1,5 +1,5 @@
--- The faults that only this program has: their lines, which are refusals, and what each leaves of the
--- answer.
+-- The faults that only this program has: their lines, which are refusals, and what each leaves of
+-- the answer.
 use Rattle.std.specs.Prelude.{ℕ, List, ◌++◌, codes, decimal, Bool, true, false, Option, Some}
 use Rattle.cores.specs.Faults.{step_fault_text}
 use Rattle.cores.specs.Runs.{Stop}
@@ -13,7 +13,8 @@ use Rattle.program_io.specs.Faults.{no_memory}
 use Rattle.program_io.specs.declared.fault.Fault.{Fault as FaultOf}
 use Rattle.program_io.specs.declared.fault.Fault.TheVariants.{Own}
 use Rattle.sim_program.specs.declared.faults.OwnFault.{OwnFault}
-use Rattle.sim_program.specs.declared.faults.OwnFault.TheVariants.{BadNumber, CannotStart, ImageDiffers, Step}
+use Rattle.sim_program.specs.declared.faults.OwnFault.TheVariants.{BadNumber, CannotStart}
+use Rattle.sim_program.specs.declared.faults.OwnFault.TheVariants.{ImageDiffers, Step}
 
 -- why the program does not end with status 0
 abbrev pub Fault : Type 0
@@ -41,8 +42,8 @@ own_failure CannotStart = Refused
 own_failure ImageDiffers = Refused
 own_failure (Step place fault) = Stopped (Some (place, fault))
 
--- the line of any fault, its status, and what it leaves of the answer, which is printed in pieces or
--- at once
+-- the line of any fault, its status, and what it leaves of the answer, which is printed in pieces
+-- or at once
 abbrev pub fault_text : Fault → List ℕ
 fault_text fault = faults.fault_text own_text fault
 

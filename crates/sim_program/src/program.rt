@@ -78,8 +78,8 @@ fn run<F: Files, S: Sink>(
     )
 }
 
-/// What `race` is asked for: the file of the listing, the most turns of a hart, and whether a viewer
-/// looks on.
+/// What `race` is asked for: the file of the listing, the most turns of a hart, and whether a
+/// viewer looks on.
 #[derive(Clone, Copy)]
 struct RaceAsked<'a> {
     listing: &'a str,

@@ -1,5 +1,6 @@
 -- Things that are numbered once, in the order in which they came.
-use Rattle.std.specs.Prelude.{◌≡◌, ◌≢◌, ℕ, List, [], ◌∷◌, ◌++◌, length, slice_get, Option, Some, None, ◌⊎◌, ◌+◌}
+use Rattle.std.specs.Prelude.{◌≡◌, ◌≢◌, ℕ, List, [], ◌∷◌, ◌++◌, length, slice_get, Option, Some}
+use Rattle.std.specs.Prelude.{None, ◌⊎◌, ◌+◌}
 use Rattle.std.specs.Prelude.{option_map, option_and_then}
 
 -- nothing got another number

@@ -1,6 +1,20 @@
 //! The store.
 
-ghost use Rattle.std.specs.Prelude.{◌≡◌, ◌≢◌, ℕ, ◌<◌, [], List, Some, length, slice_get, slice_set, IsSome, IfOk, OnErr};
+ghost use Rattle.std.specs.Prelude.{
+  ◌≡◌,
+  ◌≢◌,
+  ℕ,
+  ◌<◌,
+  [],
+  List,
+  Some,
+  length,
+  slice_get,
+  slice_set,
+  IsSome,
+  IfOk,
+  OnErr,
+};
 ghost use Rattle.cap_model.specs.values.CapValue.{CapValue};
 ghost use Rattle.cheri_model.specs.steps.Hart.{HartState};
 ghost use Rattle.cheri_model.specs.runs.Sweeps.{swept_memory};

@@ -1,7 +1,20 @@
 //! Values, each kept once.
 #![tactic(auto, unfolding(crate::specs::Values::row_of))]
 
-ghost use Rattle.std.specs.Prelude.{◌≡◌, ◌≢◌, ℕ, ◌<◌, ◌^◌, [], Some, None, length, slice_get, IfOk, IfSome};
+ghost use Rattle.std.specs.Prelude.{
+  ◌≡◌,
+  ◌≢◌,
+  ℕ,
+  ◌<◌,
+  ◌^◌,
+  [],
+  Some,
+  None,
+  length,
+  slice_get,
+  IfOk,
+  IfSome,
+};
 ghost use Rattle.cap_model.specs.values.CapValue.{IsLawfulValue};
 ghost use Rattle.state_store.specs.Numbered.{Extends, IsDistinct, IsNumbered};
 ghost use Rattle.state_store.specs.Values.{row_of};

@@ -3,3 +3,5 @@ pub mod DigitTable
 pub mod NumeralLemmas
 pub mod HexDigits
 pub mod NumberTexts
+pub mod Unfold
+pub mod Rulesets

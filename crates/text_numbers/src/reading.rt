@@ -1,4 +1,5 @@
 //! Numbers that digits write.
+#![tactic(auto, using(crate::proofs::Rulesets::reading), unfolding(crate::proofs::Unfold::reading))]
 
 ghost use Rattle.std.specs.Prelude.{◌≡◌, ◌≤◌, fold, true, Some, length, option_map};
 ghost use Rattle.std.specs.Char.{digit_value, is_digit};
@@ -30,7 +31,6 @@ const DIGIT_VALUES: &[u8; 256] = &[
 ];
 
 /// What each byte stands for as a digit.
-#[tactic(auto, unfolding(crate::specs::Numerals::values_from))]
 fn digit_values() -> &'static [u8; 256]
     ensures { values_from 0 result.now ≡ true }
 {
@@ -54,7 +54,6 @@ pub fn digit_count(base: u8, text: &[u8]) -> usize
 }
 
 /// Whether a text is one digit of the base or more, and nothing else.
-#[tactic(auto, using(crate::proofs::Counts::all_taken))]
 fn is_numeral(base: u8, text: &[u8]) -> bool
     ensures { result ≡ is_numeral base text.now }
 {
@@ -80,7 +79,6 @@ fn with_digits(base: u8, digits: &[u8]) -> Option<u128>
 }
 
 /// The number that digits of a base write; `None` at or above 2^128.
-#[tactic(auto, using(crate::proofs::NumeralLemmas::digits_folded))]
 pub fn digits_value(base: u8, digits: &[u8]) -> Option<u128>
     requires { 1 ≤ base }
     ensures { result ≡ within_128_bits (digits_value base digits.now) }
@@ -90,7 +88,6 @@ pub fn digits_value(base: u8, digits: &[u8]) -> Option<u128>
 
 /// The number that a text writes in a base; `None` where it is no numeral, and `Some(None)` where
 /// the number is 2^128 or more.
-#[tactic(auto, unfolding(crate::specs::Numerals::number_in))]
 pub fn number_in(base: u8, text: &[u8]) -> Option<Option<u128>>
     requires { 1 ≤ base }
     ensures { result ≡ option_map within_128_bits (number_in base text.now) }
@@ -104,7 +101,6 @@ pub fn number_in(base: u8, text: &[u8]) -> Option<Option<u128>>
 
 /// The number that a text writes, in decimal or after `0x` in hexadecimal; `None` where it writes
 /// none, and `Some(None)` where it is 2^128 or more.
-#[tactic(auto, unfolding(crate::specs::Numerals::number_of))]
 pub fn number_of(text: &[u8]) -> Option<Option<u128>>
     ensures { result ≡ option_map within_128_bits (number_of text.now) }
 {

@@ -1,4 +1,5 @@
 //! Values of a tag and a word from outside, where nothing says that a capability has that word.
+#![tactic(auto, using(crate::proofs::Encodings::ie_lt), unfolding(crate::proofs::Unfold::stored))]
 
 ghost use Rattle.std.specs.Prelude.{◌≡◌, ◌^◌, ◌<◌, ◌&&◌};
 ghost use Rattle.cap_model.specs.words.Fields.{word_b, word_t};
@@ -61,7 +62,6 @@ fn is_encoding(upper: u64, addr: u64) -> bool
 }
 
 /// The exponent as the fields have it, which may be above the greatest.
-#[tactic(auto, unfolding(crate::proofs::Unfold::stored))]
 fn stored_exponent(upper: u64) -> u8
     ensures { result ≡ stored_exponent upper }
 {
@@ -73,7 +73,6 @@ fn stored_exponent(upper: u64) -> u8
 }
 
 /// B, in which the bits of the exponent count as 0.
-#[tactic(auto, unfolding(crate::proofs::Unfold::base_digits))]
 fn base_digits(upper: u64) -> u64
     ensures value { result ≡ word_b upper }
     ensures below { result < 2 ^ 14 }
@@ -88,7 +87,6 @@ fn base_digits(upper: u64) -> u64
 }
 
 /// The twelve stored bits of T, in which the bits of the exponent count as 0.
-#[tactic(auto, unfolding(crate::proofs::Unfold::top_digits))]
 fn top_digits(upper: u64) -> u64
     ensures value { result ≡ word_t upper }
     ensures below { result < 2 ^ 12 }
@@ -104,7 +102,6 @@ fn top_digits(upper: u64) -> u64
 
 /// How many steps of 2^E the top lies above the base: with IE 1 the length has its leading bit, at
 /// 2^12, there (CHERI Concentrate, "decoding of bounds").
-#[tactic(auto, using(crate::proofs::Encodings::ie_lt), unfolding(crate::specs::Tagged::length_steps))]
 fn length_steps(upper: u64) -> u64
     ensures value { result ≡ length_steps upper }
     ensures below { result < 2 ^ 13 }

@@ -1,5 +1,5 @@
--- What a handle owns: the box that it has, if it has one. All allocators of the C library's heap are one, so that a
--- handle need not say by which it was made.
+-- What a handle owns: the box that it has, if it has one. All allocators of the C library's heap
+-- are one, so that a handle need not say by which it was made.
 use Rattle.std.specs.Prelude.{Option, Some, None}
 use Rattle.std.specs.Coded.{coded_option}
 use Rattle.std.specs.Global.{Global}

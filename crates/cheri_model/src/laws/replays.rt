@@ -7,7 +7,11 @@ ghost use Rattle.cheri_model.specs.declared.operation.Op.TheVariants as operatio
 ghost use Rattle.cheri_model.specs.declared.operation.Event.TheVariants as event;
 ghost use Rattle.cheri_model.specs.runs.Machine.{MachineState};
 ghost use Rattle.cheri_model.specs.runs.Replay.{state_after, events_of, is_legal, IsPrefixOf};
-ghost use Rattle.cheri_model.specs.runs.Replay.{state_after_steps, are_legal_steps, entries_of_steps};
+ghost use Rattle.cheri_model.specs.runs.Replay.{
+  state_after_steps,
+  are_legal_steps,
+  entries_of_steps,
+};
 
 /// An order followed by another runs the second from where the first has ended: its state, its
 /// events, and whether it is legal.

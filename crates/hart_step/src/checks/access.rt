@@ -1,4 +1,5 @@
 //! The check of an access to memory through a capability.
+#![tactic(auto, unfolding(cheri_model::specs::steps::Checks::access_table))]
 
 ghost use Rattle.std.specs.Prelude.{◌≡◌, ◌+◌, ◌<◌, ◌&&◌, not, OnOk, IsTrue};
 ghost use Rattle.cheri_model.specs.steps.Checks.{
@@ -70,7 +71,6 @@ fn stored_kind(kind: Access, stored: Option<Cap>) -> (bool, bool)
 
 /// The table of the checks of an access.
 #[inline(always)]
-#[tactic(auto, unfolding(cheri_model::specs::steps::Checks::access_table))]
 fn table_verdict(
     auth: Cap,
     reg: u8,

@@ -1,11 +1,16 @@
 use Rattle.std.proofs.Common.{◌≡◌, length, ap, arith}
-use Rattle.explore_turns.proofs.ImageSizes.{harts_few}
-use Rattle.hart_groups.proofs.GroupLemmas.{are_groups, one_more}
+use Rattle.hart_groups.proofs.GroupLemmas.{are_groups, few_harts, one_more}
 use Rattle.hart_groups.proofs.groups.groups_of.Goals as goal
+
+pub group_of-requires-clause-few : goal.group_of-requires-clause-few
+group_of-requires-clause-few c = few_harts c.args.image.now _ c.granules-granules.ensures.formed c.harts-harts.ensures
+
+pub bounds-groups-hart : goal.bounds-groups-hart
+bounds-groups-hart c = omega (arith, few_harts c.args.image.now _ c.granules-granules.ensures.formed c.harts-harts.ensures)
 
 pub loop-hart-preserved : goal.loop-hart-preserved
 loop-hart-preserved c =
-    let few = harts_few c.args.image.now c.granules-granules.ensures.formed in
+    let few = few_harts c.args.image.now _ c.granules-granules.ensures.formed c.harts-harts.ensures in
     let count : length c.harts-harts.result.now ≡ length c.args.image.now.harts = ap length c.harts-harts.ensures in
     one_more c.args.image.now.harts c.args.named.now c.loop-hart.groups c.loop-hart.hart c.group_of.result (omega arith)
     (rw c.harts-harts.ensures at c.group_of.ensures) c.loop-hart.invariant

@@ -1,5 +1,5 @@
 use Rattle.std.proofs.Common.{length, ap, arith}
-use Rattle.sample_checks.proofs.MachineLemmas.{harts_are_few}
+use Rattle.sample_runs.proofs.OpenLemmas.{harts_are_few}
 use Rattle.sample_checks.proofs.machine.Machine.decides.Goals as goal
 
 pub decides_when-requires : goal.decides_when-requires

@@ -1,5 +1,5 @@
 use Rattle.std.proofs.Common.{◌∙◌}
-use Rattle.sample_checks.proofs.MachineLemmas.{is_opened}
+use Rattle.sample_runs.proofs.OpenLemmas.{is_opened}
 use Rattle.sample_checks.proofs.machine.Machine.open.Goals as goal
 
 pub invariant_of-result : goal.invariant_of-result

@@ -5,7 +5,7 @@ use Rattle.cheri_model.specs.declared.instr.Instr.{Instr}
 use Rattle.cheri_model.specs.steps.HartStep.{hart_step}
 use Rattle.cheri_model.specs.runs.Machine.{MachineState, hart_at, state_after_step}
 use Rattle.sample_runs.specs.Runners.{RunnerParts, state_of}
-use Rattle.sample_checks.proofs.MachineLemmas.{read_hart, state_stepped}
+use Rattle.sample_runs.proofs.RunLemmas.{read_hart, state_stepped}
 use Rattle.sample_checks.proofs.machine.Machine.step.Goals as goal
 
 pub returns-clause-state : goal.returns-clause-state

@@ -3,7 +3,7 @@ use Rattle.std.proofs.lemmas.List.{with_items_is}
 use Rattle.cheri_model.specs.runs.Sweeps.{swept_hart}
 use Rattle.cheri_model.specs.runs.Machine.{swept_state}
 use Rattle.sample_runs.specs.Runners.{RunnerParts, state_of}
-use Rattle.sample_checks.proofs.MachineLemmas.{state_swept}
+use Rattle.sample_runs.proofs.RunLemmas.{state_swept}
 use Rattle.sample_checks.proofs.machine.Machine.sweep.Goals as goal
 
 pub returns-clause-state : goal.returns-clause-state
