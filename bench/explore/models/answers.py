@@ -120,12 +120,22 @@ def group_of(plan: Plan, hart: Optional[int]) -> tuple[Optional[int], ...]:
     return next((group for group in plan.groups if hart in group), (hart,))
 
 
+def order_for(found: Found, number: int, hart: int, group: tuple[int, ...],
+              right: Right) -> list[Operation]:
+    """The order to a node where some hart of a group holds a right, with this hart's number and
+    that of the first that does in each other's place, if it doesn't hold the right itself."""
+    order, _, who = found.graph.order_of(found.labels_to(number))
+    holders = [who[place] for place in group
+               if right in rights_of(values_in(found, found.nodes[number], place))]
+    return order if hart in holders else renamed(order, min(holders), hart)
+
+
 def held_by(found: Found, hart: Optional[int]) -> list[Entry]:
     """What a hart, or memory, ever holds: of a hart that is exchanged with others, what any of
-    them holds, by an order in which the two have changed names."""
+    them holds."""
     graph = found.graph
     group = group_of(graph.plan, hart)
-    first: dict[Right, tuple[int, Optional[int]]] = {}
+    first: dict[Right, int] = {}
     seen: set[int] = set()
     for number, node in enumerate(found.nodes):
         for place in group:
@@ -133,13 +143,13 @@ def held_by(found: Found, hart: Optional[int]) -> list[Entry]:
             if node[column] not in seen:
                 seen.add(node[column])
                 for right in rights_of(values_in(found, node, place)):
-                    first.setdefault(right, (number, place))
+                    first.setdefault(right, number)
     entries = []
     for right in greatest(set(first)):
-        number, place = first[right]
-        order, _, who = graph.order_of(found.labels_to(number))
-        if place is not None:
-            order = renamed(order, who[place], hart)
+        if hart is None:
+            order = graph.order_of(found.labels_to(first[right]))[0]
+        else:
+            order = order_for(found, first[right], hart, group, right)
         entries.append(Entry(right, order))
     return entries
 

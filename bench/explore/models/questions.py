@@ -160,10 +160,9 @@ def plan_of(listing: Listing, question: Question, keep: frozenset[str] = NOTHING
 
 def program_plan(listing: Listing, question: Question, sweeps: list[Sweep],
                  keep: frozenset[str] = NOTHING) -> Plan:
-    """What `cheri_explore` leaves out: no granules, no harts of `authority`, and nothing where
-    there are sweeps."""
-    kept = {"granules"} | ({"harts"} if question.command == "authority" else NOTHING)
-    return plan_of(listing, question, keep | (frozenset(REDUCTIONS) if sweeps else kept))
+    """What `cheri_explore` leaves out: no granules, and nothing where there are sweeps."""
+    kept = frozenset(REDUCTIONS) if sweeps else frozenset({"granules"})
+    return plan_of(listing, question, keep | kept)
 
 
 def reduced_of(found: Found) -> list[str]:

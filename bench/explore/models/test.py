@@ -47,10 +47,11 @@ def asked_of(listing: Listing, rng: random.Random, sweeps: list[str]) -> list[As
     image = listing.image
     swept = [word for sweep in sweeps for word in ("--sweep", sweep)]
     asked = [Asked(questions.outcomes(), swept), Asked(questions.authority(), swept),
-             Asked(questions.outcomes(alike=True), swept)]
+             Asked(questions.outcomes(alike=True), ["--alike", *swept])]
     for alike in (False, True):
         items = generate.some_items(image, rng)
-        asked.append(Asked(questions.outcomes(items, alike), ["--show", items, *swept]))
+        words = ["--alike", *swept] if alike else swept
+        asked.append(Asked(questions.outcomes(items, alike), ["--show", items, *words]))
     conditions = [generate.some_condition(image, rng, names)
                   for names in (True, True, True, False, False)]
     for text in ["any hart is trapped", "0 is trapped", *conditions]:
@@ -77,7 +78,7 @@ def asked_ways(listing: Listing, question: Question,
     """In which ways the program is asked: by which words, what it may leave out, and how many
     states it may have."""
     yield ["--steps"], Plan(), ALL_STATES
-    for keep in KEEPING[:1] if question.command == "authority" else KEEPING:
+    for keep in KEEPING:
         words = ["--keep", keep] if keep else []
         plan = questions.program_plan(listing, question, sweeps, frozenset(keep.split(",")))
         yield words, plan, ALL_STATES
@@ -92,9 +93,7 @@ def compare_program(program: str, text: str, asked: Asked, sweeps: list[Sweep]) 
     listing, question = read_listing(text), asked.question
     if asked.lines:
         question = questions.check(claims_of(listing.lines)[0], listing)
-    answers = {"": answer_text}
-    if question.command in ("find", "check") or question.items is not None:
-        answers["--json"] = answer_json
+    answers = {"": answer_text, "--json": answer_json}
     count = 0
     for words, plan, limit in asked_ways(listing, question, sweeps):
         found = questions.ask(listing, sweeps, question, plan, limit)
@@ -158,7 +157,7 @@ def try_listing(trial: Trial) -> tuple[Counter, list[str]]:
             except Differs as fault:
                 wrong.append(f"{trial.name} {question.command} {one.words} "
                              f"keep {sorted(keep)} most {most}: {fault}")
-        if trial.program and not question.alike and (one.own or not claims):
+        if trial.program and (one.own or not claims):
             try:
                 texts = compare_program(trial.program, trial.text, one, allowed)
                 counts["texts of the program"] += texts

@@ -64,12 +64,16 @@ def endless_line(told: Endless) -> str:
     return f"endless {told.answer} order={order_text(told.order)} loop={order_text(told.loop)}"
 
 
+def are_counted(found: Found) -> bool:
+    """Whether each outcome is a state of its own."""
+    return not found.graph.plan.groups and "registers" not in reduced_of(found)
+
+
 def outcomes_lines(found: Found, items: Optional[tuple[Item, ...]]) -> list[str]:
     plan, numbers = found.graph.plan, found.outcomes()
     lines = head_of(found, "outcomes")
     lines.append("endless -" if plan.groups else endless_line(endless(found)))
-    are_counted = not plan.groups and "registers" not in reduced_of(found)
-    lines.append(f"outcomes {len(numbers) if are_counted else '-'}")
+    lines.append(f"outcomes {len(numbers) if are_counted(found) else '-'}")
     if items is None:
         for place, number in enumerate(numbers):
             lines += [f"outcome {place} order={order_text(found.order_to(number))}",
@@ -78,7 +82,7 @@ def outcomes_lines(found: Found, items: Optional[tuple[Item, ...]]) -> list[str]
     rows = shown_rows(found, items)
     lines.append(f"shown {len(rows)}")
     for place, row in enumerate(rows):
-        count = f"states={row.count} " if are_counted else ""
+        count = f"states={row.count} " if are_counted(found) else ""
         told = " ".join(f"{item.name}={value}" for item, value in zip(items, row.values))
         lines.append(f"{place} {count}{told} order={order_text(row.order)}")
     return lines + ["end"]
@@ -143,15 +147,22 @@ def run_json(order: Optional[list[Operation]], loop: Optional[list[Operation]]) 
     return told if loop is None else {**told, "loop": order_text(loop)}
 
 
-def shown_json(found: Found, items: tuple[Item, ...]) -> str:
-    """The same as `outcomes_lines` with items in JSON."""
-    told, ends = json_head(found), endless(found)
-    is_counted = "registers" not in reduced_of(found)
-    rows = [{**({"states": row.count} if is_counted else {}), "order": order_text(row.order),
-             "values": {item.name: value for item, value in zip(items, row.values)}}
-            for row in shown_rows(found, items)]
-    told.update(complete=found.complete, states=len(found.nodes), shown=rows,
-                endless={"answer": ends.answer, **run_json(ends.order, ends.loop)})
+def outcomes_json(found: Found, items: Optional[tuple[Item, ...]]) -> str:
+    """The same as `outcomes_lines` in JSON: where harts change places nothing of `endless`."""
+    told = json_head(found)
+    told.update(complete=found.complete, states=len(found.nodes))
+    if not found.graph.plan.groups:
+        ends = endless(found)
+        told["endless"] = {"answer": ends.answer, **run_json(ends.order, ends.loop)}
+    if items is None:
+        told["outcomes"] = [{**state_json(found.real(number)),
+                             "order": order_text(found.order_to(number))}
+                            for number in found.outcomes()]
+        return json_text(told)
+    told["shown"] = [{**({"states": row.count} if are_counted(found) else {}),
+                      "order": order_text(row.order),
+                      "values": {item.name: value for item, value in zip(items, row.values)}}
+                     for row in shown_rows(found, items)]
     return json_text(told)
 
 
@@ -165,13 +176,24 @@ def check_json(found: Found, question: Question, listing: Listing) -> str:
     return json_text(told)
 
 
+def authority_json(found: Found) -> str:
+    """The same as `authority_lines` in JSON."""
+    *harts, memory = [[{"base": f"{base:016x}", "top": f"{top:017x}", "perms": f"{perms:05x}",
+                        "first": order_text(order)} for (base, top, perms), order in entries]
+                      for entries in held(found)]
+    return json_text({**json_head(found), "complete": found.complete, "harts": harts,
+                      "memory": memory, "states": len(found.nodes)})
+
+
 def answer_json(found: Found, question: Question, listing: Listing) -> str:
-    """The answer in JSON: to `find`, to `check`, and to `outcomes` with items."""
+    """The answer in JSON."""
+    if question.command == "authority":
+        return authority_json(found)
     if question.command == "find":
         return find_json(found, question)
     if question.command == "check":
         return check_json(found, question, listing)
-    return shown_json(found, question.items)
+    return outcomes_json(found, question.items)
 
 
 def authority_lines(found: Found) -> list[str]:
