@@ -1,19 +1,11 @@
-//! Tests of the three programs by `perform`, over files in memory and writers that fail.
+//! Tests of what the programs' libraries hand up beside `perform`, and no file or option can show.
 #![tactic(auto)]
 
 #[cfg(test)]
-mod answers;
-#[cfg(test)]
 mod common;
-#[cfg(test)]
-mod devices;
-#[cfg(test)]
-mod explaining;
 #[cfg(test)]
 mod faults;
 #[cfg(test)]
-mod questions;
+mod looks;
 #[cfg(test)]
-mod races;
-#[cfg(test)]
-mod samples;
+mod reports;
