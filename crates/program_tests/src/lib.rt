@@ -8,4 +8,4 @@ mod faults;
 #[cfg(test)]
 mod looks;
 #[cfg(test)]
-mod reports;
+mod progress;
