@@ -14,7 +14,7 @@ pub value_in_file : (program : ProgramParts) (value : Value) (meaning : Result V
     → GivesAll {X = Value} {Y = Value} (λ v. v) (Ok value) (in_files program meaning)
 value_in_file program value meaning gives = rw gives refl
 
--- a fault that isn't want of memory is the meaning's
+-- a fault other than out of memory is the meaning's
 pub fault_in_file : (program : ProgramParts) (fault : LateFault) (told : AssemblyFault) (meaning : Result Value LateFault) → (fault.kind ≡ NoMemory → ⊥)
     → told ≡ late_fault program fault → GivesLate {X = Value} (Err fault) meaning → GivesAll {X = Value} {Y = Value} (λ v. v) (Err told) (in_files program meaning)
 fault_in_file program fault told meaning some is (inl none) = absurd (some (ap (λ (f : LateFault). f.kind) none))
