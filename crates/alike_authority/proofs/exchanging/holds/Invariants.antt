@@ -2,7 +2,7 @@
 use Rattle.std.proofs.Common.{ℕ, ◌<◌}
 use Rattle.cheri_model.specs.steps.Hart.{register}
 use Rattle.alike_authority.proofs.HolderLemmas.{HasJust}
-use Rattle.alike_authority.proofs.orders.holds.Given as goal
+use Rattle.alike_authority.proofs.exchanging.holds.Given as goal
 
 abbrev pub invariant-loop-number : goal.invariant-loop-number
 invariant-loop-number l = (reg : ℕ) → reg < l.number → HasJust (register l.hart reg) l.rights → ⊥

@@ -3,7 +3,7 @@ use Rattle.std.proofs.lemmas.Bool.{false≢true}
 use Rattle.cap_model.specs.values.CapValue.{CapValue}
 use Rattle.cheri_model.specs.steps.Hart.{register}
 use Rattle.alike_authority.proofs.HolderLemmas.{HasJust, nothing_holds, register_holds}
-use Rattle.alike_authority.proofs.orders.holds.Goals as goal
+use Rattle.alike_authority.proofs.exchanging.holds.Goals as goal
 
 pub returns-then-has_just-2 : goal.returns-then-has_just-2
 returns-then-has_just-2 c =

@@ -4,7 +4,7 @@ use Rattle.cheri_model.specs.runs.Machine.{no_hart}
 use Rattle.cheri_model.specs.steps.Hart.{HartState}
 use Rattle.explore_rights.specs.Held.{Holds, held_by}
 use Rattle.hart_exchanges.proofs.HoldingLemmas.{itself}
-use Rattle.alike_authority.proofs.orders.holder_of.Goals as goal
+use Rattle.alike_authority.proofs.exchanging.holder_of.Goals as goal
 
 pub returns-then-holds : goal.returns-then-holds
 returns-then-holds c = record {
