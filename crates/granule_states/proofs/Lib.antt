@@ -10,3 +10,4 @@ pub mod RowLemmas
 pub mod ScanLemmas
 pub mod OwnedLemmas
 pub mod OrderLemmas
+pub mod LoopLemmas

@@ -99,3 +99,15 @@ AreEndsKept kept = (order : List Op) → AreAllowed [] order →
     is_legal kept.graph.graph.image (opening_state kept.graph.graph.image) order ≡ true →
     IsStopped (replayed_state kept.graph.graph.image order) →
     IsFound (at kept) (replayed_state kept.graph.graph.image order)
+
+-- the same search, whose states have the same numbers and witnesses
+pub record IsSame (old new : OwnedParts) : Type 0 where
+  pub image : new.graph.graph.image ≡ old.graph.graph.image
+  pub sight : new.graph.sight ≡ old.graph.sight
+  pub shared : new.graph.shared ≡ old.graph.shared
+  pub nodes : new.nodes ≡ old.nodes
+  pub edges : new.edges ≡ old.edges
+  pub limit : new.limit ≡ old.limit
+  pub finished : new.finished ≡ old.finished
+  pub complete : new.complete ≡ old.complete
+  pub states : at new ≡ at old

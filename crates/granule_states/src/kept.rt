@@ -14,17 +14,20 @@ ghost use Rattle.std.specs.Prelude.{
   true,
 };
 ghost use Rattle.cheri_model.specs.runs.Machine.{MachineState, opening_state};
-ghost use Rattle.granule_states.specs.Graphs.{state_in};
-ghost use Rattle.granule_states.specs.Orders.{IsOrderTo};
+ghost use Rattle.granule_states.specs.Graphs.{state_in, turn_in};
+ghost use Rattle.granule_states.specs.Orders.{IsOrderTo, steps_of, turns_in};
 ghost use Rattle.granule_states.specs.Owned.{
   AreAllKept,
   AreEndsKept,
+  AreSomeOwned,
   AreSound,
+  IsSame,
   IsSearch,
   IsSearchOf,
   at,
   count,
 };
+ghost use Rattle.loop_search.specs.Verdicts.{IsFoundLoop, IsVerdict};
 ghost use Rattle.state_store.specs.Stores.{state_of};
 ghost use Rattle.states.specs.Searches.{IsSearchable, search_of};
 
@@ -35,6 +38,7 @@ use cheri_model::{Image, Op};
 use cores::Core;
 use explore_sights::Sight;
 use graph_search::{Progress, Reached, explore};
+use loop_search::{FoundLoop, Verdict, search_loops};
 use state_store::State;
 use states::{Room, Search};
 use std::alloc::{AllocError, Global};
@@ -61,6 +65,13 @@ impl Model for OwnedStates {
     ghost view = { λ a. owned_of a.graph a.reached a.limit a.owned };
 
     ghost invariant = { λ a. IsOwned a.graph a.reached a.limit a.owned };
+}
+
+/// The states that a search kept, and what was found of their loops.
+#[derive(Drop)]
+pub struct Looped {
+    pub kept: OwnedStates,
+    pub verdict: Verdict,
 }
 
 /// The graph of turns, where these granules are shared. `ram` is a memory of the image's size.
@@ -212,6 +223,8 @@ impl OwnedStates {
         ensures complete { result ≡ self.now.complete }
         ensures all { result ≡ true → AreAllKept self.now }
         ensures ends { result ≡ true → AreEndsKept self.now }
+        ensures finished { result ≡ true → self.now.finished ≡ true }
+        ensures owned { result ≡ true → AreSomeOwned self.now.graph }
     {
         self.owned
     }
@@ -252,6 +265,53 @@ impl OwnedStates {
         let labels = self.reached.witness(alloc, number)?;
         let (order, _) = orders_of(alloc, &self.graph, labels.as_slice(), &[])?;
         Ok(order)
+    }
+
+    /// Looks for loops of the kept states, by turns. The states are given back as they were; what
+    /// was learned of single steps is kept. Fails only when out of memory, or of numbers past 2^32, and
+    /// then drops them.
+    pub fn loops(self, alloc: Global) -> Result<Looped, AllocError>
+        ensures verdict { IfOk result (λ looped. IsVerdict (turn_in looped.kept.graph)
+            (length looped.kept.graph.graph.image.harts) (at looped.kept) looped.kept.finished
+            looped.verdict) }
+        ensures same { IfOk result (λ looped. IsSame self looped.kept) }
+    {
+        // Its clause says that there are at most 8 harts.
+        let _granules = self.graph.image().granules();
+        let harts = self.graph.image().harts().len() as u32;
+        let limit = self.limit;
+        let owned = self.owned;
+        let reached = self.reached;
+        let mut graph = self.graph;
+        let verdict = search_loops(alloc, &mut graph, &reached, harts)?;
+        let kept = OwnedStates {
+            graph,
+            reached,
+            limit,
+            owned,
+        };
+        Ok(Looped { kept, verdict })
+    }
+
+    /// The order that leads to the state of a loop that was found, and the steps of the turns of
+    /// that loop.
+    /// Fails only when out of memory, or of numbers past 2^32.
+    pub fn lasso(&self, alloc: Global, found: &FoundLoop) -> Result<(Vec<Op>, Vec<Op>), AllocError>
+        requires { IsFoundLoop (turn_in self.now.graph) (length self.now.graph.graph.image.harts)
+            (at self.now) found.now }
+        ensures order { IfOk result (λ orders. (s : MachineState) →
+            at self.now found.now.node ≡ Some s → IsOrderTo self.now.graph s orders.0.items) }
+        ensures cycle { IfOk result (λ orders. (s : MachineState) →
+            at self.now found.now.node ≡ Some s →
+            orders.1.items ≡ steps_of (turns_in self.now.graph s found.now.labels.items)) }
+    {
+        let first = self.reached.witness(alloc, found.node)?;
+        orders_of(
+            alloc,
+            &self.graph,
+            first.as_slice(),
+            found.labels.as_slice(),
+        )
     }
 
     /// The shared granules with those that the search has met two harts at, of which one stored, if

@@ -9,4 +9,4 @@ mod scan;
 mod touches;
 mod walks;
 
-pub use kept::{OwnedStates, search_owned};
+pub use kept::{Looped, OwnedStates, search_owned};
