@@ -268,8 +268,8 @@ impl OwnedStates {
     }
 
     /// Looks for loops of the kept states, by turns. The states are given back as they were; what
-    /// was learned of single steps is kept. Fails only when out of memory, or of numbers past 2^32, and
-    /// then drops them.
+    /// was learned of single steps is kept. Fails only when out of memory, or of numbers past 2^32,
+    /// and then drops them.
     pub fn loops(self, alloc: Global) -> Result<Looped, AllocError>
         ensures verdict { IfOk result (λ looped. IsVerdict (turn_in looped.kept.graph)
             (length looped.kept.graph.graph.image.harts) (at looped.kept) looped.kept.finished
