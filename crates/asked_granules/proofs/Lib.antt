@@ -1,0 +1,4 @@
+pub mod Unfold
+pub mod AskedLemmas
+pub mod HoldingLemmas
+pub mod StepLemmas
