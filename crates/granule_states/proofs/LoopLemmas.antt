@@ -8,7 +8,7 @@ use Rattle.cheri_model.specs.runs.ImageRules.{is_image}
 use Rattle.cheri_model.specs.runs.Machine.{MachineState}
 use Rattle.explore_sights.specs.declared.sights.Sight.{Sight}
 use Rattle.graph_loops.specs.Loops.{AreMeant, IsFair, IsLoop, StaysFound}
-use Rattle.graph_search.specs.Trees.{Found, edge_at, state_at}
+use Rattle.graph_search.specs.Trees.{Found, state_at}
 use Rattle.graph_search.specs.Walks.{IsWalk}
 use Rattle.loop_search.proofs.VerdictLemmas.{on_same}
 use Rattle.loop_search.specs.declared.judging.FoundLoop.{FoundLoop}

@@ -5,11 +5,13 @@ use Rattle.std.proofs.lemmas.Bool.{lt-ltb}
 use Rattle.cheri_model.specs.runs.Image.{ImageParts}
 use Rattle.cheri_model.specs.runs.ImageRules.{is_image}
 use Rattle.cheri_model.specs.runs.Machine.{MachineState, state_after_step}
+use Rattle.cheri_model.specs.steps.Hart.{HartState}
 use Rattle.explore_sights.specs.declared.sights.Sight.{Sight}
 use Rattle.explore_sights.specs.declared.sights.Sight.TheVariants.{EveryStep}
 use Rattle.explore_sights.specs.Sights.{hides}
 use Rattle.explore_turns.specs.declared.quiet.TheConstants.{MAX_QUIET_STEPS}
-use Rattle.explore_turns.proofs.PassingLemmas.{seen_states_rest, seen_turns}
+use Rattle.explore_turns.proofs.PassingLemmas.{seen_rests, seen_states_rest, seen_turns}
+use Rattle.explore_turns.specs.Turns.{resting}
 use Rattle.own_granules.specs.Granules.{is_quiet}
 use Rattle.graph_search.specs.Graphs.{LeadsTo}
 use Rattle.own_granules.specs.Rests.{rest_after, rest_first, rest_one}
@@ -146,3 +148,6 @@ turn_there p q r learns to s t l low goes there =
 -- where all steps are seen, each state is at rest
 pub rest_is : (g : GraphParts) (s : MachineState) → g.sweeps ≡ [] → g.sight ≡ EveryStep → plain.rest_in g s ≡ s
 rest_is g s unswept seen = states_same g g.image [] EveryStep s refl unswept seen ∙ seen_states_rest g.image [] s
+
+pub hart_is : (g : GraphParts) (h : HartState) → g.sight ≡ EveryStep → plain.rests_in g h ≡ h
+hart_is g h seen = ap (λ (x : Sight). resting g.image g.sweeps x h) seen ∙ seen_rests g.image g.sweeps h

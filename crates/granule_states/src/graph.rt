@@ -15,6 +15,8 @@ ghost use Rattle.std.specs.Prelude.{
   Some,
   IsSome,
   IfOk,
+  IfSome,
+  true,
 };
 ghost use Rattle.cheri_model.specs.runs.Machine.{MachineState, hart_at, is_running};
 ghost use Rattle.cheri_model.specs.steps.Hart.{HartState};
@@ -36,7 +38,7 @@ ghost use Rattle.schedules.specs.Schedules.{next};
 ghost use Rattle.state_store.specs.Stores as stores;
 
 use crate::accesses::{Access, access_of, is_shared};
-use crate::touches::{Touches, UNTOUCHED, note};
+use crate::touches::{Touches, UNTOUCHED, guess_shared, has_own, note};
 use cheri_model::{Image, Status};
 use explore_sights::Sight;
 use explore_turns::MAX_QUIET_STEPS;
@@ -158,6 +160,16 @@ impl GranuleGraph {
     {
         let node = self.graph.node(alloc, harts, ram)?;
         Ok(node)
+    }
+
+    /// The number of a hart.
+    pub fn number_hart(&mut self, hart: &Hart) -> Result<u32, AllocError>
+        ensures learns { Learns self.old self.new }
+        ensures numbered { IfOk result (λ number.
+            stores.hart_at self.new.graph.store number ≡ Some hart.now) }
+    {
+        let number = self.graph.number_hart(hart)?;
+        Ok(number)
     }
 
     /// What the next step of the hart with this number in a row asks of memory, if it runs.
@@ -304,8 +316,22 @@ impl GranuleGraph {
         self.shared.as_slice()
     }
 
+    /// The shared granules with those that two harts were noted at, of which one stored, if there
+    /// are more of them than before. Fails only when out of memory.
+    pub fn more_shared(&self, alloc: Global) -> Result<Option<Vec<bool>>, AllocError>
+        ensures { IfOk result (λ found. IfSome found (λ more. (granule : ℕ) →
+            is_shared self.now.shared granule ≡ true → is_shared more.items granule ≡ true)) }
+    {
+        guess_shared(alloc, self.touches.as_slice(), self.shared.as_slice())
+    }
+
+    /// Whether a granule that isn't shared was noted: so some accesses were quiet.
+    pub fn owns(&self) -> bool {
+        has_own(self.touches.as_slice(), self.shared.as_slice())
+    }
+
     /// Follows the edge of a label, as the graph's `step` does.
-    fn follow(&mut self, node: &[u32], label: u32, to: &mut [u32]) -> Result<bool, AllocError>
+    pub fn follow(&mut self, node: &[u32], label: u32, to: &mut [u32]) -> Result<bool, AllocError>
         requires meant { IsSome (state_in self.old node.now) }
         requires labelled { label < length self.old.graph.image.harts }
         requires room { length to.old ≡ length self.old.graph.image.harts + 1 }

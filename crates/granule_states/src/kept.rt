@@ -32,7 +32,6 @@ ghost use Rattle.state_store.specs.Stores.{state_of};
 ghost use Rattle.states.specs.Searches.{IsSearchable, search_of};
 
 use crate::graph::GranuleGraph;
-use crate::touches::guess_shared;
 use crate::walks::orders_of;
 use cheri_model::{Image, Op};
 use cores::Core;
@@ -98,7 +97,7 @@ fn graph_of(
 
 /// The graph of turns, where these granules are shared, and in it the row of the opening state of
 /// an image, which `core` has.
-pub(crate) fn opened_graph(
+pub fn opened_graph(
     alloc: Global,
     image: &Image,
     sees: &Sight,
@@ -200,7 +199,7 @@ pub fn search_owned<P: Progress>(
     shared.resize(granules, false)?;
     for _ in 0..granules {
         let kept = search_with(alloc, search, sees, core, shared, progress)?;
-        match kept.more_shared(alloc)? {
+        match kept.graph.more_shared(alloc)? {
             Some(more) => shared = more,
             None => return Ok(kept),
         }
@@ -312,11 +311,5 @@ impl OwnedStates {
             first.as_slice(),
             found.labels.as_slice(),
         )
-    }
-
-    /// The shared granules with those that the search has met two harts at, of which one stored, if
-    /// there are more than before. Fails only when out of memory.
-    fn more_shared(&self, alloc: Global) -> Result<Option<Vec<bool>>, AllocError> {
-        guess_shared(alloc, self.graph.touches(), self.graph.shared())
     }
 }

@@ -9,4 +9,6 @@ mod scan;
 mod touches;
 mod walks;
 
-pub use kept::{Looped, OwnedStates, search_owned};
+pub use graph::GranuleGraph;
+pub use kept::{Looped, OwnedStates, opened_graph, search_owned};
+pub use walks::orders_of;

@@ -191,7 +191,7 @@ impl GranuleGraph {
     }
 
     /// Notes what the steps from the nodes that a search reached ask of memory.
-    pub(crate) fn note_nodes(&mut self, reached: &Reached)
+    pub fn note_nodes(&mut self, reached: &Reached)
         requires few { reached.now.width ≤ 9 }
         requires meant { (i : ℕ) → i < length reached.now.nodes →
             IsSome (state_at (state_in self.old) reached.now.nodes i) }
@@ -238,7 +238,7 @@ impl GranuleGraph {
     }
 
     /// Brings all harts of a row to their rest, one after another.
-    pub(crate) fn settle_all(&mut self, row: &mut [u32]) -> Result<(), AllocError>
+    pub fn settle_all(&mut self, row: &mut [u32]) -> Result<(), AllocError>
         requires meant { IsSome (state_in self.old row.old) }
         ensures learns { Learns self.old self.new }
         ensures same_room { length row.new ≡ length row.old }
@@ -257,7 +257,7 @@ impl GranuleGraph {
     /// noted: the quiet steps with which it began, from the state of these harts and this memory,
     /// each step from the nodes that it reached, and the quiet steps after it. A search that was
     /// cut is not looked at. Fails only when out of memory, or of numbers.
-    pub(crate) fn are_owned(
+    pub fn are_owned(
         &mut self,
         alloc: Global,
         harts: &[Hart],

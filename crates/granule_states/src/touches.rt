@@ -1,5 +1,8 @@
 //! Who touched which granule, as a search met it: a guess at their owners.
 
+ghost use Rattle.std.specs.Prelude.{◌≡◌, ℕ, IfOk, IfSome, true};
+ghost use Rattle.granule_states.specs.Graphs.{is_shared};
+
 use crate::accesses::Access;
 use std::alloc::{AllocError, Global};
 
@@ -51,7 +54,10 @@ pub fn guess_shared(
     alloc: Global,
     touches: &[Touches],
     shared: &[bool],
-) -> Result<Option<Vec<bool>>, AllocError> {
+) -> Result<Option<Vec<bool>>, AllocError>
+    ensures { IfOk result (λ found. IfSome found (λ more. (granule : ℕ) →
+        is_shared shared.now granule ≡ true → is_shared more.items granule ≡ true)) }
+{
     let mut more = Vec::from_slice(alloc, shared)?;
     let mut found = false;
     for granule in 0..touches.len() {
@@ -65,4 +71,14 @@ pub fn guess_shared(
         return Ok(None);
     }
     Ok(Some(more))
+}
+
+/// Whether somebody touched a granule that isn't shared.
+pub fn has_own(touches: &[Touches], shared: &[bool]) -> bool {
+    for granule in 0..touches.len() {
+        if granule < shared.len() && !shared[granule] && touches[granule].hart.is_some() {
+            return true;
+        }
+    }
+    false
 }

@@ -202,7 +202,7 @@ fn opened(alloc: Global, image: &Image) -> Result<Core, AllocError>
 /// The order of turns of the first harts from the opening state of a graph's image, and the steps
 /// of turns of the later ones after it. They are taken once more, in a graph of their own. Fails
 /// only when out of memory, or of numbers.
-pub(crate) fn orders_of(
+pub fn orders_of(
     alloc: Global,
     graph: &GranuleGraph,
     first: &[u32],

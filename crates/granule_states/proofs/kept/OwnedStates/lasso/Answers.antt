@@ -1,11 +1,10 @@
-use Rattle.std.proofs.Common.{◌≡◌, ◌<◌, ℕ, List, ap, sym, ◌∙◌, subst}
+use Rattle.std.proofs.Common.{◌≡◌, ℕ, List, ap, sym, ◌∙◌, subst}
 use Rattle.std.specs.Prelude.{Some, length, slice_get}
-use Rattle.cheri_model.specs.runs.Machine.{MachineState}
 use Rattle.std.proofs.lemmas.Result.{IfOk-weaker}
 use Rattle.granule_states.specs.Graphs.{start_in, turn_in}
 use Rattle.graph_search.specs.Walks.{IsWalk}
 use Rattle.granule_states.specs.Orders.{IsOrderTo, order_in, steps_of, turns_in}
-use Rattle.granule_states.specs.Owned.{OwnedParts, at, count, owned_of}
+use Rattle.granule_states.specs.Owned.{OwnedParts, at, owned_of}
 use Rattle.granule_states.proofs.LoopLemmas.{number_within}
 use Rattle.granule_states.proofs.OrderLemmas.{order_made, trace_least, trace_low, walk_low}
 use Rattle.granule_states.proofs.kept.OwnedStates.lasso.Goals as goal

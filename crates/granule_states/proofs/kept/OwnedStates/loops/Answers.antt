@@ -1,4 +1,4 @@
-use Rattle.std.proofs.Common.{◌≡◌, ℕ, length, ap, sym, ◌∙◌, subst, arith}
+use Rattle.std.proofs.Common.{length, ap, ◌∙◌, subst, arith}
 use Rattle.cheri_model.specs.runs.Image.{ImageParts}
 use Rattle.states.proofs.SizeLemmas.{sizes_of}
 use Rattle.granule_states.specs.Owned.{IsSame, OwnedParts, owned_of}
